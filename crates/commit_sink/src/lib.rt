@@ -1,0 +1,10 @@
+//! Transactions of a job's sinks, committed in two phases as in Flink's `TwoPhaseCommitSinkFunction`: pre-committed at a checkpoint's barrier, and
+//! committed once the checkpoint is complete.
+//!
+//! What anyone may read are the records of the committed transactions of a subtask, joined in the order of commit. A call that fails has done nothing or
+//! all of its work.
+#![tactic(auto)]
+
+mod transactions;
+
+pub use transactions::{Progress, TransactionFault, Transactions};

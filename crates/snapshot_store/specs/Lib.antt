@@ -1,0 +1,2 @@
+pub mod Store
+pub mod StoreLaws

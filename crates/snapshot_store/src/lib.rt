@@ -1,0 +1,9 @@
+//! A store of snapshots: for each checkpoint number the part of each task, and which numbers are complete.
+//!
+//! Numbers come from the store, start at 1 and are never given out again. A number counts once it is complete, which asks for the part of every task.
+//! A call that fails has done nothing or all of its work.
+#![tactic(auto)]
+
+mod store;
+
+pub use store::{SnapshotStore, StoreFault};

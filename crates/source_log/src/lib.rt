@@ -1,0 +1,8 @@
+//! Replayable partitions: lists of records that only grow, each record read by its offset.
+//!
+//! A record at an offset stays there, `append` puts one last, and a call that fails has done nothing or all of its work.
+#![tactic(auto)]
+
+mod partitions;
+
+pub use partitions::{Partitions, SourceFault};
