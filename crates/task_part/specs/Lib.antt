@@ -1,0 +1,2 @@
+pub mod Spelling
+pub mod Laws

@@ -1,0 +1,9 @@
+//! A task's part of a checkpoint, and its spelling: what the snapshot store keeps for the task.
+//!
+//! A source's part is its offset, an operator's its map from key to state, a sink's the numbers of the transactions that were pending
+//! when it copied. Operators and sinks add a log for each logged input (Carbone et al. 2015, graphs with back-edges).
+#![tactic(auto)]
+
+mod part;
+
+pub use part::Part;
