@@ -1,0 +1,6 @@
+pub mod Operator
+pub mod RowSpelling
+pub mod RowCode
+pub mod Lanes
+pub mod RowMeaning
+pub mod RowLaws

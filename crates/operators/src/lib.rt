@@ -1,0 +1,12 @@
+//! Operators: what each makes of a record in the state of the record's key.
+#![tactic(auto)]
+
+mod operator;
+mod row;
+mod row_op;
+mod row_state;
+
+pub use operator::{Operator, Outcome};
+pub use row::Row;
+pub use row_op::RowOp;
+pub use row_state::RowState;

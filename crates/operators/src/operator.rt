@@ -1,0 +1,94 @@
+//! What an operator is.
+
+ghost use Rattle.std.specs.Prelude.{◌≡◌, ◌↔◌, IfOk, IsTrue};
+ghost use Rattle.std.specs.Ordering.{is_eq};
+ghost use Rattle.abs_codec.specs.Same.{EqualIsSame};
+ghost use Rattle.abs_codec.specs.Spelling.{Fits};
+ghost use Rattle.dataflow_model.specs.Graph.{Meaning};
+ghost use Rattle.operators.specs.Operator.{OrderIsExact, KeysFit, KeysHaveLanes, IsGoodState, FreshIsGood, StatesStayGood, SentFits, KeylessKeepsFresh};
+
+use abs_codec::{Codec, NoMemory};
+use std::alloc::Global;
+
+/// What an operator makes of a record: its key's new state, and the records that it sends, each with its port.
+#[derive(Debug, Drop)]
+pub struct Outcome<S, R> {
+    pub state: S,
+    pub sent: Vec<(u32, R)>,
+}
+
+/// An operator: a function of its value, of the state of a record's key, and of the record.
+///
+/// It looks at nothing else, so that what is worked off again after a failure gives the same again. Each call refuses only where memory was refused.
+pub trait Operator: Eq + Drop {
+    type Record: Codec + Eq;
+
+    type Key: Codec + Ord;
+
+    type State: Codec + Eq;
+
+    /// What the operator computes.
+    ghost meaning: { Meaning Self.Record Self.Key Self.State Self };
+
+    /// The state has the operator's form.
+    ghost Suits: { Self → Self.State → Type 0 };
+
+    /// The key under which the record's state is kept, if it is kept.
+    fn key(&self, alloc: Global, record: &Self::Record) -> Result<Option<Self::Key>, NoMemory>
+        ensures { IfOk result (λ key. key ≡ meaning.key self.now record.now) };
+
+    /// The number by which a hashed edge picks the record's subtask.
+    fn lane(record: &Self::Record) -> u64
+        ensures { result ≡ meaning.lane record.now };
+
+    /// How many ports the operator sends on. They are numbered from 0.
+    fn ports(&self) -> u32
+        ensures { result ≡ meaning.ports self.now };
+
+    /// The state of a key that has none yet.
+    fn fresh(&self, alloc: Global) -> Result<Self::State, NoMemory>
+        ensures { IfOk result (λ state. state ≡ meaning.fresh self.now) };
+
+    /// Whether the state has the operator's form.
+    fn suits(&self, state: &Self::State) -> bool
+        ensures { IsTrue result ↔ Suits self.now state.now };
+
+    /// What the operator makes of a record in the state of its key.
+    fn apply(
+        &self,
+        alloc: Global,
+        state: &Self::State,
+        record: &Self::Record,
+    ) -> Result<Outcome<Self::State, Self::Record>, NoMemory>
+        requires state { IsGoodState (Fits Self.State.HasSpelling Self.State.spelling) Suits self.now state.now }
+        requires fits { Fits Self.Record.HasSpelling Self.Record.spelling record.now }
+        ensures state { IfOk result (λ outcome. outcome.state ≡ (meaning.apply self.now state.now record.now).state) }
+        ensures sent { IfOk result (λ outcome. outcome.sent.items ≡ (meaning.apply self.now state.now record.now).sent) };
+
+    /// The same operator.
+    fn copy(&self) -> Result<Self, NoMemory>
+        ensures { IfOk result (λ op. op ≡ self.now) };
+
+    /// Keys are one where they compare equal.
+    ghost same_key: { (a b : Self.Key) → meaning.same_key a b ≡ is_eq (Self.Key.cmp a b) };
+
+    ghost key_is_exact: { OrderIsExact Self.Key.cmp };
+
+    ghost record_is_exact: { EqualIsSame Self.Record.eq };
+
+    ghost state_is_exact: { EqualIsSame Self.State.eq };
+
+    ghost operator_is_exact: { EqualIsSame Self.eq };
+
+    ghost key_fits: { KeysFit meaning (Fits Self.Record.HasSpelling Self.Record.spelling) (Fits Self.Key.HasSpelling Self.Key.spelling) };
+
+    ghost key_has_lane: { KeysHaveLanes meaning };
+
+    ghost fresh_is_good: { FreshIsGood meaning (Fits Self.State.HasSpelling Self.State.spelling) Suits };
+
+    ghost state_stays_good: { StatesStayGood meaning (Fits Self.Record.HasSpelling Self.Record.spelling) (Fits Self.State.HasSpelling Self.State.spelling) Suits };
+
+    ghost sent_fits: { SentFits meaning (Fits Self.Record.HasSpelling Self.Record.spelling) (Fits Self.State.HasSpelling Self.State.spelling) Suits };
+
+    ghost keyless_keeps_fresh: { KeylessKeepsFresh meaning };
+}

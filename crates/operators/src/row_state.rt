@@ -1,0 +1,74 @@
+//! The states of row operators.
+
+use abs_codec::{Codec, CodecFault, Items};
+use std::alloc::Global;
+
+/// What an operator keeps for a key.
+#[derive(Debug, PartialEq, Eq, Drop)]
+pub enum RowState {
+    Plain,
+    Number(i64),
+    Numbers(Items<i64>),
+}
+
+impl Codec for RowState {
+    ghost use Rattle.operators.specs.RowSpelling.{StateIsSpelled, state_spelling, state_at};
+    ghost use Rattle.operators.specs.RowCode.{state_code};
+
+    ghost HasSpelling = { StateIsSpelled };
+
+    ghost spelling = { state_spelling };
+
+    ghost reading = { state_at };
+
+    fn write(&self, out: &mut Vec<u8>) -> Result<(), CodecFault> {
+        match self {
+            RowState::Plain => out.push(0)?,
+            RowState::Number(n) => {
+                out.push(1)?;
+                n.write(out)?;
+            }
+            RowState::Numbers(ns) => {
+                out.push(2)?;
+                ns.write(out)?;
+            }
+        }
+        Ok(())
+    }
+
+    #[tactic(auto, unfolding(crate::specs::RowSpelling::state_at))]
+    fn read(alloc: Global, bytes: &[u8], at: usize) -> Result<(RowState, usize), CodecFault> {
+        let (tag, end) = u8::read(alloc, bytes, at)?;
+        match tag {
+            0 => Ok((RowState::Plain, end)),
+            1 => {
+                let (n, end) = i64::read(alloc, bytes, end)?;
+                Ok((RowState::Number(n), end))
+            }
+            2 => {
+                let (ns, end) = Items::read(alloc, bytes, end)?;
+                Ok((RowState::Numbers(ns), end))
+            }
+            _ => Err(CodecFault::BadTag),
+        }
+    }
+
+    fn duplicate(&self) -> Result<RowState, CodecFault> {
+        match self {
+            RowState::Plain => Ok(RowState::Plain),
+            RowState::Number(n) => Ok(RowState::Number(*n)),
+            RowState::Numbers(ns) => Ok(RowState::Numbers(ns.duplicate()?)),
+        }
+    }
+
+    fn room_after(&self, limit: usize) -> Option<usize> {
+        let rest = limit.checked_sub(1)?;
+        match self {
+            RowState::Plain => Some(rest),
+            RowState::Number(n) => n.room_after(rest),
+            RowState::Numbers(ns) => ns.room_after(rest),
+        }
+    }
+
+    ghost code = { state_code };
+}
