@@ -1,0 +1,5 @@
+use Rattle.checkpoint_model.proofs.HeldPlain.{sound_one_open}
+use Rattle.checkpoint_model.proofs.sound_sinks_have_one_open.Goals as goal
+
+pub returns : goal.returns
+returns g c = λ job spell. sound_one_open job spell
