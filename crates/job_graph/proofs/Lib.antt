@@ -1,0 +1,6 @@
+pub mod NoChannels
+pub mod LinkLemmas
+pub mod Targets
+pub mod Subtasks
+pub mod Joined
+pub mod PlainTasks

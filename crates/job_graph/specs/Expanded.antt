@@ -1,0 +1,131 @@
+-- An expanded job: its tasks, the channels between them, and an order of the tasks.
+use Rattle.std.specs.Prelude.{◌≡◌, ℕ, ◌<◌, ◌≤◌, ◌&&◌, ◌==◌, List, length, take, filter, count_by, Bool, true, false, Some, slice_get, Contains, IsPermutation}
+use Rattle.std.specs.List.{range_with_len}
+use Rattle.std.specs.Option.{option_map_or}
+use Rattle.dataflow_model.specs.Graph.{Channel, takes_lane}
+use Rattle.job_graph.specs.declared.role.Role.{Role}
+use Rattle.job_graph.specs.declared.role.Role.TheVariants.{Source, Operator, Sink}
+use Rattle.job_graph.specs.Channel.{HasSubtask}
+
+pub record Expanded : Type 0 where
+  pub tasks : List Role
+  pub channels : List Channel
+  -- the tasks, each behind the senders of its unmarked inputs
+  pub order : List ℕ
+  -- the job, spelled
+  pub spelling : List ℕ
+
+abbrev pub is_source : Role → Bool
+is_source (Source partition) = true
+is_source _ = false
+
+abbrev pub is_operator : Role → Bool
+is_operator (Operator number) = true
+is_operator _ = false
+
+abbrev pub is_sink : Role → Bool
+is_sink (Sink subtask) = true
+is_sink _ = false
+
+-- the task is this sink subtask
+abbrev pub is_subtask : ℕ → Role → Bool
+is_subtask subtask (Sink number) = number == subtask
+is_subtask subtask _ = false
+
+abbrev pub is_subtask_at : List Role → ℕ → ℕ → Bool
+is_subtask_at tasks subtask task = option_map_or (is_subtask subtask) (slice_get tasks task) false
+
+-- the task's number among the tasks of its kind
+abbrev pub number_of : List Role → ℕ → Role → ℕ
+number_of tasks task (Source partition) = count_by is_source (take task tasks)
+number_of tasks task (Operator number) = count_by is_operator (take task tasks)
+number_of tasks task (Sink subtask) = count_by is_sink (take task tasks)
+
+abbrev pub role_number : Role → ℕ
+role_number (Source partition) = partition
+role_number (Operator number) = number
+role_number (Sink subtask) = subtask
+
+-- a task that sends records, and one that takes them
+pub record IsSender (tasks : List Role) (task : ℕ) : Type 0 where
+  pub role : Role
+  pub is : slice_get tasks task ≡ Some role
+  pub sends : is_sink role ≡ false
+
+pub record IsReceiver (tasks : List Role) (task : ℕ) : Type 0 where
+  pub role : Role
+  pub is : slice_get tasks task ≡ Some role
+  pub takes : is_source role ≡ false
+
+-- a channel between tasks, on a port that there is
+pub record IsChannel (tasks : List Role) (channel : Channel) : Type 0 where
+  pub sender : IsSender tasks channel.sender
+  pub receiver : IsReceiver tasks channel.receiver
+  pub port : channel.port < 2
+  pub route : HasSubtask channel.route
+
+-- a channel leads into the task and is unmarked
+pub record HasPlainInput (channels : List Channel) (task : ℕ) : Type 0 where
+  pub number : ℕ
+  pub channel : Channel
+  pub is : slice_get channels number ≡ Some channel
+  pub leads : channel.receiver ≡ task
+  pub unmarked : channel.marked ≡ false
+
+pub record IsExpanded (graph : Expanded) : Type 0 where
+  pub few_tasks : length graph.tasks ≤ 256
+  pub few_channels : length graph.channels ≤ 4096
+  -- sources, operators and sinks are each numbered from 0
+  pub numbered : (task : ℕ) (role : Role) → slice_get graph.tasks task ≡ Some role → role_number role ≡ number_of graph.tasks task role
+  pub joined : (number : ℕ) (channel : Channel) → slice_get graph.channels number ≡ Some channel → IsChannel graph.tasks channel
+  -- the order has each task once,
+  pub whole : IsPermutation (range_with_len 0 (length graph.tasks)) graph.order
+  -- and each behind the senders of its unmarked inputs, so that these lead round no cycle
+  pub ordered : (number : ℕ) (channel : Channel) (place : ℕ) → slice_get graph.channels number ≡ Some channel → channel.marked ≡ false
+      → slice_get graph.order place ≡ Some channel.receiver → Contains (take place graph.order) channel.sender
+  pub fed : (task : ℕ) → IsReceiver graph.tasks task → HasPlainInput graph.channels task
+
+-- ---- the channels of a task
+
+-- whether the channel of a number meets a test
+abbrev pub meets : (Channel → Bool) → List Channel → ℕ → Bool
+meets test channels number = option_map_or test (slice_get channels number) false
+
+-- the numbers of the channels that meet a test, rising
+abbrev pub numbers_of : (Channel → Bool) → List Channel → List ℕ
+numbers_of test channels = filter (meets test channels) (range_with_len 0 (length channels))
+
+-- the channels that lead into a task
+abbrev pub is_input : ℕ → Channel → Bool
+is_input task channel = channel.receiver == task
+
+-- the channels that a task sends on
+abbrev pub is_output : ℕ → Channel → Bool
+is_output task channel = channel.sender == task
+
+-- those of one port
+abbrev pub is_outlet : ℕ → ℕ → Channel → Bool
+is_outlet task port channel = (channel.sender == task) && (channel.port == port)
+
+-- those that a record of a lane goes into
+abbrev pub is_target : ℕ → ℕ → ℕ → Channel → Bool
+is_target task port lane channel = is_outlet task port channel && takes_lane channel.route lane
+
+-- those of any port
+abbrev pub takes : ℕ → Channel → Bool
+takes lane channel = takes_lane channel.route lane
+
+abbrev pub is_marked : Channel → Bool
+is_marked channel = channel.marked
+
+abbrev pub inputs_of : Expanded → ℕ → List ℕ
+inputs_of graph task = numbers_of (is_input task) graph.channels
+
+abbrev pub outputs_of : Expanded → ℕ → List ℕ
+outputs_of graph task = numbers_of (is_output task) graph.channels
+
+abbrev pub outlets_of : Expanded → ℕ → ℕ → List ℕ
+outlets_of graph task port = numbers_of (is_outlet task port) graph.channels
+
+abbrev pub targets_of : Expanded → ℕ → ℕ → ℕ → List ℕ
+targets_of graph task port lane = numbers_of (is_target task port lane) graph.channels

@@ -1,0 +1,5 @@
+pub mod Channel
+pub mod Expanded
+pub mod Tables
+pub mod Inside
+pub mod PlainGraph
