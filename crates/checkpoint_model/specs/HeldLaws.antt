@@ -1,14 +1,14 @@
 -- The plain configuration that a running engine stands for, and what the engine's steps do to it: a move is one plain step, and all else leaves it.
-use Rattle.std.specs.Prelude.{◌≡◌, ℕ, Bool, false, List, [], ◌∷◌, ◌++◌, map, length, All, Some}
-use Rattle.dataflow_model.specs.Graph.{Job}
+use Rattle.std.specs.Prelude.{◌≡◌, ℕ, Bool, false, List, [], ◌∷◌, ◌++◌, map, length, All, Some, None}
+use Rattle.dataflow_model.specs.Graph.{Job, over}
 use Rattle.dataflow_model.specs.Machine.{Configuration, Move, mover, Step, Reaches, start}
 use Rattle.checkpoint_model.specs.Attempt.{records}
 use Rattle.checkpoint_model.specs.Laws.{HasReceivers}
 use Rattle.checkpoint_model.specs.Durable.{Transaction, SinkTransactions, Devices, is_on, joined, transactions_of, IsSink}
 use Rattle.checkpoint_model.specs.Engine.{Running}
 use Rattle.checkpoint_model.specs.EngineLaws.{EngineMoves, EngineTakesBarrier, EngineCopies, EngineTriggers, EngineDiscards, EnginePersists, EngineCompletes, EngineCommits}
-use Rattle.checkpoint_model.specs.Headline.{Engine, RunningStep, CommitsItsOutput}
-use Rattle.checkpoint_model.specs.Held.{held_run, IsHeldSound}
+use Rattle.checkpoint_model.specs.Headline.{Engine, RunningStep, SpellsOnce, CommitsItsOutput}
+use Rattle.checkpoint_model.specs.Held.{held_run, IsHeldSound, HeldLeads}
 
 module _ {B : Type 0} where
   -- exactly one transaction is open
@@ -86,3 +86,21 @@ module _ {R K S O B : Type 0} where
   HeldSinksCommitTheirOutput job spell =
       (is_logged : ℕ → Bool) (engine : Engine R K S B) (task : ℕ) → IsSink job task →
       IsHeldSound job is_logged spell engine.devices engine.running → CommitsItsOutput job spell engine.devices task
+
+  -- Steps of an engine that stays up are, seen without barriers and checkpoints, steps of the plain machine, or none.
+  abbrev pub HeldRunsArePlain : Job R K S O → (R → B) → Type 0
+  HeldRunsArePlain job spell =
+      (is_logged : ℕ → Bool) (engines : List (Engine R K S B)) (old new : Engine R K S B) (run : Running R K S) (at : Configuration R K S) → HasReceivers job →
+      HeldLeads job is_logged spell old engines new → All (λ engine. engine.running ≡ None → ⊥) engines → IsHeldSound job is_logged spell old.devices old.running →
+      old.running ≡ Some run → IsBare job spell old.devices run at →
+      (moves : List Move) × (next : Running R K S) × (after : Configuration R K S) × (new.running ≡ Some next) × Reaches job moves at after × IsBare job spell new.devices next after
+
+  -- growing partitions leave the plain configuration as it is
+  abbrev pub GrowthLeavesBare : Job R K S O → (R → B) → Type 0
+  GrowthLeavesBare job spell =
+      (partitions : ℕ → List R) (devices : Devices R K S B) (run : Running R K S) (at : Configuration R K S) → IsBare job spell devices run at → IsBare (over job partitions) spell devices run at
+
+  -- an engine stands for one configuration, if different records are spelled differently
+  abbrev pub BareIsOne : Job R K S O → (R → B) → Type 0
+  BareIsOne job spell =
+      (devices : Devices R K S B) (run : Running R K S) (one two : Configuration R K S) → SpellsOnce spell → IsBare job spell devices run one → IsBare job spell devices run two → one ≡ two
