@@ -1,1 +1,2 @@
 pub mod Ledger
+pub mod Sink

@@ -5,6 +5,8 @@
 //! all of its work.
 #![tactic(auto)]
 
+mod sink;
 mod transactions;
 
+pub use sink::{Pending, Sink};
 pub use transactions::{Progress, TransactionFault, Transactions};
