@@ -1,2 +1,6 @@
 pub mod Store
 pub mod StoreLaws
+pub mod Memory
+pub mod MemoryLaws
+pub mod Calls
+pub mod FlakyStore

@@ -4,6 +4,10 @@
 //! A call that fails has done nothing or all of its work.
 #![tactic(auto)]
 
+mod flaky_store;
+mod memory_store;
 mod store;
 
+pub use flaky_store::{FaultlessStore, FlakyStore, StoreCall};
+pub use memory_store::MemoryStore;
 pub use store::{SnapshotStore, StoreFault};

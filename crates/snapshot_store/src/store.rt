@@ -1,8 +1,10 @@
 //! What a snapshot store offers.
 
 ghost use Rattle.std.specs.Prelude.{◌≡◌, ◌≢◌, ◌↔◌, ℕ, None, Some, Err, IfOk, IsTrue};
+ghost use Rattle.snapshot_store.specs.declared.store.StoreFault.TheVariants.{Memory};
 ghost use Rattle.snapshot_store.specs.Store.{Stored, Ends, IsLatest, IsNumbered, blank, completed, complete_refusal, discarded_below, get_refusal, part_of, put_refusal, reserved, reserve_refusal, with_part};
 
+use std::alloc::AllocError;
 use thiserror::Error;
 
 /// Why a call on a store was refused.
@@ -26,6 +28,14 @@ pub enum StoreFault {
     /// Memory was refused.
     #[error("P6 Memory")]
     Memory,
+}
+
+impl From<AllocError> for StoreFault {
+    ghost from_gives = { λ _ e. e ≡ Memory };
+
+    fn from(_e: AllocError) -> StoreFault {
+        StoreFault::Memory
+    }
 }
 
 /// Parts of checkpoints by number and task, and the numbers that are complete.
