@@ -1,96 +1,26 @@
 -- What the steps of a running engine do to the plain configuration that it stands for.
-use Rattle.std.proofs.Common.{◌≡◌, ℕ, ◌+◌, ◌==◌, Bool, true, false, if◌then◌else◌, ◌⊎◌, inl, inr, List, [], ◌∷◌, ◌++◌, map, filter, length, All, slice_get, Option, Some, None, refl, sym, ap, ap₂, ◌∙◌, subst, append_assoc, append-nil}
+use Rattle.std.proofs.Common.{◌≡◌, ℕ, ◌+◌, ◌==◌, Bool, true, false, if◌then◌else◌, inl, inr, List, [], ◌∷◌, ◌++◌, map, slice_get, Some, refl, sym, ap, ap₂, ◌∙◌, subst}
 use Rattle.std.proofs.lemmas.Bool.{cases_eq, eq-eqb}
-use Rattle.std.proofs.lemmas.Option.{none-some, same_Some}
+use Rattle.std.proofs.lemmas.Option.{same_Some}
 use Rattle.std.proofs.lemmas.List.{map-append}
-use Rattle.std.proofs.lemmas.List.Concat.{flat_map-append}
-use Rattle.std.proofs.lemmas.List.Elements.{All-head, All-tail}
 use Rattle.dataflow_model.specs.Graph.{Meaning, Task, SourceTask, OperatorTask, SinkTask, Job}
-use Rattle.dataflow_model.specs.Machine.{TaskState, Configuration, Effect, Move, Read, Work, mover, left, Takes, Step, Reaches, after, handled, received, state_under, kept_under, start}
+use Rattle.dataflow_model.specs.Machine.{TaskState, Configuration, Effect, Move, Read, Work, mover, left, Takes, Step, after, handled, received, state_under, kept_under}
 use Rattle.dataflow_model.proofs.Places.{unique}
-use Rattle.dataflow_model.proofs.Runs.{join}
 use Rattle.checkpoint_model.specs.Attempt.{Attempt, bare, records, moved, TakesFirst}
-use Rattle.checkpoint_model.specs.Consistent.{cut_so_far}
-use Rattle.checkpoint_model.specs.Durable.{Transaction, PreCommitted, SinkTransactions, Devices, is_on, joined, transactions_of, settled, IsSink, last_from, Succeed, begun, Appends, PreCommits, Commits, ChangesSink}
-use Rattle.checkpoint_model.specs.Engine.{Running, IsRunning, IsSound}
+use Rattle.checkpoint_model.specs.Durable.{SinkTransactions, Devices, IsSink, Appends, ChangesSink}
+use Rattle.checkpoint_model.specs.Engine.{Running}
 use Rattle.checkpoint_model.specs.EngineLaws.{with_attempt, EngineMoves, EngineCopies}
-use Rattle.checkpoint_model.specs.Seen.{seen_run}
-use Rattle.checkpoint_model.specs.Held.{held_run, held_running, IsHeldSound}
-use Rattle.checkpoint_model.specs.HeldLaws.{HasOneOpen, all_records, IsBare, PlainMoves, LeavesBare, OtherStepsLeaveBare, SoundEnginesAreReached, SoundSinksHaveOneOpen, HeldRunsKeepSound, HeldCommittedUpToLast, HeldSinksCommitTheirOutput}
+use Rattle.checkpoint_model.specs.Held.{held_run}
+use Rattle.checkpoint_model.specs.HeldLaws.{HasOneOpen, all_records, IsBare, PlainMoves, LeavesBare, OtherStepsLeaveBare}
 use Rattle.checkpoint_model.proofs.Items.{first_record}
 use Rattle.checkpoint_model.proofs.Plain.{if_apart, moved_is_step}
 use Rattle.checkpoint_model.proofs.Barriers.{others_leave}
-use Rattle.checkpoint_model.proofs.Settled.{filter_no}
-use Rattle.checkpoint_model.proofs.Steps.{sink_or_not, only_one}
-use Rattle.checkpoint_model.proofs.Moments.{plain_elsewhere}
-use Rattle.checkpoint_model.proofs.Seen.{runs_sound, sinks_commit}
-use Rattle.checkpoint_model.proofs.Held.{seen_from_held, held_from_seen}
+use Rattle.checkpoint_model.proofs.Steps.{sink_or_not}
+use Rattle.checkpoint_model.proofs.HeldSinks.{appended, begun_records, pre_committed_records, committed_records}
 
 if_agree : {A C : Type 0} (f : A → C) (b : Bool) (x y x' y' : A) → f x ≡ f x' → f y ≡ f y' → f (if b then x else y) ≡ f (if b then x' else y')
 if_agree f true x y x' y' e e' = e
 if_agree f false x y x' y' e e' = e'
-
-pending_or_not : (b : Bool) → (b ≡ true) ⊎ (b ≡ false)
-pending_or_not true = inl refl
-pending_or_not false = inr refl
-
-filter_none : {A : Type 0} (p : A → Bool) (xs : List A) → All (λ x. p x ≡ false) xs → filter p xs ≡ []
-filter_none p [] a = refl
-filter_none p (x ∷ xs) a = filter_no p x xs (All-head (λ x. p x ≡ false) x xs a) ∙ filter_none p xs (All-tail (λ x. p x ≡ false) x xs a)
-
--- a sink's transactions under its calls
-module _ {B : Type 0} where
-  put_more : (xs : List (Transaction B)) (x : Transaction B) (bytes : B) → joined (xs ++ record { number = x.number; records = x.records ++ bytes ∷ [] } ∷ []) ≡ joined (xs ++ x ∷ []) ++ bytes ∷ []
-  put_more xs x bytes =
-      let x' : Transaction B = record { number = x.number; records = x.records ++ bytes ∷ [] } in
-      flat_map-append (λ (t : Transaction B). t.records) xs (x' ∷ [])
-      ∙ ap (λ l. joined xs ++ l) (append-nil (x.records ++ bytes ∷ []))
-      ∙ sym (append_assoc (joined xs) x.records (bytes ∷ []))
-      ∙ ap (λ l. (joined xs ++ l) ++ bytes ∷ []) (sym (append-nil x.records))
-      ∙ ap (λ l. l ++ bytes ∷ []) (sym (flat_map-append (λ (t : Transaction B). t.records) xs (x ∷ [])))
-
-  abbrev closed : SinkTransactions B → List (Transaction B)
-  closed sink = sink.committed ++ transactions_of sink.pre_committed
-
-  appended : (bytes : B) (old new : SinkTransactions B) → HasOneOpen old → Appends bytes old new → all_records new ≡ all_records old ++ bytes ∷ []
-  appended bytes old new one a =
-      let split = only_one one.0 a.front a.changed a.back (sym one.1 ∙ a.was) in
-      let more : Transaction B → Transaction B = λ x. record { number = x.number; records = x.records ++ bytes ∷ [] } in
-      let opens : a.front ++ more a.changed ∷ a.back ≡ more one.0 ∷ [] = ap₂ (λ x y. x ++ more a.changed ∷ y) split.0 split.2 ∙ ap (λ x. more x ∷ []) split.1 in
-      ap all_records a.ends
-      ∙ ap (λ l. joined (closed old ++ l)) opens
-      ∙ put_more (closed old) one.0 bytes
-      ∙ ap (λ l. joined (closed old ++ l) ++ bytes ∷ []) (sym one.1)
-
-  begun_records : (number : ℕ) (old : SinkTransactions B) → all_records (begun number old) ≡ all_records old
-  begun_records number old =
-      let empty : Transaction B = record { number = number; records = [] } in
-      ap joined (sym (append_assoc (closed old) old.open_ones (empty ∷ [])))
-      ∙ flat_map-append (λ (t : Transaction B). t.records) (closed old ++ old.open_ones) (empty ∷ [])
-      ∙ append-nil (all_records old)
-
-  pre_committed_records : (line : List ℕ) (n : ℕ) (old new : SinkTransactions B) (a : PreCommits line n old new) → a.front ≡ [] → all_records new ≡ all_records old
-  pre_committed_records line n old new a is_first =
-      let pre = transactions_of old.pre_committed in
-      let rest = a.front ++ a.back in
-      let newest : PreCommitted B = record { transaction = a.changed; checkpoint = n } in
-      ap all_records a.ends
-      ∙ ap (λ l. joined ((old.committed ++ l) ++ rest)) (map-append (λ (q : PreCommitted B). q.transaction) old.pre_committed (newest ∷ []))
-      ∙ ap (λ l. joined (l ++ rest)) (sym (append_assoc old.committed pre (a.changed ∷ [])))
-      ∙ ap joined (append_assoc (closed old) (a.changed ∷ []) rest)
-      ∙ ap (λ l. joined (closed old ++ a.changed ∷ (l ++ a.back))) is_first
-      ∙ ap (λ l. joined (closed old ++ (l ++ a.changed ∷ a.back))) (sym is_first)
-      ∙ ap (λ l. joined (closed old ++ l)) (sym a.was)
-
-  committed_records : (line : List ℕ) (old new : SinkTransactions B) (a : Commits line old new) → a.front ≡ [] → all_records new ≡ all_records old
-  committed_records line old new a is_first =
-      let c = old.committed in
-      let x = a.changed.transaction in
-      ap all_records a.ends
-      ∙ ap (λ l. joined (l ++ old.open_ones)) (append_assoc c (x ∷ []) (transactions_of (a.front ++ a.back)))
-      ∙ ap (λ l. joined ((c ++ x ∷ transactions_of (l ++ a.back)) ++ old.open_ones)) is_first
-      ∙ ap (λ l. joined ((c ++ transactions_of (l ++ a.changed ∷ a.back)) ++ old.open_ones)) (sym is_first)
-      ∙ ap (λ l. joined ((c ++ transactions_of l) ++ old.open_ones)) (sym a.was)
 
 -- what a task's handling of a record does, seen without its output
 module _ {R K S O : Type 0} (meaning : Meaning R K S O) where
@@ -229,13 +159,6 @@ module _ {R K S O B : Type 0} (job : Job R K S O) (spell : R → B) (move : Move
         elsewhere = no_output;
       }
 
-module _ {R K S O : Type 0} where
-  to_last : (job : Job R K S O) (old : Configuration R K S) (cuts : List (Configuration R K S)) → Succeed job old cuts → (moves : List Move) × Reaches job moves old (last_from old cuts)
-  to_last job old [] s = ([], refl)
-  to_last job old (cut ∷ cuts) s =
-      let rest = to_last job cut cuts s.1 in
-      (s.0.0 ++ rest.0, join job s.0.0 rest.0 old cut (last_from cut cuts) s.0.1 rest.1)
-
 module _ {R K S B : Type 0} where
   same_sinks : (old new : Devices R K S B) → new.sinks ≡ old.sinks → (task : ℕ) → all_records (new.sinks task) ≡ all_records (old.sinks task)
   same_sinks old new e task = ap (λ s. all_records (s task)) e
@@ -249,7 +172,7 @@ module _ {R K S B : Type 0} where
 
 module _ {R K S O B : Type 0} where
   -- dropping what code doesn't hold leaves the plain configuration
-  held_bare : (job : Job R K S O) (spell : R → B) (devices : Devices R K S B) (run : Running R K S) (at : Configuration R K S) → IsBare job spell devices run at → IsBare job spell devices (held_run run) at
+  pub held_bare : (job : Job R K S O) (spell : R → B) (devices : Devices R K S B) (run : Running R K S) (at : Configuration R K S) → IsBare job spell devices run at → IsBare job spell devices (held_run run) at
   held_bare job spell devices run at b = record { offsets = b.offsets; states = b.states; channels = b.channels; outputs = b.outputs; elsewhere = b.elsewhere }
 
   pub plain_moves : (job : Job R K S O) (spell : R → B) → PlainMoves job spell
@@ -306,71 +229,3 @@ module _ {R K S O B : Type 0} where
             λ task old new run next at m b.
             stays job spell old new run next at (ap bare_of m.ends) (changed_sink task _ old new m.commits (committed_records old.store.line (old.sinks task) (new.sinks task) m.commits.sink m.is_first)) b;
       }
-
-  from_base : (job : Job R K S O) (is_logged : ℕ → Bool) (spell : R → B) (base : Configuration R K S) (devices : Devices R K S B) (run : Running R K S) → IsRunning job is_logged spell base devices run → (moves : List Move) × Reaches job moves base (bare run.attempt)
-  from_base job is_logged spell base devices run r =
-      elim (pending_or_not run.attempt.pending) [
-        | inl e ↦
-            let c = r.consistent.1 e in
-            (c.before.0 ++ c.since.0, join job c.before.0 c.since.0 base (cut_so_far job run.attempt) (bare run.attempt) c.before.1 c.since.2)
-        | inr e ↦ (r.consistent.0 e).run
-      ]
-
-  -- what a running engine that is sound holds, with its outputs
-  abbrev Whole : Job R K S O → (ℕ → Bool) → (R → B) → Devices R K S B → Running R K S → Type 0
-  Whole job is_logged spell devices run = (full : Running R K S) × (held_run full ≡ run) × IsSound job is_logged spell devices (Some full)
-
-  whole : (job : Job R K S O) (is_logged : ℕ → Bool) (spell : R → B) (devices : Devices R K S B) (run : Running R K S) → IsHeldSound job is_logged spell devices (Some run) → Whole job is_logged spell devices run
-  whole job is_logged spell devices run s = from s.running s.is_held s.sound
-    where
-      from : (running : Option (Running R K S)) → held_running running ≡ Some run → IsSound job is_logged spell devices running → Whole job is_logged spell devices run
-      from None e s = absurd (none-some run e)
-      from (Some full) e s = (full, same_Some (held_run full) run e, s)
-
-  -- the plain configuration of an attempt, with no output but at sinks
-  pub sound_reached : (job : Job R K S O) (spell : R → B) → SoundEnginesAreReached job spell
-  sound_reached job spell is_logged devices run s =
-      let w = whole job is_logged spell devices run s in
-      let full = w.0 in
-      let sound = w.2 in
-      let base = last_from start sound.cuts in
-      let first = to_last job start sound.cuts sound.legal.successive in
-      let rest = from_base job is_logged spell base devices full sound.runs in
-      let moves = first.0 ++ rest.0 in
-      let reached : Reaches job moves start (bare full.attempt) = join job first.0 rest.0 start base (bare full.attempt) first.1 rest.1 in
-      let b : IsBare job spell devices full (bare full.attempt) =
-      record {
-        offsets = λ task. refl;
-        states = λ task. refl;
-        channels = λ channel. refl;
-        outputs =
-            λ task sink.
-            let f = sound.runs.sinks task sink in
-            let k = devices.sinks task in
-            let before = k.committed ++ transactions_of k.pre_committed in
-            f.output
-            ∙ ap (λ l. joined before ++ l) (sym (append-nil f.one.records))
-            ∙ sym (flat_map-append (λ (t : Transaction B). t.records) before (f.one ∷ []))
-            ∙ ap (λ l. joined (before ++ l)) (sym f.one_open);
-        elsewhere = (plain_elsewhere job moves (bare full.attempt) reached).outputs;
-      } in
-      (moves, bare full.attempt, reached, subst (λ x. IsBare job spell devices x (bare full.attempt)) w.1 (held_bare job spell devices full (bare full.attempt) b))
-
-  pub sound_one_open : (job : Job R K S O) (spell : R → B) → SoundSinksHaveOneOpen job spell
-  sound_one_open job spell is_logged devices run task s sink =
-      let f = (whole job is_logged spell devices run s).2.runs.sinks task sink in
-      (f.one, f.one_open)
-
-  pub held_runs_sound : (job : Job R K S O) (spell : R → B) → HeldRunsKeepSound job spell
-  held_runs_sound job spell is_logged old new run next receivers step s =
-      held_from_seen job is_logged spell new (Some (seen_run next)) (runs_sound job spell is_logged old new run next receivers step (seen_from_held job is_logged spell old (Some run) s))
-
-  pub held_up_to_last : (job : Job R K S O) (spell : R → B) → HeldCommittedUpToLast job spell
-  held_up_to_last job spell is_logged engine task s sink none =
-      let k = engine.devices.sinks task in
-      let line = engine.devices.store.line in
-      let all : settled line k ≡ k.committed = ap (λ l. k.committed ++ transactions_of l) (filter_none (λ p. is_on line p.checkpoint) k.pre_committed none) ∙ append-nil k.committed in
-      ap length (sym all) ∙ s.sound.legal.settled_each task sink
-
-  pub held_sinks_commit : (job : Job R K S O) (spell : R → B) → HeldSinksCommitTheirOutput job spell
-  held_sinks_commit job spell is_logged engine task sink s = sinks_commit job spell is_logged engine task sink (seen_from_held job is_logged spell engine.devices engine.running s)

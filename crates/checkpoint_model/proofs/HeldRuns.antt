@@ -14,7 +14,8 @@ use Rattle.checkpoint_model.proofs.Plain.{same_configuration}
 use Rattle.checkpoint_model.proofs.Headline.{option_cases, same_state}
 use Rattle.checkpoint_model.proofs.Steps.{sink_or_not}
 use Rattle.checkpoint_model.proofs.Held.{held_sound}
-use Rattle.checkpoint_model.proofs.HeldPlain.{plain_moves, others_stay, sound_one_open}
+use Rattle.checkpoint_model.proofs.HeldPlain.{plain_moves, others_stay}
+use Rattle.checkpoint_model.proofs.HeldReached.{sound_one_open}
 
 spelled_once : {R B : Type 0} (spell : R → B) → SpellsOnce spell → (xs ys : List R) → map spell xs ≡ map spell ys → xs ≡ ys
 spelled_once spell once [] [] e = refl

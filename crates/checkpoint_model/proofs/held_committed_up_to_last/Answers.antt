@@ -1,4 +1,4 @@
-use Rattle.checkpoint_model.proofs.HeldPlain.{held_up_to_last}
+use Rattle.checkpoint_model.proofs.HeldReached.{held_up_to_last}
 use Rattle.checkpoint_model.proofs.held_committed_up_to_last.Goals as goal
 
 pub returns : goal.returns

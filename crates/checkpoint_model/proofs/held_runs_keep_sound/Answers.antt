@@ -1,4 +1,4 @@
-use Rattle.checkpoint_model.proofs.HeldPlain.{held_runs_sound}
+use Rattle.checkpoint_model.proofs.HeldReached.{held_runs_sound}
 use Rattle.checkpoint_model.proofs.held_runs_keep_sound.Goals as goal
 
 pub returns : goal.returns

@@ -1,4 +1,4 @@
-use Rattle.checkpoint_model.proofs.HeldPlain.{held_sinks_commit}
+use Rattle.checkpoint_model.proofs.HeldReached.{held_sinks_commit}
 use Rattle.checkpoint_model.proofs.held_sinks_commit_their_output.Goals as goal
 
 pub returns : goal.returns
