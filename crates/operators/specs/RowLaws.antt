@@ -1,23 +1,33 @@
 -- The laws of the row operators.
-use Rattle.std.proofs.Common.{◌≡◌, ℕ, ℤ, pos, negsuc, ◌-◌, ◌^◌, ◌<◌, List, [], ◌∷◌, true, Some, None, refl, ap, arith, length-append, lit≤}
+use Rattle.std.proofs.Common.{◌≡◌, ℕ, ℤ, pos, negsuc, ◌*◌, ◌-◌, ◌^◌, ◌<◌, ◌≤◌, true, List, [], ◌∷◌, ◌++◌, length, fold, Some, None, refl, ap, arith, length-append, lit≤, lit<, rules, sym, subst, ◌∙◌}
 use Rattle.std.specs.Int.{w64, saturate_signed}
 use Rattle.std.specs.Int.RustNames.{FitsSigned}
+use Rattle.std.specs.Prelude.{int_lt, nat_lt}
 use Rattle.std.specs.Ordering.{int_eq}
-use Rattle.std.specs.List.{All}
-use Rattle.std.proofs.lemmas.Bool.Decides.{Decides-int_eq}
-use Rattle.std.proofs.lemmas.List.Elements.{All-from_recursion}
-use lib.Pointwise.{pointwise, pointwise_decides}
-use Rattle.abs_codec.specs.Same.{EqualIsSame}
+use Rattle.std.specs.List.{All, flat_map}
+use Rattle.std.specs.Str.{is_utf8}
+use Rattle.std.proofs.lemmas.List.Elements.{All-nil, All-cons, All-append}
+use Rattle.std.proofs.lemmas.Str.{IsUtf8-from_is_utf8}
+use Rattle.std.proofs.lemmas.Bool.{ltb-true, cond_both}
+use Rattle.std.proofs.Props.{props}
+use lib.Pointwise.{pointwise}
+use Rattle.abs_codec.specs.Same.{EqualIsSame, equal_integers, equal_numbers, equal_bytes, equal_lists}
 use Rattle.abs_codec.specs.Spelling.{Fits, bytes_spelling, signed_spelling, IsTextWithin}
+use Rattle.dataflow_model.specs.Graph.{Outcome}
+use Rattle.operators.specs.Lanes.{lane_of}
 use Rattle.operators.specs.Operator.{IsGoodState, MayBeSent}
 use Rattle.operators.specs.RowSpelling.{RowIsSpelled, row_spelling, StateIsSpelled, state_spelling}
-use Rattle.operators.specs.RowMeaning.{row_meaning, row_outcome, row_key, row_ports, row_fresh, RowSuits}
+use Rattle.operators.specs.RowMeaning.{◌⊞◌, ◌⊟◌, sum_of, number_in, keep, send, collect, with_value, with_key, row_meaning, row_outcome, row_key, row_ports, row_fresh, RowSuits}
+use Rattle.operators.specs.declared.parameters.RowKey.{RowKey}
+use Rattle.operators.specs.declared.parameters.WindowSize.{WindowSize}
 use Rattle.operators.specs.declared.row.Row.{Row}
 use Rattle.operators.specs.declared.row_state.RowState.{RowState}
 use Rattle.operators.specs.declared.row_state.RowState.TheVariants.{Plain, Number, Numbers}
-use Rattle.operators.specs.contracts.row_state.RowStatePartialEq.TheImpl.{ghosts as state_comparison}
 use Rattle.operators.specs.declared.row_op.RowOp.{RowOp}
-use Rattle.operators.specs.declared.row_op.RowOp.TheVariants.{Add}
+use Rattle.operators.specs.declared.row_op.RowOp.TheVariants.{Add, Rekey, FilterGe, FilterLt, Split, Count, Sum, Window, LoopDown}
+use Rattle.operators.specs.contracts.row.RowPartialEq.TheImpl.{ghosts as row_comparison}
+use Rattle.operators.specs.contracts.row_state.RowStatePartialEq.TheImpl.{ghosts as state_comparison}
+use Rattle.operators.specs.contracts.row_op.RowOpPartialEq.TheImpl.{ghosts as op_comparison}
 
 abbrev RowFits : Row → Type 0
 RowFits = Fits RowIsSpelled row_spelling
@@ -28,53 +38,184 @@ StateFits = Fits StateIsSpelled state_spelling
 abbrev KeyFits : List ℕ → Type 0
 KeyFits = Fits (IsTextWithin (2 ^ 32 - 1)) bytes_spelling
 
-pub saturated_fits : (z : ℤ) → FitsSigned w64 (saturate_signed w64 z)
-saturated_fits (pos n) = record { sfits = omega arith }
-saturated_fits (negsuc n) = record { sfits = omega arith }
+-- ---- values that compare equal are the same value
 
--- a row whose key is short enough fits
-spelled_fits : (row : Row) → RowIsSpelled row → RowFits row
-spelled_fits row h = (h, omega (arith, length-append (bytes_spelling row.k) (signed_spelling w64 row.v), h.0.0))
-
-valued_fits : (row : Row) (v : ℤ) → RowFits row → FitsSigned w64 v → RowFits (record row { v = v })
-valued_fits row v h fits = spelled_fits (record row { v = v }) (h.0.0, fits)
-
-key_of_row_fits : (row : Row) → RowFits row → KeyFits row.k
-key_of_row_fits row h = ((omega (arith, h.0.0.0), h.0.0.1), omega (arith, h.0.0.0))
-
--- one that may be sent is a list of such
-one_sent : (ports : ℕ) (port : ℕ) (row : Row) → port < ports → RowFits row → All (MayBeSent RowFits ports) ((port, row) ∷ [])
-one_sent ports port row within fits = All-from_recursion (MayBeSent RowFits ports) ((port, row) ∷ []) ((within, fits), tt)
-
--- ---- states that compare equal are the same state
+pub rows_are_exact : EqualIsSame row_comparison.eq
+rows_are_exact a b h = search rules
 
 pub states_are_exact : EqualIsSame state_comparison.eq
 states_are_exact Plain Plain h = refl
 states_are_exact Plain (Number n) h = absurd cc
 states_are_exact Plain (Numbers ns) h = absurd cc
 states_are_exact (Number m) Plain h = absurd cc
-states_are_exact (Number m) (Number n) h = let e : int_eq m n ≡ true = h in ap Number ((Decides-int_eq m n).0 e)
+states_are_exact (Number m) (Number n) h = let e : int_eq m n ≡ true = h in ap Number (equal_integers m n e)
 states_are_exact (Number m) (Numbers ns) h = absurd cc
 states_are_exact (Numbers ms) Plain h = absurd cc
 states_are_exact (Numbers ms) (Number n) h = absurd cc
-states_are_exact (Numbers ms) (Numbers ns) h = let e : pointwise int_eq ms ns ≡ true = h in ap Numbers ((pointwise_decides Decides-int_eq ms ns).0 e)
+states_are_exact (Numbers ms) (Numbers ns) h = let e : pointwise int_eq ms ns ≡ true = h in ap Numbers (equal_lists int_eq equal_integers ms ns e)
+
+-- a key and a size are told apart by what they hold, whatever shows that it is in range
+abbrev key_of : (text : List ℕ) → length text ≤ 1024 → is_utf8 text ≡ true → RowKey
+key_of text within utf8 = record { text = text; within = within; utf8 = utf8 }
+
+abbrev size_of : (n : ℕ) → 1 ≤ n → n ≤ 1024 → WindowSize
+size_of n at_least at_most = record { n = n; at_least = at_least; at_most = at_most }
+
+keys_are_exact : (j k : RowKey) → j.text ≡ k.text → j ≡ k
+keys_are_exact j k e =
+    let within : IsProp (length j.text ≤ 1024) = hlevel props in
+    let utf8 : IsProp (is_utf8 j.text ≡ true) = hlevel props in
+    let P : List ℕ → Type 0 = λ text. (w : length text ≤ 1024) (x : is_utf8 text ≡ true) → key_of j.text j.within j.utf8 ≡ key_of text w x in
+    subst P e (λ w x. ap (λ (h : length j.text ≤ 1024). key_of j.text h j.utf8) (within j.within w) ∙ ap (λ (h : is_utf8 j.text ≡ true). key_of j.text w h) (utf8 j.utf8 x)) k.within k.utf8
+
+sizes_are_exact : (j k : WindowSize) → j.n ≡ k.n → j ≡ k
+sizes_are_exact j k e =
+    let at_least : IsProp (1 ≤ j.n) = hlevel props in
+    let at_most : IsProp (j.n ≤ 1024) = hlevel props in
+    let P : ℕ → Type 0 = λ n. (l : 1 ≤ n) (m : n ≤ 1024) → size_of j.n j.at_least j.at_most ≡ size_of n l m in
+    subst P e (λ l m. ap (λ (h : 1 ≤ j.n). size_of j.n h j.at_most) (at_least j.at_least l) ∙ ap (λ (h : j.n ≤ 1024). size_of j.n l h) (at_most j.at_most m)) k.at_least k.at_most
+
+pub ops_are_exact : EqualIsSame op_comparison.eq
+ops_are_exact (Add m) (Add n) h = ap Add (equal_integers m n h)
+ops_are_exact (Add m) _ h = absurd cc
+ops_are_exact (Rekey j) (Rekey k) h = ap Rekey (keys_are_exact j k (equal_bytes j.text k.text h))
+ops_are_exact (Rekey j) _ h = absurd cc
+ops_are_exact (FilterGe m) (FilterGe n) h = ap FilterGe (equal_integers m n h)
+ops_are_exact (FilterGe m) _ h = absurd cc
+ops_are_exact (FilterLt m) (FilterLt n) h = ap FilterLt (equal_integers m n h)
+ops_are_exact (FilterLt m) _ h = absurd cc
+ops_are_exact (Split m) (Split n) h = ap Split (equal_integers m n h)
+ops_are_exact (Split m) _ h = absurd cc
+ops_are_exact Count Count h = refl
+ops_are_exact Count _ h = absurd cc
+ops_are_exact Sum Sum h = refl
+ops_are_exact Sum _ h = absurd cc
+ops_are_exact (Window m) (Window n) h = ap Window (sizes_are_exact m n (equal_numbers m.n n.n h))
+ops_are_exact (Window m) _ h = absurd cc
+ops_are_exact LoopDown LoopDown h = refl
+ops_are_exact LoopDown _ h = absurd cc
+
+-- ---- numbers
+
+saturated_fits : (z : ℤ) → FitsSigned w64 (saturate_signed w64 z)
+saturated_fits (pos n) = record { sfits = omega arith }
+saturated_fits (negsuc n) = record { sfits = omega arith }
+
+sum_fits : (start : ℤ) (values : List ℤ) → FitsSigned w64 start → FitsSigned w64 (fold ◌⊞◌ start values)
+sum_fits start [] fits = fits
+sum_fits start (v ∷ values) fits = sum_fits (start ⊞ v) values (saturated_fits _)
 
 -- ---- what fits
 
+-- a row whose key is short enough fits
+spelled_fits : (row : Row) → RowIsSpelled row → RowFits row
+spelled_fits row h = (h, omega (arith, length-append (bytes_spelling row.k) (signed_spelling w64 row.v), h.0.0))
+
+valued_fits : (row : Row) (v : ℤ) → RowFits row → FitsSigned w64 v → RowFits (with_value row v)
+valued_fits row v h fits = spelled_fits (with_value row v) (h.0.0, fits)
+
+keyed_fits : (row : Row) (key : RowKey) → RowFits row → RowFits (with_key row key.text)
+keyed_fits row key h = spelled_fits (with_key row key.text) ((key.within, IsUtf8-from_is_utf8 key.text key.utf8), h.0.1)
+
+key_of_row_fits : (row : Row) → RowFits row → KeyFits row.k
+key_of_row_fits row h = ((omega (arith, h.0.0.0), h.0.0.1), omega (arith, h.0.0.0))
+
+number_fits : (n : ℤ) → FitsSigned w64 n → StateFits (Number n)
+number_fits n fits = (fits, lit≤ tt)
+
+spelled_length : (values : List ℤ) → length (flat_map (signed_spelling w64) values) ≡ 8 * length values
+spelled_length [] = refl
+spelled_length (v ∷ values) = omega (arith, spelled_length values)
+
+numbers_fit : (values : List ℤ) → length values ≤ 1024 → All (FitsSigned w64) values → StateFits (Numbers values)
+numbers_fit values short fit = ((omega arith, fit), omega (arith, spelled_length values))
+
+values_fit : (values : List ℤ) (row : Row) → All (FitsSigned w64) values → RowFits row → All (FitsSigned w64) (values ++ row.v ∷ [])
+values_fit values row fit fits = All-append (FitsSigned w64) values (row.v ∷ []) fit (All-cons (FitsSigned w64) row.v [] fits.0.1 (All-nil (FitsSigned w64)))
+
+-- ---- keys
+
+key_is : (op : RowOp) (r : Row) (key : List ℕ) → row_key op r ≡ Some key → r.k ≡ key
+key_is Count r key e = cc
+key_is Sum r key e = cc
+key_is (Window n) r key e = cc
+key_is _ r key e = absurd cc
+
 pub row_key_fits : (op : RowOp) (r : Row) (key : List ℕ) → RowFits r → row_key op r ≡ Some key → KeyFits key
-row_key_fits (Add n) r key fits is = absurd cc
+row_key_fits op r key fits e = subst KeyFits (key_is op r key e) (key_of_row_fits r fits)
 
 pub row_key_has_lane : (op : RowOp) (q r : Row) (key : List ℕ) → row_key op q ≡ Some key → row_key op r ≡ Some key → row_meaning.lane q ≡ row_meaning.lane r
-row_key_has_lane (Add n) q r key is_q is_r = absurd cc
-
-pub row_fresh_is_good : (op : RowOp) → IsGoodState StateFits RowSuits op (row_fresh op)
-row_fresh_is_good (Add n) = ((tt, lit≤ tt), tt)
-
-pub row_state_stays_good : (op : RowOp) (s : RowState) (r : Row) → IsGoodState StateFits RowSuits op s → RowFits r → IsGoodState StateFits RowSuits op (row_outcome op s r).state
-row_state_stays_good (Add n) s r good fits = good
-
-pub row_sent_fits : (op : RowOp) (s : RowState) (r : Row) → IsGoodState StateFits RowSuits op s → RowFits r → All (MayBeSent RowFits (row_ports op)) (row_outcome op s r).sent
-row_sent_fits (Add n) s r good fits = one_sent 1 0 _ (omega arith) (valued_fits r _ fits (saturated_fits _))
+row_key_has_lane op q r key is_q is_r = ap lane_of (key_is op q key is_q ∙ sym (key_is op r key is_r))
 
 pub row_keyless_keeps_fresh : (op : RowOp) (r : Row) → row_key op r ≡ None → (row_outcome op (row_fresh op) r).state ≡ row_fresh op
+row_keyless_keeps_fresh (FilterGe n) r none = cond_both (int_lt r.v n) (keep Plain) (send Plain 0 r) (λ o. o.state ≡ Plain) (λ e. refl) (λ e. refl)
+row_keyless_keeps_fresh (FilterLt n) r none = cond_both (int_lt r.v n) (send Plain 0 r) (keep Plain) (λ o. o.state ≡ Plain) (λ e. refl) (λ e. refl)
+row_keyless_keeps_fresh (Split n) r none = cond_both (int_lt r.v n) (send Plain 1 r) (send Plain 0 r) (λ o. o.state ≡ Plain) (λ e. refl) (λ e. refl)
+row_keyless_keeps_fresh LoopDown r none = cond_both (int_lt (pos 0) r.v) (send Plain 1 (with_value r (r.v ⊟ pos 1))) (send Plain 0 r) (λ o. o.state ≡ Plain) (λ e. refl) (λ e. refl)
 row_keyless_keeps_fresh (Add n) r none = refl
+row_keyless_keeps_fresh (Rekey k) r none = refl
+row_keyless_keeps_fresh Count r none = absurd cc
+row_keyless_keeps_fresh Sum r none = absurd cc
+row_keyless_keeps_fresh (Window n) r none = absurd cc
+
+-- ---- outcomes
+
+pub row_fresh_is_good : (op : RowOp) → IsGoodState StateFits RowSuits op (row_fresh op)
+row_fresh_is_good Count = (number_fits (pos 0) (record { sfits = lit< tt }), tt)
+row_fresh_is_good Sum = (number_fits (pos 0) (record { sfits = lit< tt }), tt)
+row_fresh_is_good (Window size) = (numbers_fit [] (lit≤ tt) (All-nil (FitsSigned w64)), size.at_least)
+row_fresh_is_good (Add n) = ((tt, lit≤ tt), tt)
+row_fresh_is_good (Rekey k) = ((tt, lit≤ tt), tt)
+row_fresh_is_good (FilterGe n) = ((tt, lit≤ tt), tt)
+row_fresh_is_good (FilterLt n) = ((tt, lit≤ tt), tt)
+row_fresh_is_good (Split n) = ((tt, lit≤ tt), tt)
+row_fresh_is_good LoopDown = ((tt, lit≤ tt), tt)
+
+-- what a good state and a row that fits lead to
+abbrev IsGoodOutcome : RowOp → Outcome Row RowState → Type 0
+IsGoodOutcome op outcome = IsGoodState StateFits RowSuits op outcome.state × All (MayBeSent RowFits (row_ports op)) outcome.sent
+
+kept : (op : RowOp) (s : RowState) → IsGoodState StateFits RowSuits op s → IsGoodOutcome op (keep s)
+kept op s good = (good, All-nil (MayBeSent RowFits (row_ports op)))
+
+sent : (op : RowOp) (s : RowState) (port : ℕ) (row : Row) → IsGoodState StateFits RowSuits op s → port < row_ports op → RowFits row → IsGoodOutcome op (send s port row)
+sent op s port row good within fits =
+    let P : ℕ × Row → Type 0 = MayBeSent RowFits (row_ports op) in
+    (good, All-cons P (port, row) [] (within, fits) (All-nil P))
+
+collected : (size : WindowSize) (row : Row) (values : List ℤ) → length values ≤ 1024 → All (FitsSigned w64) values → RowFits row → IsGoodOutcome (Window size) (collect size.n row values)
+collected size row values short fit fits =
+    let op : RowOp = Window size in
+    cond_both (nat_lt (length values) size.n) (keep (Numbers values)) (send (Numbers []) 0 (with_value row (sum_of values))) (IsGoodOutcome op)
+    (λ e. kept op (Numbers values) (numbers_fit values short fit, ltb-true (length values) size.n e))
+    (λ e. sent op (Numbers []) 0 (with_value row (sum_of values)) (row_fresh_is_good op) (lit< tt) (valued_fits row (sum_of values) fits (sum_fits (pos 0) values (record { sfits = lit< tt }))))
+
+outcome_is_good : (op : RowOp) (s : RowState) (r : Row) → IsGoodState StateFits RowSuits op s → RowFits r → IsGoodOutcome op (row_outcome op s r)
+outcome_is_good (Add n) s r good fits = sent (Add n) s 0 (with_value r (r.v ⊞ n)) good (lit< tt) (valued_fits r (r.v ⊞ n) fits (saturated_fits _))
+outcome_is_good (Rekey k) s r good fits = sent (Rekey k) s 0 (with_key r k.text) good (lit< tt) (keyed_fits r k fits)
+outcome_is_good (FilterGe n) s r good fits =
+    cond_both (int_lt r.v n) (keep s) (send s 0 r) (IsGoodOutcome (FilterGe n)) (λ e. kept (FilterGe n) s good) (λ e. sent (FilterGe n) s 0 r good (lit< tt) fits)
+outcome_is_good (FilterLt n) s r good fits =
+    cond_both (int_lt r.v n) (send s 0 r) (keep s) (IsGoodOutcome (FilterLt n)) (λ e. sent (FilterLt n) s 0 r good (lit< tt) fits) (λ e. kept (FilterLt n) s good)
+outcome_is_good (Split n) s r good fits =
+    cond_both (int_lt r.v n) (send s 1 r) (send s 0 r) (IsGoodOutcome (Split n)) (λ e. sent (Split n) s 1 r good (lit< tt) fits) (λ e. sent (Split n) s 0 r good (lit< tt) fits)
+outcome_is_good Count s r good fits =
+    let n : ℤ = number_in s ⊞ pos 1 in
+    sent Count (Number n) 0 (with_value r n) (number_fits n (saturated_fits _), tt) (lit< tt) (valued_fits r n fits (saturated_fits _))
+outcome_is_good Sum s r good fits =
+    let n : ℤ = number_in s ⊞ r.v in
+    sent Sum (Number n) 0 (with_value r n) (number_fits n (saturated_fits _), tt) (lit< tt) (valued_fits r n fits (saturated_fits _))
+outcome_is_good (Window size) (Numbers values) r good fits =
+    collected size r (values ++ r.v ∷ []) (omega (arith, length-append values (r.v ∷ []), good.1, size.at_most)) (values_fit values r good.0.0.1 fits) fits
+outcome_is_good (Window size) Plain r good fits = absurd good.1
+outcome_is_good (Window size) (Number n) r good fits = absurd good.1
+outcome_is_good LoopDown s r good fits =
+    cond_both (int_lt (pos 0) r.v) (send s 1 (with_value r (r.v ⊟ pos 1))) (send s 0 r) (IsGoodOutcome LoopDown)
+    (λ e. sent LoopDown s 1 (with_value r (r.v ⊟ pos 1)) good (lit< tt) (valued_fits r (r.v ⊟ pos 1) fits (saturated_fits _)))
+    (λ e. sent LoopDown s 0 r good (lit< tt) fits)
+
+pub row_state_stays_good : (op : RowOp) (s : RowState) (r : Row) → IsGoodState StateFits RowSuits op s → RowFits r → IsGoodState StateFits RowSuits op (row_outcome op s r).state
+row_state_stays_good op s r good fits = (outcome_is_good op s r good fits).0
+
+pub row_sent_fits : (op : RowOp) (s : RowState) (r : Row) → IsGoodState StateFits RowSuits op s → RowFits r → All (MayBeSent RowFits (row_ports op)) (row_outcome op s r).sent
+row_sent_fits op s r good fits = (outcome_is_good op s r good fits).1

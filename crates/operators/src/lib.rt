@@ -2,11 +2,13 @@
 #![tactic(auto)]
 
 mod operator;
+mod parameters;
 mod row;
 mod row_op;
 mod row_state;
 
 pub use operator::{Operator, Outcome};
+pub use parameters::{KEY_LIMIT, RowKey, WINDOW_LIMIT, WindowSize};
 pub use row::Row;
 pub use row_op::RowOp;
 pub use row_state::RowState;

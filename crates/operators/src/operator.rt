@@ -34,12 +34,12 @@ pub trait Operator: Eq + Drop {
     ghost Suits: { Self → Self.State → Type 0 };
 
     /// The key under which the record's state is kept, if it is kept.
-    fn key(&self, alloc: Global, record: &Self::Record) -> Result<Option<Self::Key>, NoMemory>
-        ensures { IfOk result (λ key. key ≡ meaning.key self.now record.now) };
+    fn key(&self, alloc: Global, item: &Self::Record) -> Result<Option<Self::Key>, NoMemory>
+        ensures { IfOk result (λ key. key ≡ meaning.key self.now item.now) };
 
     /// The number by which a hashed edge picks the record's subtask.
-    fn lane(record: &Self::Record) -> u64
-        ensures { result ≡ meaning.lane record.now };
+    fn lane(item: &Self::Record) -> u64
+        ensures { result ≡ meaning.lane item.now };
 
     /// How many ports the operator sends on. They are numbered from 0.
     fn ports(&self) -> u32
@@ -53,17 +53,17 @@ pub trait Operator: Eq + Drop {
     fn suits(&self, state: &Self::State) -> bool
         ensures { IsTrue result ↔ Suits self.now state.now };
 
-    /// What the operator makes of a record in the state of its key.
+    /// What the operator makes of a record in the state of the record's key.
     fn apply(
         &self,
         alloc: Global,
         state: &Self::State,
-        record: &Self::Record,
+        item: &Self::Record,
     ) -> Result<Outcome<Self::State, Self::Record>, NoMemory>
         requires state { IsGoodState (Fits Self.State.HasSpelling Self.State.spelling) Suits self.now state.now }
-        requires fits { Fits Self.Record.HasSpelling Self.Record.spelling record.now }
-        ensures state { IfOk result (λ outcome. outcome.state ≡ (meaning.apply self.now state.now record.now).state) }
-        ensures sent { IfOk result (λ outcome. outcome.sent.items ≡ (meaning.apply self.now state.now record.now).sent) };
+        requires fits { Fits Self.Record.HasSpelling Self.Record.spelling item.now }
+        ensures state { IfOk result (λ outcome. outcome.state ≡ (meaning.apply self.now state.now item.now).state) }
+        ensures sent { IfOk result (λ outcome. outcome.sent.items ≡ (meaning.apply self.now state.now item.now).sent) };
 
     /// The same operator.
     fn copy(&self) -> Result<Self, NoMemory>

@@ -2,6 +2,7 @@
 
 ghost use Rattle.abs_codec.specs.Reading.{text_within};
 
+use crate::parameters::KEY_LIMIT;
 use abs_codec::{Codec, CodecFault, Text};
 use std::alloc::Global;
 
@@ -11,9 +12,6 @@ pub struct Row {
     pub k: Text,
     pub v: i64,
 }
-
-/// A key has at most so many bytes.
-const KEY_LIMIT: u32 = 1024;
 
 impl Row {
     ghost use Rattle.std.specs.Prelude.{◌≡◌};

@@ -6,9 +6,37 @@ use std::alloc::Global;
 /// What an operator keeps for a key.
 #[derive(Debug, PartialEq, Eq, Drop)]
 pub enum RowState {
+    /// Nothing: the operator keeps no state.
     Plain,
+    /// What was counted or summed so far.
     Number(i64),
+    /// The values of a window that is not full.
     Numbers(Items<i64>),
+}
+
+impl RowState {
+    ghost use Rattle.std.specs.Prelude.{◌≡◌};
+    ghost use Rattle.operators.specs.RowMeaning.{number_in, numbers_in};
+
+    /// The number that the state holds, 0 if it holds none.
+    pub(crate) fn number(&self) -> i64
+        ensures { result ≡ number_in self.now }
+    {
+        match self {
+            RowState::Number(n) => *n,
+            _ => 0,
+        }
+    }
+
+    /// The numbers that the state holds, none if it holds no list.
+    pub(crate) fn into_numbers(self, alloc: Global) -> Vec<i64>
+        ensures { result.items ≡ numbers_in self }
+    {
+        match self {
+            RowState::Numbers(numbers) => numbers.into_vec(),
+            _ => Vec::new(alloc),
+        }
+    }
 }
 
 impl Codec for RowState {
