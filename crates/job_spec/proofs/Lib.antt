@@ -1,0 +1,6 @@
+pub mod Utf8
+pub mod Names
+pub mod Faults
+pub mod VertexLemmas
+pub mod EdgeLemmas
+pub mod Valid

@@ -1,0 +1,13 @@
+use Rattle.std.proofs.lemmas.Bool.{false≢true}
+use Rattle.std.proofs.Common.{sym, ◌∙◌, ◌≡◌, ℕ, ◌<◌, ◌≤◌, length, Bool, false, nat_lt, Some, None, Ok, Err, ap, refl, arith, rules}
+use Rattle.job_spec.specs.Reading.{json_of, value_at, or_fault}
+use Rattle.job_spec.proofs.Utf8.{json_of-text, json_of-none}
+use Rattle.job_spec.proofs.reading.parse.Goals as goal
+
+pub returns-in-Ok : goal.returns-in-Ok
+unfolding value_at
+returns-in-Ok c = rw (json_of-text _ c.in-Ok.ensures.ok.0, c.in-Ok.ensures.ok.1) (search rules)
+
+pub returns-in-Err-2 : goal.returns-in-Err-2
+unfolding value_at
+returns-in-Err-2 c = rw (json_of-none _ (c.in-Err.ensures.err (λ m. let t = c.is_memory.ensures.1 m in absurd (false≢true (sym c.if-is_memory.false ∙ t))))) (search rules)

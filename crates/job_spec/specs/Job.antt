@@ -1,0 +1,100 @@
+-- What a job file says.
+use Rattle.std.specs.Prelude.{◌≡◌, ℕ, ◌+◌, ◌<◌, ◌≤◌, ℤ, List, [], ◌∷◌, length, map, Bool, true, false, Some, slice_get, string_bytes, String, All}
+use Rattle.std.specs.declared.alloc.Global.{Global}
+use Rattle.job_spec.specs.declared.vertex.Kind as code
+use Rattle.job_spec.specs.declared.vertex.Kind.TheVariants as kinds
+use Rattle.job_spec.specs.declared.vertex.VertexSpec.{VertexSpec}
+use Rattle.job_spec.specs.declared.edge.EdgeRoute.TheVariants.{Forward, Hash}
+use Rattle.job_spec.specs.declared.edge.EdgeSpec.{EdgeSpec}
+
+-- what a vertex is, with its parameter
+pub data Kind : Type 0 where
+  source : Kind
+  sink : Kind
+  add : ℤ → Kind
+  rekey : List ℕ → Kind
+  filter_ge : ℤ → Kind
+  filter_lt : ℤ → Kind
+  split : ℤ → Kind
+  count : Kind
+  sum : Kind
+  window : ℕ → Kind
+  loop_down : Kind
+
+pub record Vertex : Type 0 where
+  pub name : List ℕ
+  pub kind : Kind
+  pub parallelism : ℕ
+
+-- the vertices in file order, and the edges between them
+pub record Job : Type 0 where
+  pub vertices : List Vertex
+  pub edges : List EdgeSpec
+
+abbrev pub kind_view : code.Kind → Kind
+kind_view kinds.Source = source
+kind_view kinds.Sink = sink
+kind_view (kinds.Add n) = add n
+kind_view (kinds.Rekey k) = rekey (string_bytes k)
+kind_view (kinds.FilterGe n) = filter_ge n
+kind_view (kinds.FilterLt n) = filter_lt n
+kind_view (kinds.Split n) = split n
+kind_view kinds.Count = count
+kind_view kinds.Sum = sum
+kind_view (kinds.Window n) = window n
+kind_view kinds.LoopDown = loop_down
+
+abbrev pub vertex_view : String Global × VertexSpec → Vertex
+vertex_view e = record { name = string_bytes e.0; kind = kind_view e.1.kind; parallelism = e.1.parallelism }
+
+abbrev pub vertices_view : List (String Global × VertexSpec) → List Vertex
+vertices_view es = map vertex_view es
+
+-- ---- what a kind is
+
+abbrev pub is_source : Kind → Bool
+is_source source = true
+is_source _ = false
+
+abbrev pub is_sink : Kind → Bool
+is_sink sink = true
+is_sink _ = false
+
+-- it keeps a state for each key
+abbrev pub is_keyed : Kind → Bool
+is_keyed count = true
+is_keyed sum = true
+is_keyed (window n) = true
+is_keyed _ = false
+
+abbrev pub ports : Kind → ℕ
+ports sink = 0
+ports (split n) = 2
+ports loop_down = 2
+ports _ = 1
+
+-- ---- what each job keeps
+
+pub record IsVertex (vertex : Vertex) : Type 0 where
+  pub name : length vertex.name ≤ 64
+  pub at_least : 1 ≤ vertex.parallelism
+  pub at_most : vertex.parallelism ≤ 32
+
+-- An edge leads from no sink and into no source, on a port of its sender. It is forward only between equal parallelisms,
+-- and hashed where its receiver keeps states for keys in more than one subtask.
+pub record IsEdge (vertices : List Vertex) (edge : EdgeSpec) : Type 0 where
+  pub sender : Vertex
+  pub receiver : Vertex
+  pub from : slice_get vertices edge.from ≡ Some sender
+  pub to : slice_get vertices edge.to ≡ Some receiver
+  pub takes : is_source receiver.kind ≡ false
+  pub sends : is_sink sender.kind ≡ false
+  pub port : edge.port < ports sender.kind
+  pub forward : edge.route ≡ Forward → sender.parallelism ≡ receiver.parallelism
+  pub keyed : is_keyed receiver.kind ≡ true → 1 < receiver.parallelism → edge.route ≡ Hash
+
+pub record IsJob (job : Job) : Type 0 where
+  pub few_vertices : length job.vertices ≤ 256
+  pub few_edges : length job.edges ≤ 256
+  pub vertices : All IsVertex job.vertices
+  pub edges : All (IsEdge job.vertices) job.edges

@@ -1,0 +1,3 @@
+pub mod Job
+pub mod Reading
+pub mod Inside

@@ -1,0 +1,246 @@
+-- What a job file says, or the first fault of it.
+use Rattle.std.specs.Prelude.{◌≡◌, ℕ, zero, suc, ◌+◌, ◌&&◌, ◌||◌, ◌==◌, ℤ, pos, negsuc, List, [], ◌∷◌, ◌++◌, length, map, Bool, true, false, not, nat_lt, nat_le, if◌then◌else◌, Option, Some, None, option_map, option_and_then, position, slice_get, unwrap_or, is_some, Result, Ok, Err, codes}
+use Rattle.std.specs.Str.{is_utf8, bytes_eq}
+use Rattle.std.specs.Char.{is_ascii_alphanumeric}
+use Rattle.std.specs.List.{list_any, list_all}
+use Rattle.std.specs.Option.{option_map_or}
+use Rattle.serde_json.specs.Data.{Data, Items, no_items, item, Members, no_members, member}
+use Rattle.serde_json.specs.Events.{items_len}
+use Rattle.serde_json.specs.Find.{get, as_str, as_number, as_i64, as_bool, as_array, as_object}
+use Rattle.serde_json.specs.Read.{read}
+use Rattle.job_spec.specs.declared.fault.JobFault.{JobFault}
+use Rattle.job_spec.specs.declared.fault.JobFault.TheVariants as faults
+use Rattle.job_spec.specs.Job.{Kind, source, sink, add, rekey, filter_ge, filter_lt, split, count, sum, window, loop_down, Vertex, Job, is_source, is_sink, is_keyed, ports}
+use Rattle.job_spec.specs.declared.edge.EdgeSpec.{EdgeSpec}
+use Rattle.job_spec.specs.declared.edge.EdgeRoute.{EdgeRoute}
+use Rattle.job_spec.specs.declared.edge.EdgeRoute.TheVariants.{Forward, Hash, Broadcast}
+
+infixl 10 ◌>>=◌
+abbrev pub ◌>>=◌ : {A B : Type 0} → Result A JobFault → (A → Result B JobFault) → Result B JobFault
+(Ok x) >>= f = f x
+(Err e) >>= f = Err e
+
+-- the value, or this fault where there is none
+abbrev pub or_fault : {A : Type 0} → JobFault → Option A → Result A JobFault
+or_fault e (Some x) = Ok x
+or_fault e None = Err e
+
+abbrev pub wanted : JobFault → Bool → Result Bool JobFault
+wanted e b = if b then Ok true else Err e
+
+-- What was answered, seen by view, is what reading gives, unless memory was refused.
+abbrev pub Fails : {Y : Type 0} → JobFault → Result Y JobFault → Type 0
+Fails faults.Memory read = Unit {0}
+Fails e read = read ≡ Err e
+
+abbrev pub Gives : {X Y : Type 0} → (X → Y) → Result X JobFault → Result Y JobFault → Type 0
+Gives view (Ok x) read = read ≡ Ok (view x)
+Gives view (Err e) read = Fails e read
+
+-- ---- the text
+
+-- the JSON value of UTF-8 bytes
+unfoldable pub json_of : List ℕ → Option Data
+json_of bytes = if is_utf8 bytes then read bytes else None
+
+unfoldable pub value_at : List ℕ → Result Data JobFault
+value_at bytes = if nat_lt 16777216 (length bytes) then Err faults.TooMany else or_fault faults.BadJson (json_of bytes)
+
+-- ---- objects
+
+abbrev pub is_among : (List ℕ → List ℕ → Bool) → List (List ℕ) → List ℕ → Bool
+is_among same [] name = false
+is_among same (n ∷ ns) name = same n name || is_among same ns name
+
+-- an object whose members all have one of these names
+abbrev pub have_names : List (List ℕ) → Members → Bool
+have_names names no_members = true
+have_names names (member k d ms) = list_any (bytes_eq k) names && have_names names ms
+
+abbrev pub has_only : List (List ℕ) → Data → Bool
+has_only names d = option_map_or (have_names names) (as_object d) false
+
+-- ---- the types of members
+
+abbrev pub member_at : List ℕ → Data → Result Data JobFault
+member_at name d = or_fault faults.BadField (get name d)
+
+abbrev pub text : Data → Result (List ℕ) JobFault
+text d = or_fault faults.BadField (as_str d)
+
+abbrev pub flag : Data → Result Bool JobFault
+flag d = or_fault faults.BadField (as_bool d)
+
+-- a whole number of 64 bits
+abbrev pub whole : Data → Result ℤ JobFault
+whole d = or_fault faults.BadField (option_and_then as_i64 (as_number d))
+
+abbrev pub within : ℕ → ℕ → ℤ → Result ℕ JobFault
+within low high (pos n) = if nat_le low n && nat_le n high then Ok n else Err faults.BadField
+within low high (negsuc n) = Err faults.BadField
+
+abbrev pub number : ℕ → ℕ → Data → Result ℕ JobFault
+number low high d = whole d >>= within low high
+
+-- the member's value, or the one that stands for a member that is absent
+abbrev pub optional : {A : Type 0} → (Data → Result A JobFault) → A → Option Data → Result A JobFault
+optional f absent None = Ok absent
+optional f absent (Some d) = f d
+
+-- 1 to 64 letters, digits, underscores and dashes
+abbrev pub is_name_byte : ℕ → Bool
+is_name_byte b = is_ascii_alphanumeric b || b == 95 || b == 45
+
+unfoldable pub is_name : List ℕ → Bool
+is_name s = nat_le 1 (length s) && (nat_le (length s) 64 && list_all is_name_byte s)
+
+unfoldable pub name_at : List ℕ → Data → Result (List ℕ) JobFault
+name_at key d = do
+  found ← member_at key d
+  name ← text found
+  if is_name name then Ok name else Err faults.BadField
+
+-- ---- vertices
+
+abbrev pub with_number : (ℤ → Kind) → Data → Result Kind JobFault
+with_number kind d = do
+  found ← member_at (codes "n") d
+  n ← whole found
+  Ok (kind n)
+
+-- the kind that a word names, with its parameter
+unfoldable pub kind_at : List ℕ → Data → Result Kind JobFault
+kind_at word d =
+    if bytes_eq word (codes "source") then Ok source
+    else (if bytes_eq word (codes "sink") then Ok sink
+    else (if bytes_eq word (codes "add") then with_number add d
+    else (if bytes_eq word (codes "rekey") then (do
+      found ← member_at (codes "k") d
+      key ← text found
+      if nat_le (length key) 1024 then Ok (rekey key) else Err faults.BadField)
+    else (if bytes_eq word (codes "filter_ge") then with_number filter_ge d
+    else (if bytes_eq word (codes "filter_lt") then with_number filter_lt d
+    else (if bytes_eq word (codes "split") then with_number split d
+    else (if bytes_eq word (codes "count") then Ok count
+    else (if bytes_eq word (codes "sum") then Ok sum
+    else (if bytes_eq word (codes "window") then (do
+      found ← member_at (codes "n") d
+      n ← number 1 1024 found
+      Ok (window n))
+    else (if bytes_eq word (codes "loop_down") then Ok loop_down
+    else Err faults.BadField))))))))))
+
+abbrev pub parameter_names : Kind → List (List ℕ)
+parameter_names source = []
+parameter_names sink = []
+parameter_names (add n) = codes "n" ∷ []
+parameter_names (rekey k) = codes "k" ∷ []
+parameter_names (filter_ge n) = codes "n" ∷ []
+parameter_names (filter_lt n) = codes "n" ∷ []
+parameter_names (split n) = codes "n" ∷ []
+parameter_names count = []
+parameter_names sum = []
+parameter_names (window n) = codes "n" ∷ []
+parameter_names loop_down = []
+
+abbrev pub member_names : Kind → List (List ℕ)
+member_names kind = codes "name" ∷ codes "kind" ∷ codes "parallelism" ∷ parameter_names kind
+
+unfoldable pub vertex_at : Data → Result Vertex JobFault
+vertex_at d = do
+  name ← name_at (codes "name") d
+  found ← member_at (codes "kind") d
+  word ← text found
+  kind ← kind_at word d
+  parallelism ← optional (number 1 32) 1 (get (codes "parallelism") d)
+  if has_only (member_names kind) d then Ok (record { name = name; kind = kind; parallelism = parallelism }) else Err faults.BadField
+
+abbrev pub is_named : List ℕ → List Vertex → Bool
+is_named name vs = list_any (λ v. bytes_eq name v.name) vs
+
+-- the vertices, behind those that were found before them
+unfoldable pub vertices_after : List Vertex → Items → Result (List Vertex) JobFault
+vertices_after found no_items = Ok found
+vertices_after found (item d ds) = do
+  v ← vertex_at d
+  if is_named v.name found then Err faults.DuplicateName else vertices_after (found ++ v ∷ []) ds
+
+-- ---- edges
+
+abbrev pub route : Data → Result EdgeRoute JobFault
+route d = do
+  word ← text d
+  if bytes_eq word (codes "forward") then Ok Forward
+      else (if bytes_eq word (codes "hash") then Ok Hash
+      else (if bytes_eq word (codes "broadcast") then Ok Broadcast
+      else Err faults.BadField))
+
+-- the vertex of a name, behind its number in file order
+abbrev pub numbered : List ℕ → List Vertex → Option (ℕ × Vertex)
+numbered name vs = option_and_then (λ i. option_map (λ v. (i, v)) (slice_get vs i)) (position (λ v. bytes_eq name v.name) vs)
+
+abbrev pub is_forward : EdgeRoute → Bool
+is_forward Forward = true
+is_forward _ = false
+
+abbrev pub is_hash : EdgeRoute → Bool
+is_hash Hash = true
+is_hash _ = false
+
+-- what stands against an edge from a vertex to a vertex
+abbrev pub checked : Vertex → Vertex → EdgeSpec → Result EdgeSpec JobFault
+checked from to e =
+    if is_source to.kind then Err faults.EdgeIntoSource
+    else (if is_sink from.kind then Err faults.EdgeFromSink
+    else (if nat_le (ports from.kind) e.port then Err faults.BadPort
+    else (if is_forward e.route && not (from.parallelism == to.parallelism) then Err faults.ForwardNeedsEqual
+    else (if is_keyed to.kind && (nat_lt 1 to.parallelism && not (is_hash e.route)) then Err faults.KeyedNeedsHash
+    else Ok e))))
+
+abbrev pub edge_names : List (List ℕ)
+edge_names = codes "from" ∷ codes "to" ∷ codes "route" ∷ codes "port" ∷ codes "back" ∷ []
+
+unfoldable pub edge_at : List Vertex → Data → Result EdgeSpec JobFault
+edge_at vs d = do
+  from_member ← member_at (codes "from") d
+  from_name ← text from_member
+  to_member ← member_at (codes "to") d
+  to_name ← text to_member
+  way ← optional route Forward (get (codes "route") d)
+  port ← optional (number 0 4294967295) 0 (get (codes "port") d)
+  back ← optional flag false (get (codes "back") d)
+  known ← wanted faults.BadField (has_only edge_names d)
+  from ← or_fault faults.UnknownName (numbered from_name vs)
+  to ← or_fault faults.UnknownName (numbered to_name vs)
+  checked from.1 to.1 (record { from = from.0; to = to.0; port = port; route = way; back = back })
+
+-- the edges, behind those that were found before them
+unfoldable pub edges_after : List Vertex → List EdgeSpec → Items → Result (List EdgeSpec) JobFault
+edges_after vs found no_items = Ok found
+edges_after vs found (item d ds) = do
+  e ← edge_at vs d
+  edges_after vs (found ++ e ∷ []) ds
+
+-- ---- the whole
+
+abbrev pub list : ℕ → ℕ → Data → Result Items JobFault
+list low high d = do
+  ds ← or_fault faults.BadField (as_array d)
+  if nat_le low (items_len ds) && nat_le (items_len ds) high then Ok ds else Err faults.BadField
+
+unfoldable pub lists_at : Data → Result (Items × Items) JobFault
+lists_at d = do
+  vertices ← member_at (codes "vertices") d
+  vs ← list 1 256 vertices
+  edges ← member_at (codes "edges") d
+  es ← list 0 256 edges
+  if has_only (codes "vertices" ∷ codes "edges" ∷ []) d then Ok (vs, es) else Err faults.BadField
+
+-- what a job file says, or the first fault of it
+unfoldable pub job_of : List ℕ → Result Job JobFault
+job_of bytes = do
+  d ← value_at bytes
+  lists ← lists_at d
+  vs ← vertices_after [] lists.0
+  es ← edges_after vs [] lists.1
+  Ok (record { vertices = vs; edges = es })

@@ -1,0 +1,59 @@
+//! Vertices.
+
+/// What a vertex is, with its parameter.
+#[derive(Debug, Drop, PartialEq)]
+pub enum Kind {
+    Source,
+    Sink,
+    Add(i64),
+    Rekey(String),
+    FilterGe(i64),
+    FilterLt(i64),
+    Split(i64),
+    Count,
+    Sum,
+    Window(u32),
+    LoopDown,
+}
+
+impl Kind {
+    ghost use Rattle.std.specs.Prelude.{◌≡◌};
+    ghost use Rattle.job_spec.specs.Job.{kind_view, is_source, is_sink, is_keyed, ports};
+
+    pub fn is_source(&self) -> bool
+        ensures { result ≡ is_source (kind_view self.now) }
+    {
+        matches!(self, Kind::Source)
+    }
+
+    pub fn is_sink(&self) -> bool
+        ensures { result ≡ is_sink (kind_view self.now) }
+    {
+        matches!(self, Kind::Sink)
+    }
+
+    /// Whether it keeps a state for each key.
+    pub fn is_keyed(&self) -> bool
+        ensures { result ≡ is_keyed (kind_view self.now) }
+    {
+        matches!(self, Kind::Count | Kind::Sum | Kind::Window(_))
+    }
+
+    /// How many ports it sends on.
+    pub fn ports(&self) -> u32
+        ensures { result ≡ ports (kind_view self.now) }
+    {
+        match self {
+            Kind::Sink => 0,
+            Kind::Split(_) | Kind::LoopDown => 2,
+            _ => 1,
+        }
+    }
+}
+
+/// What a vertex is, and its number of subtasks.
+#[derive(Debug, Drop, PartialEq)]
+pub struct VertexSpec {
+    pub kind: Kind,
+    pub parallelism: u32,
+}
