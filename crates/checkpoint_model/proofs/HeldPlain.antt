@@ -24,7 +24,7 @@ if_agree f false x y x' y' e e' = e'
 
 -- what a task's handling of a record does, seen without its output
 module _ {R K S O : Type 0} (meaning : Meaning R K S O) where
-  same_sent : (kind : Task O) (a b : TaskState R K S) (r : R) → a.states ≡ b.states → (handled meaning kind a r).sent ≡ (handled meaning kind b r).sent
+  pub same_sent : (kind : Task O) (a b : TaskState R K S) (r : R) → a.states ≡ b.states → (handled meaning kind a r).sent ≡ (handled meaning kind b r).sent
   same_sent (SourceTask p) a b r e = refl
   same_sent (OperatorTask o) a b r e = ap (λ s. (meaning.apply o (state_under (meaning.key o r) (meaning.fresh o) s) r).sent) e
   same_sent SinkTask a b r e = refl
@@ -174,6 +174,9 @@ module _ {R K S O B : Type 0} where
   -- dropping what code doesn't hold leaves the plain configuration
   pub held_bare : (job : Job R K S O) (spell : R → B) (devices : Devices R K S B) (run : Running R K S) (at : Configuration R K S) → IsBare job spell devices run at → IsBare job spell devices (held_run run) at
   held_bare job spell devices run at b = record { offsets = b.offsets; states = b.states; channels = b.channels; outputs = b.outputs; elsewhere = b.elsewhere }
+
+  pub bare_of_held : (job : Job R K S O) (spell : R → B) (devices : Devices R K S B) (run : Running R K S) (at : Configuration R K S) → IsBare job spell devices (held_run run) at → IsBare job spell devices run at
+  bare_of_held job spell devices run at b = record { offsets = b.offsets; states = b.states; channels = b.channels; outputs = b.outputs; elsewhere = b.elsewhere }
 
   pub plain_moves : (job : Job R K S O) (spell : R → B) → PlainMoves job spell
   plain_moves job spell move old new run next at m one b =

@@ -7,8 +7,8 @@ use Rattle.checkpoint_model.specs.Laws.{HasReceivers}
 use Rattle.checkpoint_model.specs.Durable.{Transaction, SinkTransactions, Devices, is_on, joined, transactions_of, IsSink}
 use Rattle.checkpoint_model.specs.Engine.{Running}
 use Rattle.checkpoint_model.specs.EngineLaws.{EngineMoves, EngineTakesBarrier, EngineCopies, EngineTriggers, EngineDiscards, EnginePersists, EngineCompletes, EngineCommits}
-use Rattle.checkpoint_model.specs.Headline.{Engine, RunningStep, SpellsOnce, CommitsItsOutput}
-use Rattle.checkpoint_model.specs.Held.{held_run, IsHeldSound, HeldLeads}
+use Rattle.checkpoint_model.specs.Headline.{Engine, RunningStep, EngineStep, SpellsOnce, CommitsItsOutput}
+use Rattle.checkpoint_model.specs.Held.{held_run, held_running, IsHeldSound, HeldStep, HeldLeads}
 
 module _ {B : Type 0} where
   -- exactly one transaction is open
@@ -18,6 +18,16 @@ module _ {B : Type 0} where
   -- the records of the committed, then of the pre-committed, then of the open transactions
   abbrev pub all_records : SinkTransactions B → List B
   all_records sink = joined (sink.committed ++ transactions_of sink.pre_committed ++ sink.open_ones)
+
+module _ {R K S B : Type 0} where
+  -- the engine as it is held
+  abbrev pub held_engine : Engine R K S B → Engine R K S B
+  held_engine engine = record { devices = engine.devices; running = held_running engine.running }
+
+module _ {R K S O : Type 0} where
+  -- only sinks name transactions
+  abbrev pub OnlySinksName : Job R K S O → Running R K S → Type 0
+  OnlySinksName job run = (task : ℕ) → (IsSink job task → ⊥) → run.named task ≡ []
 
 module _ {R K S O B : Type 0} where
   -- The plain configuration that a running engine stands for: each task holds what the engine's holds, the channels hold their records with the
@@ -104,3 +114,15 @@ module _ {R K S O B : Type 0} where
   abbrev pub BareIsOne : Job R K S O → (R → B) → Type 0
   BareIsOne job spell =
       (devices : Devices R K S B) (run : Running R K S) (one two : Configuration R K S) → SpellsOnce spell → IsBare job spell devices run one → IsBare job spell devices run two → one ≡ two
+
+  -- what is held of a run takes each step that the run takes, and comes to hold the same
+  abbrev pub StepsAreHeld : Job R K S O → (R → B) → Type 0
+  StepsAreHeld job spell =
+      (is_logged : ℕ → Bool) (old new : Devices R K S B) (run next : Running R K S) → OnlySinksName job run → RunningStep job is_logged spell old new run next →
+      (middle : Running R K S) × RunningStep job is_logged spell old new (held_run run) middle × (held_run middle ≡ held_run next)
+
+  -- so each step of an engine is a step of the engine as it is held
+  abbrev pub EngineStepsAreHeld : Job R K S O → (R → B) → Type 0
+  EngineStepsAreHeld job spell =
+      (is_logged : ℕ → Bool) (old new : Engine R K S B) → ((run : Running R K S) → old.running ≡ Some run → OnlySinksName job run) →
+      EngineStep job is_logged spell old new → HeldStep job is_logged spell (held_engine old) (held_engine new)
