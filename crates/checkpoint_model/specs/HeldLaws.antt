@@ -46,13 +46,13 @@ module _ {R K S O B : Type 0} where
       EngineMoves job spell move old new run next → (IsSink job (mover move) → HasOneOpen (old.sinks (mover move))) → IsBare job spell old run at →
       (after : Configuration R K S) × Step job move at after × IsBare job spell new (held_run next) after
 
-  -- what such a step leaves as it is
+  -- such a step leaves the plain configuration as it is
   abbrev pub LeavesBare : Job R K S O → (R → B) → (Devices R K S B → Devices R K S B → Running R K S → Running R K S → Type 0) → Type 0
   LeavesBare job spell Steps =
       (old new : Devices R K S B) (run next : Running R K S) (at : Configuration R K S) →
       Steps old new run next → IsBare job spell old run at → IsBare job spell new (held_run next) at
 
-  -- All other steps leave the plain configuration as it is. At a sink's copy the open transaction comes to be the last of the pre-committed, and the new
+  -- All steps but moves do. At a sink's copy the open transaction comes to be the last of the pre-committed, and the new
   -- one is empty; by a commit the first of the pre-committed comes to be the last of the committed.
   pub record OtherStepsStay (job : Job R K S O) (is_logged : ℕ → Bool) (spell : R → B) : Type 0 where
     pub barrier : (input : ℕ) → LeavesBare job spell (λ old new run next. EngineTakesBarrier input old new run next)
@@ -115,7 +115,7 @@ module _ {R K S O B : Type 0} where
   BareIsOne job spell =
       (devices : Devices R K S B) (run : Running R K S) (one two : Configuration R K S) → SpellsOnce spell → IsBare job spell devices run one → IsBare job spell devices run two → one ≡ two
 
-  -- what is held of a run takes each step that the run takes, and comes to hold the same
+  -- What is held of a run, of which only sinks name transactions, takes each step that the run takes, and comes to hold the same
   abbrev pub StepsAreHeld : Job R K S O → (R → B) → Type 0
   StepsAreHeld job spell =
       (is_logged : ℕ → Bool) (old new : Devices R K S B) (run next : Running R K S) → OnlySinksName job run → RunningStep job is_logged spell old new run next →
