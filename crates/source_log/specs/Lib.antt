@@ -1,1 +1,4 @@
 pub mod Partitions
+pub mod MemoryLog
+pub mod Calls
+pub mod FlakyLog

@@ -3,10 +3,6 @@ use Rattle.std.specs.Prelude.{◌≡◌, ◌⊎◌, ◌<◌, ◌≤◌, ◌-◌,
 use Rattle.source_log.specs.declared.partitions.SourceFault.{SourceFault}
 use Rattle.source_log.specs.declared.partitions.SourceFault.TheVariants.{NoSuchPartition, Fault, Full, Memory}
 
--- The value has a spelling, of at most 65,536 bytes.
-abbrev pub Fits : {A : Type 0} → (A → Type 0) → (A → List ℕ) → A → Type 0
-Fits HasSpelling spelling value = HasSpelling value × (length (spelling value) ≤ 65536)
-
 -- the records of a partition, none where there is no such partition
 abbrev pub records_at : {R : Type 0} → List (List R) → ℕ → List R
 records_at partitions p = unwrap_or (slice_get partitions p) []

@@ -3,6 +3,10 @@
 //! A record at an offset stays there, `append` puts one last, and a call that fails has done nothing or all of its work.
 #![tactic(auto)]
 
+mod flaky_log;
+mod memory_log;
 mod partitions;
 
+pub use flaky_log::{FaultlessLog, FlakyLog, LogCall};
+pub use memory_log::MemoryLog;
 pub use partitions::{Partitions, SourceFault};

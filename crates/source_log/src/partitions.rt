@@ -1,9 +1,12 @@
 //! What partitions offer.
 
 ghost use Rattle.std.specs.Prelude.{◌≡◌, ◌≢◌, ◌<◌, ◌≤◌, ◌^◌, ℕ, List, length, None, Some, Ok, Err, IfOk, IfSome, slice_get, MatchResult};
-ghost use Rattle.source_log.specs.Partitions.{Ends, Fits, records_at, partition_refusal, append_refusal, appended};
+ghost use Rattle.abs_codec.specs.Spelling.{Fits};
+ghost use Rattle.source_log.specs.declared.partitions.SourceFault.TheVariants.{Memory};
+ghost use Rattle.source_log.specs.Partitions.{Ends, records_at, partition_refusal, append_refusal, appended};
 
 use abs_codec::Codec;
+use std::alloc::AllocFailed;
 use thiserror::Error;
 
 /// Why a call on a partition was refused.
@@ -21,6 +24,14 @@ pub enum SourceFault {
     /// Memory was refused.
     #[error("S4 Memory")]
     Memory,
+}
+
+impl<T: Drop> From<AllocFailed<T>> for SourceFault {
+    ghost from_gives = { λ _ e. e ≡ Memory };
+
+    fn from(_e: AllocFailed<T>) -> SourceFault {
+        SourceFault::Memory
+    }
 }
 
 /// Partitions of records, numbered from 0. The records of a partition have offsets from 0, and only grow.
