@@ -1,0 +1,3 @@
+pub mod NumberLemmas
+pub mod JsonLemmas
+pub mod ListLemmas

@@ -1,0 +1,7 @@
+pub mod Faults
+pub mod Json
+pub mod Numbers
+pub mod Steps
+pub mod Rows
+pub mod Lists
+pub mod Outline

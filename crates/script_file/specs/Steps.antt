@@ -1,0 +1,87 @@
+-- The steps of a script.
+use Rattle.std.specs.Prelude.{ℕ, ℤ, ◌==◌, List, [], length, nat_lt, Option, Some, None, unwrap_or, Result, Ok, Err, if◌then◌else◌, codes}
+use Rattle.std.specs.List.{before_first, after_first, position_or_len}
+use Rattle.std.specs.Str.{bytes_eq}
+use Rattle.serde_json.specs.Data.{Data}
+use Rattle.serde_json.specs.Find.{as_str}
+use Rattle.script_file.specs.declared.step.Step.{Step}
+use Rattle.script_file.specs.declared.step.Step.TheVariants.{Read, Work, Barrier, Trigger, Inject, Persist, Complete, Commit, Fail, Restart, Append}
+use Rattle.script_file.specs.declared.fault.ItemFault.{ItemFault}
+use Rattle.script_file.specs.declared.fault.ItemFault.TheVariants as one
+use Rattle.script_file.specs.declared.fault.ScriptFault.{ScriptFault}
+use Rattle.script_file.specs.declared.fault.ScriptFault.TheVariants as whole
+use Rattle.script_file.specs.declared.rows.Row.{Row}
+use Rattle.script_file.specs.Faults.{◌>>=◌, or_fault}
+use Rattle.script_file.specs.Numbers.{number_of, signed_number_of}
+
+-- what stands before the first space and after it
+unfoldable pub cut : List ℕ → Option (List ℕ × List ℕ)
+cut text =
+    if nat_lt (position_or_len (λ b. b == 32) text) (length text) then Some (before_first (λ b. b == 32) text, after_first (λ b. b == 32) text)
+    else None
+
+-- the value, or a bad step where there is none
+abbrev pub bad : {A : Type 0} → Option A → Result A ItemFault
+bad o = or_fault one.Bad o
+
+abbrev pub number_of_text : List ℕ → Result ℕ ItemFault
+number_of_text text = bad (number_of text)
+
+abbrev pub signed_of_text : List ℕ → Result ℤ ItemFault
+signed_of_text text = bad (signed_number_of text)
+
+abbrev pub one_number : (ℕ → Step) → List ℕ → Result Step ItemFault
+one_number step text = do
+  n ← number_of_text text
+  Ok (step n)
+
+abbrev pub two_numbers : List ℕ → Result (ℕ × ℕ) ItemFault
+two_numbers text = do
+  parts ← bad (cut text)
+  m ← number_of_text parts.0
+  n ← number_of_text parts.1
+  Ok (m, n)
+
+abbrev pub of_two : (ℕ → ℕ → Step) → List ℕ → Result Step ItemFault
+of_two step text = do
+  numbers ← two_numbers text
+  Ok (step numbers.0 numbers.1)
+
+-- a partition, a value, and a key that is all the rest
+unfoldable pub appended : List ℕ → Result (ℕ × Row) ItemFault
+appended text = do
+  parts ← bad (cut text)
+  partition ← number_of_text parts.0
+  rest ← bad (cut parts.1)
+  value ← signed_of_text rest.0
+  if nat_lt 1024 (length rest.1) then Err one.Bad else Ok (partition, record { k = rest.1; v = value })
+
+-- the step of a word and what follows its space
+unfoldable pub step_with : List ℕ → List ℕ → Result Step ItemFault
+step_with word rest =
+    if bytes_eq word (codes "read") then one_number Read rest
+    else (if bytes_eq word (codes "work") then of_two Work rest
+    else (if bytes_eq word (codes "barrier") then of_two Barrier rest
+    else (if bytes_eq word (codes "inject") then one_number Inject rest
+    else (if bytes_eq word (codes "persist") then one_number Persist rest
+    else (if bytes_eq word (codes "commit") then one_number Commit rest
+    else (if bytes_eq word (codes "append") then (appended rest >>= λ a. Ok (Append a.0 a.1))
+    else Err one.Bad))))))
+
+-- the step that a text is
+unfoldable pub step_of : List ℕ → Result Step ItemFault
+step_of text =
+    if bytes_eq text (codes "trigger") then Ok Trigger
+    else (if bytes_eq text (codes "complete") then Ok Complete
+    else (if bytes_eq text (codes "fail") then Ok Fail
+    else (if bytes_eq text (codes "restart") then Ok Restart
+    else (bad (cut text) >>= λ parts. step_with parts.0 parts.1))))
+
+-- the step of this number in its list
+abbrev pub of_number : ℕ → Result Step ItemFault → Result Step ScriptFault
+of_number number (Ok step) = Ok step
+of_number number (Err one.Bad) = Err (whole.BadStep number)
+of_number number (Err one.Memory) = Err whole.Memory
+
+abbrev pub step_at : ℕ → Data → Result Step ScriptFault
+step_at number d = of_number number (step_of (unwrap_or (as_str d) []))

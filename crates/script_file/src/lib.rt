@@ -1,0 +1,18 @@
+//! Script files: a job, the partitions that its sources read, and the steps to make on it.
+//!
+//! A script is a JSON object with exactly the members `job`, `partitions` and `steps`. It is read whole before any step
+//! is made: what comes out is the script, or the first fault of its text in one fixed order. The definitions that say
+//! which (`specs/`) read a JSON value as the code does, one name for each part.
+#![tactic(auto)]
+
+mod fault;
+mod members;
+mod number;
+mod outline;
+mod rows;
+mod step;
+
+pub use fault::{ItemFault, ScriptFault};
+pub use outline::{Outline, json_value, outline_of};
+pub use rows::{Row, partitions};
+pub use step::{Step, parse_step, steps};

@@ -1,0 +1,147 @@
+//! The steps of a script.
+
+ghost use Rattle.std.specs.Prelude.{◌≡◌, []};
+ghost use Rattle.script_file.specs.Faults.{FindsItem, Gives};
+ghost use Rattle.script_file.specs.Steps.{bad, cut, number_of_text, signed_of_text, one_number, two_numbers, appended, step_with, step_of, step_at};
+ghost use Rattle.script_file.specs.Lists.{each_after};
+ghost use Rattle.serde_json.specs.View.{view, items_view};
+
+use crate::fault::{ItemFault, ScriptFault};
+use crate::number::{number, signed_number};
+use crate::rows::{MAX_KEY, Row};
+use abs_codec::Text;
+use serde_json::Value;
+use std::alloc::Global;
+
+/// A call on the engine: a task's number `T`, the number `I` of one of its inputs, a sink's number `S`, a partition's `P`.
+#[derive(Debug, Drop, PartialEq, Eq)]
+pub enum Step {
+    /// `read T`: the source sends its next record.
+    Read(u32),
+    /// `work T I`: the task takes the record at the head of its input, applies its operator and sends.
+    Work(u32, u32),
+    /// `barrier T I`: the task takes the barrier at the head of its input.
+    Barrier(u32, u32),
+    /// `trigger`: a checkpoint begins.
+    Trigger,
+    /// `inject T`: the source copies its offset and sends barriers.
+    Inject(u32),
+    /// `persist T`: the task's part goes to the store.
+    Persist(u32),
+    /// `complete`: the pending checkpoint is complete.
+    Complete,
+    /// `commit S`: the sink's transactions up to the last complete checkpoint are committed.
+    Commit(u32),
+    /// `fail`: the job fails.
+    Fail,
+    /// `restart`: the job starts again from its last complete checkpoint.
+    Restart,
+    /// `append P V KEY`: the row is put last into the partition.
+    Append(u32, Row),
+}
+
+/// What stands before the first space and after it.
+fn cut(text: &str) -> Result<(&str, &str), ItemFault>
+    ensures { FindsItem (λ p. (p.0.now, p.1.now)) result (bad (cut text.now)) }
+{
+    text.split_once(' ').ok_or(ItemFault::Bad)
+}
+
+fn number_of(text: &str) -> Result<u32, ItemFault>
+    ensures { FindsItem (λ n. n) result (number_of_text text.now) }
+{
+    number(text).ok_or(ItemFault::Bad)
+}
+
+fn signed_number_of(text: &str) -> Result<i64, ItemFault>
+    ensures { FindsItem (λ n. n) result (signed_of_text text.now) }
+{
+    signed_number(text).ok_or(ItemFault::Bad)
+}
+
+fn two_numbers(text: &str) -> Result<(u32, u32), ItemFault>
+    ensures { FindsItem (λ p. p) result (two_numbers text.now) }
+{
+    let (first, second) = cut(text)?;
+    Ok((number_of(first)?, number_of(second)?))
+}
+
+#[tactic(auto, unfolding(crate::specs::Steps::appended))]
+fn appended(alloc: Global, text: &str) -> Result<(u32, Row), ItemFault>
+    ensures { FindsItem (λ p. p) result (appended text.now) }
+{
+    let (partition, rest) = cut(text)?;
+    let partition = number_of(partition)?;
+    let (value, key) = cut(rest)?;
+    let v = signed_number_of(value)?;
+    if key.len() > MAX_KEY {
+        return Err(ItemFault::Bad);
+    }
+    let k = Text::from_str(alloc, key)?;
+    Ok((partition, Row { k, v }))
+}
+
+#[tactic(auto, unfolding(crate::specs::Steps::step_with))]
+fn step_with(alloc: Global, word: &str, rest: &str) -> Result<Step, ItemFault>
+    ensures { FindsItem (λ s. s) result (step_with word.now rest.now) }
+{
+    match word {
+        "read" => Ok(Step::Read(number_of(rest)?)),
+        "work" => {
+            let (task, input) = two_numbers(rest)?;
+            Ok(Step::Work(task, input))
+        }
+        "barrier" => {
+            let (task, input) = two_numbers(rest)?;
+            Ok(Step::Barrier(task, input))
+        }
+        "inject" => Ok(Step::Inject(number_of(rest)?)),
+        "persist" => Ok(Step::Persist(number_of(rest)?)),
+        "commit" => Ok(Step::Commit(number_of(rest)?)),
+        "append" => {
+            let (partition, row) = appended(alloc, rest)?;
+            Ok(Step::Append(partition, row))
+        }
+        _ => Err(ItemFault::Bad),
+    }
+}
+
+/// The step that a text is: words parted by one space, numbers decimal with no leading zeros.
+#[tactic(auto, unfolding(crate::specs::Steps::step_of))]
+pub fn parse_step(alloc: Global, text: &str) -> Result<Step, ItemFault>
+    ensures { FindsItem (λ s. s) result (step_of text.now) }
+{
+    match text {
+        "trigger" => Ok(Step::Trigger),
+        "complete" => Ok(Step::Complete),
+        "fail" => Ok(Step::Fail),
+        "restart" => Ok(Step::Restart),
+        _ => {
+            let (word, rest) = cut(text)?;
+            step_with(alloc, word, rest)
+        }
+    }
+}
+
+/// The step of this number in its list.
+fn step_at(alloc: Global, number: usize, value: &Value) -> Result<Step, ScriptFault>
+    ensures { Gives (λ s. s) result (step_at number (view value.now)) }
+{
+    match parse_step(alloc, value.as_str().unwrap_or("")) {
+        Ok(step) => Ok(step),
+        Err(ItemFault::Bad) => Err(ScriptFault::BadStep(number)),
+        Err(ItemFault::Memory) => Err(ScriptFault::Memory),
+    }
+}
+
+/// The steps of a list of texts, or the first that is none.
+pub fn steps(alloc: Global, items: &[Value]) -> Result<Vec<Step>, ScriptFault>
+    ensures { Gives (λ v. v.items) result (each_after step_at [] (items_view items.now)) }
+{
+    let mut found = Vec::new(alloc);
+    for item in items {
+        let step = step_at(alloc, found.len(), item)?;
+        found.push(step)?;
+    }
+    Ok(found)
+}
