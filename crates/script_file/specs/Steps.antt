@@ -10,7 +10,7 @@ use Rattle.script_file.specs.declared.fault.ItemFault.{ItemFault}
 use Rattle.script_file.specs.declared.fault.ItemFault.TheVariants as one
 use Rattle.script_file.specs.declared.fault.ScriptFault.{ScriptFault}
 use Rattle.script_file.specs.declared.fault.ScriptFault.TheVariants as whole
-use Rattle.script_file.specs.declared.rows.Row.{Row}
+use Rattle.operators.specs.declared.row.Row.{Row}
 use Rattle.script_file.specs.Faults.{◌>>=◌, or_fault}
 use Rattle.script_file.specs.Numbers.{number_of, signed_number_of}
 

@@ -9,16 +9,11 @@ ghost use Rattle.serde_json.specs.View.{view, items_view};
 use crate::fault::{ItemFault, ScriptFault};
 use crate::members::{has_only, text_at, whole_at};
 use abs_codec::Text;
+use operators::Row;
 use serde_json::Value;
 use std::alloc::Global;
 
-/// A key of at most 1,024 bytes, and a value.
-#[derive(Debug, Drop, PartialEq, Eq)]
-pub struct Row {
-    pub k: Text,
-    pub v: i64,
-}
-
+/// A row's key has at most so many bytes.
 pub(crate) const MAX_KEY: usize = 1024;
 
 /// The row that an object `{"k": text, "v": number}` is.

@@ -8,8 +8,9 @@ ghost use Rattle.serde_json.specs.View.{view, items_view};
 
 use crate::fault::{ItemFault, ScriptFault};
 use crate::number::{number, signed_number};
-use crate::rows::{MAX_KEY, Row};
+use crate::rows::MAX_KEY;
 use abs_codec::Text;
+use operators::Row;
 use serde_json::Value;
 use std::alloc::Global;
 
