@@ -1,0 +1,3 @@
+pub mod Offered
+pub mod Made
+pub mod Queues

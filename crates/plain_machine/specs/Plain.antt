@@ -1,0 +1,81 @@
+-- The program's values, as a job and a configuration of the machine.
+use Rattle.std.specs.Prelude.{◌≡◌, ◌++◌, ℕ, List, [], map, slice_get, Option, Some, None, Vec}
+use Rattle.std.specs.BTreeMap as tree
+use Rattle.std.specs.declared.cmp.Ordering.{Ordering}
+use Rattle.plain_machine.specs.declared.job.Channel as code_channel
+use Rattle.plain_machine.specs.declared.job.Configuration as code_configuration
+use Rattle.plain_machine.specs.declared.job.Job as code_job
+use Rattle.plain_machine.specs.declared.job.Move as code_move
+use Rattle.plain_machine.specs.declared.job.Move.TheVariants as moves
+use Rattle.plain_machine.specs.declared.job.Route as code_route
+use Rattle.plain_machine.specs.declared.job.Route.TheVariants as routes
+use Rattle.plain_machine.specs.declared.job.Task as code_task
+use Rattle.plain_machine.specs.declared.job.Task.TheVariants as tasks
+use Rattle.plain_machine.specs.declared.job.TaskState as code_state
+use Rattle.dataflow_model.specs.Graph.{Meaning, Task, SourceTask, OperatorTask, SinkTask, Route, Every, Lanes, Channel, Job}
+use Rattle.dataflow_model.specs.Machine.{TaskState, Configuration, Move, Read, Work, mover, Takes, left, received, state_under, fresh_task}
+
+abbrev pub route_of : code_route.Route → Route
+route_of routes.Every = Every
+route_of (routes.Lanes share) = Lanes share.parallelism share.subtask
+
+abbrev pub channel_of : code_channel.Channel → Channel
+channel_of c = record { sender = c.sender; receiver = c.receiver; port = c.port; route = route_of c.route; marked = c.marked }
+
+abbrev pub task_of : {O : Type 0} → code_task.Task O → Task O
+task_of (tasks.Source partition) = SourceTask partition
+task_of (tasks.Operator operator) = OperatorTask operator
+task_of tasks.Sink = SinkTask
+
+abbrev pub move_of : code_move.Move → Move
+move_of (moves.Read task) = Read task
+move_of (moves.Work task input) = Work task input
+
+-- the records at a place, none where there is no place
+abbrev pub records_of : {R A : Type 0} → Option (Vec R A) → List R
+records_of None = []
+records_of (Some rows) = rows.items
+
+-- what a task holds, its states by the key that compares equal
+abbrev pub state_of : {R K S : Type 0} → (K → K → Ordering) → Option (code_state.TaskState R K S) → TaskState R K S
+state_of compare None = fresh_task
+state_of compare (Some held) = record { offset = held.offset; states = tree.get compare held.states; output = held.output.items }
+
+abbrev pub job_of : {O R K S : Type 0} → Meaning R K S O → code_job.Job O R → Job R K S O
+job_of meaning job =
+    record {
+      meaning = meaning;
+      graph = record { tasks = map task_of job.tasks.items; channels = map channel_of job.channels.items };
+      partitions = λ partition. records_of (slice_get job.partitions.items partition);
+    }
+
+abbrev pub configuration_of : {R K S : Type 0} → (K → K → Ordering) → code_configuration.Configuration R K S → Configuration R K S
+configuration_of compare configuration =
+    record {
+      tasks = λ task. state_of compare (slice_get configuration.tasks.items task);
+      channels = λ channel. records_of (slice_get configuration.channels.items channel);
+    }
+
+-- the records are what the channel holds after the move, in which its task sends
+abbrev pub IsQueueAfter : {O R K S : Type 0} → Meaning R K S O → code_job.Job O R → code_configuration.Configuration R K S → Move → List (ℕ × R) → ℕ → List R → Type 0
+IsQueueAfter meaning job configuration move sent number queue =
+    queue ≡ left move number (records_of (slice_get configuration.channels.items number)) ++ received meaning (mover move) sent (slice_get (map channel_of job.channels.items) number)
+
+abbrev pub IsOperator : {O : Type 0} → Option (Task O) → Type 0
+IsOperator None = ⊥
+IsOperator (Some (SourceTask partition)) = ⊥
+IsOperator (Some (OperatorTask operator)) = Unit {0}
+IsOperator (Some SinkTask) = ⊥
+
+module _ {R K S O : Type 0} where
+  -- the operator is not to be asked what it makes of the record in its key's state: one of the two is none that it takes
+  abbrev pub ApplyIsRefused : Meaning R K S O → (R → Type 0) → (O → S → Type 0) → O → R → (K → Option S) → Type 0
+  ApplyIsRefused meaning RecordFits IsGood operator r states = ¬ (RecordFits r × IsGood operator (state_under (meaning.key operator r) (meaning.fresh operator) states))
+
+  -- the move hands an operator what it does not take
+  pub record IsUnfit (job : Job R K S O) (RecordFits : R → Type 0) (IsGood : O → S → Type 0) (move : Move) (c : Configuration R K S) : Type 0 where
+    pub operator : O
+    pub taken : R
+    pub is_task : slice_get job.graph.tasks (mover move) ≡ Some (OperatorTask operator)
+    pub takes : Takes job move (OperatorTask operator) taken c
+    pub refused : ApplyIsRefused job.meaning RecordFits IsGood operator taken (c.tasks (mover move)).states

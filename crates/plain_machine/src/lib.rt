@@ -1,0 +1,16 @@
+//! The plain dataflow machine as a program: slow, and with nothing in it but the machine itself.
+//!
+//! It runs a job record by record, without barriers, checkpoints or failures, and with all channels copied at each step. Its contract is the
+//! machine of `dataflow_model`: `PlainMachine::step` makes exactly the step that a move asks for, or answers that the move is not possible, and
+//! `PlainMachine::run` goes where the moves lead. So it says what the sinks of a job are to put out. Tests compare the engine with it, and
+//! nothing that runs imports it.
+#![tactic(auto)]
+
+mod fault;
+mod job;
+mod machine;
+mod plain;
+
+pub use fault::PlainFault;
+pub use job::{Channel, Configuration, Job, Move, Route, Share, Task, TaskState};
+pub use machine::PlainMachine;
