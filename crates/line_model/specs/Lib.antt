@@ -1,0 +1,2 @@
+pub mod Line
+pub mod Laws
