@@ -1,5 +1,5 @@
 -- The rows of the partitions.
-use Rattle.std.specs.Prelude.{ℕ, ◌||◌, List, [], ◌∷◌, length, nat_lt, not, Option, Some, None, Result, Ok, Err, if◌then◌else◌, codes}
+use Rattle.std.specs.Prelude.{ℕ, ℤ, List, [], ◌∷◌, length, nat_lt, not, Option, Some, None, Result, Ok, Err, if◌then◌else◌, codes}
 use Rattle.serde_json.specs.Data.{Data, Items}
 use Rattle.serde_json.specs.Find.{as_array}
 use Rattle.script_file.specs.declared.fault.ItemFault.{ItemFault}
@@ -11,12 +11,16 @@ use Rattle.script_file.specs.Faults.{◌>>=◌, or_fault}
 use Rattle.script_file.specs.Json.{has_only, text_at, whole_at}
 use Rattle.script_file.specs.Lists.{each_after}
 
--- an object of exactly a text of at most 1,024 bytes and a whole number
+-- the row of a key that is short enough
+abbrev pub row_with : List ℕ → ℤ → Result Row ItemFault
+row_with key value = if nat_lt 1024 (length key) then Err one.Bad else Ok (record { k = key; v = value })
+
+-- an object of exactly a key of at most 1,024 bytes and a whole number
 unfoldable pub row_of : Data → Result Row ItemFault
 row_of d = do
   key ← or_fault one.Bad (text_at (codes "k") d)
   value ← or_fault one.Bad (whole_at (codes "v") d)
-  if nat_lt 1024 (length key) || not (has_only (codes "k" ∷ codes "v" ∷ []) d) then Err one.Bad else Ok (record { k = key; v = value })
+  if not (has_only (codes "k" ∷ codes "v" ∷ []) d) then Err one.Bad else row_with key value
 
 -- the row of this number in its partition
 abbrev pub of_place : ℕ → ℕ → Result Row ItemFault → Result Row ScriptFault

@@ -12,6 +12,7 @@ use Rattle.script_file.specs.declared.fault.ScriptFault.{ScriptFault}
 use Rattle.script_file.specs.declared.fault.ScriptFault.TheVariants as whole
 use Rattle.operators.specs.declared.row.Row.{Row}
 use Rattle.script_file.specs.Faults.{◌>>=◌, or_fault}
+use Rattle.script_file.specs.Rows.{row_with}
 use Rattle.script_file.specs.Numbers.{number_of, signed_number_of}
 
 -- what stands before the first space and after it
@@ -54,7 +55,8 @@ appended text = do
   partition ← number_of_text parts.0
   rest ← bad (cut parts.1)
   value ← signed_of_text rest.0
-  if nat_lt 1024 (length rest.1) then Err one.Bad else Ok (partition, record { k = rest.1; v = value })
+  row ← row_with rest.1 value
+  Ok (partition, row)
 
 -- the step of a word and what follows its space
 unfoldable pub step_with : List ℕ → List ℕ → Result Step ItemFault

@@ -14,5 +14,5 @@ mod step;
 
 pub use fault::{ItemFault, ScriptFault};
 pub use outline::{Outline, json_value, outline_of};
-pub use rows::partitions;
+pub use rows::{FittingRow, partitions, read_row};
 pub use step::{Step, parse_step, steps};

@@ -8,14 +8,12 @@ ghost use Rattle.serde_json.specs.View.{view, items_view};
 
 use crate::fault::{ItemFault, ScriptFault};
 use crate::number::{number, signed_number};
-use crate::rows::MAX_KEY;
-use abs_codec::Text;
-use operators::Row;
+use crate::rows::{FittingRow, fitting_row};
 use serde_json::Value;
 use std::alloc::Global;
 
 /// A call on the engine: a task's number `T`, the number `I` of one of its inputs, a sink's number `S`, a partition's `P`.
-#[derive(Debug, Drop, PartialEq, Eq)]
+#[derive(Debug, Drop)]
 pub enum Step {
     /// `read T`: the source sends its next record.
     Read(u32),
@@ -38,7 +36,7 @@ pub enum Step {
     /// `restart`: the job starts again from its last complete checkpoint.
     Restart,
     /// `append P V KEY`: the row is put last into the partition.
-    Append(u32, Row),
+    Append(u32, FittingRow),
 }
 
 /// What stands before the first space and after it.
@@ -68,18 +66,14 @@ fn two_numbers(text: &str) -> Result<(u32, u32), ItemFault>
 }
 
 #[tactic(auto, unfolding(crate::specs::Steps::appended))]
-fn appended(alloc: Global, text: &str) -> Result<(u32, Row), ItemFault>
+fn appended(alloc: Global, text: &str) -> Result<(u32, FittingRow), ItemFault>
     ensures { FindsItem (λ p. p) result (appended text.now) }
 {
     let (partition, rest) = cut(text)?;
     let partition = number_of(partition)?;
     let (value, key) = cut(rest)?;
     let v = signed_number_of(value)?;
-    if key.len() > MAX_KEY {
-        return Err(ItemFault::Bad);
-    }
-    let k = Text::from_str(alloc, key)?;
-    Ok((partition, Row { k, v }))
+    Ok((partition, fitting_row(alloc, key, v)?))
 }
 
 #[tactic(auto, unfolding(crate::specs::Steps::step_with))]
