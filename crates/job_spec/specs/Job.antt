@@ -1,9 +1,12 @@
 -- What a job file says.
-use Rattle.std.specs.Prelude.{◌≡◌, ℕ, ◌+◌, ◌<◌, ◌≤◌, ℤ, List, [], ◌∷◌, length, map, Bool, true, false, Some, slice_get, string_bytes, String, All}
+use Rattle.std.specs.Prelude.{◌≡◌, ℕ, ◌+◌, ◌<◌, ◌≤◌, ℤ, List, [], ◌∷◌, length, map, Bool, true, false, Some, slice_get, string_bytes, String, All, replicate, if◌then◌else◌}
+use Rattle.std.specs.List.{flat_map}
 use Rattle.std.specs.declared.alloc.Global.{Global}
 use Rattle.job_spec.specs.declared.vertex.Kind as code
 use Rattle.job_spec.specs.declared.vertex.Kind.TheVariants as kinds
 use Rattle.job_spec.specs.declared.vertex.VertexSpec.{VertexSpec}
+use Rattle.operators.specs.declared.row_op.RowOp.{RowOp}
+use Rattle.operators.specs.declared.row_op.RowOp.TheVariants as ops
 use Rattle.job_spec.specs.declared.edge.EdgeRoute.TheVariants.{Forward, Hash}
 use Rattle.job_spec.specs.declared.edge.EdgeSpec.{EdgeSpec}
 
@@ -31,18 +34,21 @@ pub record Job : Type 0 where
   pub vertices : List Vertex
   pub edges : List EdgeSpec
 
+abbrev pub operator_view : RowOp → Kind
+operator_view (ops.Add n) = add n
+operator_view (ops.Rekey k) = rekey k.text
+operator_view (ops.FilterGe n) = filter_ge n
+operator_view (ops.FilterLt n) = filter_lt n
+operator_view (ops.Split n) = split n
+operator_view ops.Count = count
+operator_view ops.Sum = sum
+operator_view (ops.Window n) = window n.n
+operator_view ops.LoopDown = loop_down
+
 abbrev pub kind_view : code.Kind → Kind
 kind_view kinds.Source = source
 kind_view kinds.Sink = sink
-kind_view (kinds.Add n) = add n
-kind_view (kinds.Rekey k) = rekey (string_bytes k)
-kind_view (kinds.FilterGe n) = filter_ge n
-kind_view (kinds.FilterLt n) = filter_lt n
-kind_view (kinds.Split n) = split n
-kind_view kinds.Count = count
-kind_view kinds.Sum = sum
-kind_view (kinds.Window n) = window n
-kind_view kinds.LoopDown = loop_down
+kind_view (kinds.Operator op) = operator_view op
 
 abbrev pub vertex_view : String Global × VertexSpec → Vertex
 vertex_view e = record { name = string_bytes e.0; kind = kind_view e.1.kind; parallelism = e.1.parallelism }
@@ -59,6 +65,11 @@ is_source _ = false
 abbrev pub is_sink : Kind → Bool
 is_sink sink = true
 is_sink _ = false
+
+abbrev pub is_operator : Kind → Bool
+is_operator source = false
+is_operator sink = false
+is_operator _ = true
 
 -- it keeps a state for each key
 abbrev pub is_keyed : Kind → Bool
@@ -98,3 +109,13 @@ pub record IsJob (job : Job) : Type 0 where
   pub few_edges : length job.edges ≤ 256
   pub vertices : All IsVertex job.vertices
   pub edges : All (IsEdge job.vertices) job.edges
+
+-- ---- operators
+
+-- the operators of a vertex, one a subtask
+abbrev pub operators_in : Vertex → List Kind
+operators_in vertex = if is_operator vertex.kind then replicate vertex.parallelism vertex.kind else []
+
+-- an operator for each operator task
+abbrev pub operators_of : Job → List Kind
+operators_of job = flat_map operators_in job.vertices

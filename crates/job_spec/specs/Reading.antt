@@ -102,33 +102,46 @@ name_at key d = do
 
 -- ---- vertices
 
-abbrev pub with_number : (ℤ → Kind) → Data → Result Kind JobFault
-with_number kind d = do
+-- an operator's parameter: any number of 64 bits, a row's key, or a window's size
+abbrev pub any_number : Data → Result ℤ JobFault
+any_number d = do
   found ← member_at (codes "n") d
-  n ← whole found
-  Ok (kind n)
+  whole found
 
--- the kind that a word names, with its parameter
+abbrev pub row_key : Data → Result (List ℕ) JobFault
+row_key d = do
+  found ← member_at (codes "k") d
+  key ← text found
+  if nat_le (length key) 1024 then Ok key else Err faults.BadField
+
+abbrev pub window_size : Data → Result ℕ JobFault
+window_size d = do
+  found ← member_at (codes "n") d
+  number 1 1024 found
+
+abbrev pub made : {A : Type 0} → (A → Kind) → Result A JobFault → Result Kind JobFault
+made kind (Ok parameter) = Ok (kind parameter)
+made kind (Err e) = Err e
+
+-- the operator that a word names, with its parameter
+unfoldable pub operator_at : List ℕ → Data → Result Kind JobFault
+operator_at word d =
+    if bytes_eq word (codes "add") then made add (any_number d)
+    else (if bytes_eq word (codes "rekey") then made rekey (row_key d)
+    else (if bytes_eq word (codes "filter_ge") then made filter_ge (any_number d)
+    else (if bytes_eq word (codes "filter_lt") then made filter_lt (any_number d)
+    else (if bytes_eq word (codes "split") then made split (any_number d)
+    else (if bytes_eq word (codes "count") then Ok count
+    else (if bytes_eq word (codes "sum") then Ok sum
+    else (if bytes_eq word (codes "window") then made window (window_size d)
+    else (if bytes_eq word (codes "loop_down") then Ok loop_down
+    else Err faults.BadField))))))))
+
 unfoldable pub kind_at : List ℕ → Data → Result Kind JobFault
 kind_at word d =
     if bytes_eq word (codes "source") then Ok source
     else (if bytes_eq word (codes "sink") then Ok sink
-    else (if bytes_eq word (codes "add") then with_number add d
-    else (if bytes_eq word (codes "rekey") then (do
-      found ← member_at (codes "k") d
-      key ← text found
-      if nat_le (length key) 1024 then Ok (rekey key) else Err faults.BadField)
-    else (if bytes_eq word (codes "filter_ge") then with_number filter_ge d
-    else (if bytes_eq word (codes "filter_lt") then with_number filter_lt d
-    else (if bytes_eq word (codes "split") then with_number split d
-    else (if bytes_eq word (codes "count") then Ok count
-    else (if bytes_eq word (codes "sum") then Ok sum
-    else (if bytes_eq word (codes "window") then (do
-      found ← member_at (codes "n") d
-      n ← number 1 1024 found
-      Ok (window n))
-    else (if bytes_eq word (codes "loop_down") then Ok loop_down
-    else Err faults.BadField))))))))))
+    else operator_at word d)
 
 abbrev pub parameter_names : Kind → List (List ℕ)
 parameter_names source = []

@@ -3,8 +3,11 @@
 use crate::edge::EdgeSpec;
 use crate::fault::JobFault;
 use crate::reading::job_of;
+use crate::subtasks::{operators_of, vertex_at};
 use crate::vertex::VertexSpec;
+use abs_codec::NoMemory;
 use indexmap::IndexMap;
+use operators::RowOp;
 use std::alloc::Global;
 use std::marker::Model;
 
@@ -28,8 +31,8 @@ impl Model for JobSpec {
 }
 
 impl JobSpec {
-    ghost use Rattle.std.specs.Prelude.{◌≡◌, length, option_map, slice_get};
-    ghost use Rattle.job_spec.specs.Job.{IsJob, vertex_view};
+    ghost use Rattle.std.specs.Prelude.{◌≡◌, ◌<◌, IfOk, Some, length, map, slice_get};
+    ghost use Rattle.job_spec.specs.Job.{IsJob, vertex_view, operator_view, operators_of};
     ghost use Rattle.job_spec.specs.Reading.{Gives, job_of};
 
     /// Reads a job file.
@@ -49,11 +52,19 @@ impl JobSpec {
         self.vertices.len()
     }
 
-    /// A vertex with its name; `None` if there is none of this number.
-    pub fn vertex(&self, number: usize) -> Option<(&String, &VertexSpec)>
-        ensures { option_map (λ v. vertex_view (v.0.now, v.1.now)) result ≡ slice_get self.now.vertices number }
+    /// The name of a vertex, and what it is.
+    pub fn vertex(&self, number: usize) -> (&String, &VertexSpec)
+        requires { number < length self.now.vertices }
+        ensures { slice_get self.now.vertices number ≡ Some (vertex_view (result.0.now, result.1.now)) }
     {
-        self.vertices.get_index(number)
+        vertex_at(&self.vertices, number)
+    }
+
+    /// An operator for each operator task, in task order.
+    pub fn operators(&self, alloc: Global) -> Result<Vec<RowOp>, NoMemory>
+        ensures { IfOk result (λ v. map operator_view v.items ≡ operators_of self.now) }
+    {
+        operators_of(alloc, &self.vertices)
     }
 
     pub fn edges(&self) -> &[EdgeSpec]

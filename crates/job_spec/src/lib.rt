@@ -7,6 +7,7 @@ mod fault;
 mod job;
 mod members;
 mod reading;
+mod subtasks;
 mod vertex;
 mod vertices;
 

@@ -1,6 +1,6 @@
 //! The members of an object, by their types.
 
-ghost use Rattle.std.specs.Prelude.{◌≡◌, map, string_bytes};
+ghost use Rattle.std.specs.Prelude.{◌≡◌, ◌≤◌, IfOk, map, string_bytes};
 ghost use Rattle.std.specs.List.{list_any, list_all};
 ghost use Rattle.std.specs.Str.{bytes_eq};
 ghost use Rattle.std.specs.BTreeMap.{keys};
@@ -57,7 +57,9 @@ pub(crate) fn whole(value: &Value) -> Result<i64, JobFault>
 }
 
 pub(crate) fn number(value: &Value, low: u32, high: u32) -> Result<u32, JobFault>
-    ensures { Gives (λ n. n) result (number low high (view value.now)) }
+    ensures value { Gives (λ n. n) result (number low high (view value.now)) }
+    ensures low { IfOk result (λ n. low ≤ n) }
+    ensures high { IfOk result (λ n. n ≤ high) }
 {
     let n = whole(value)?;
     match u32::try_from(n) {

@@ -1,19 +1,13 @@
 //! Vertices.
 
+use operators::RowOp;
+
 /// What a vertex is, with its parameter.
 #[derive(Debug, Drop, PartialEq)]
 pub enum Kind {
     Source,
     Sink,
-    Add(i64),
-    Rekey(String),
-    FilterGe(i64),
-    FilterLt(i64),
-    Split(i64),
-    Count,
-    Sum,
-    Window(u32),
-    LoopDown,
+    Operator(RowOp),
 }
 
 impl Kind {
@@ -36,7 +30,10 @@ impl Kind {
     pub fn is_keyed(&self) -> bool
         ensures { result ≡ is_keyed (kind_view self.now) }
     {
-        matches!(self, Kind::Count | Kind::Sum | Kind::Window(_))
+        matches!(
+            self,
+            Kind::Operator(RowOp::Count | RowOp::Sum | RowOp::Window { .. })
+        )
     }
 
     /// How many ports it sends on.
@@ -45,7 +42,7 @@ impl Kind {
     {
         match self {
             Kind::Sink => 0,
-            Kind::Split(_) | Kind::LoopDown => 2,
+            Kind::Operator(RowOp::Split { .. } | RowOp::LoopDown) => 2,
             _ => 1,
         }
     }

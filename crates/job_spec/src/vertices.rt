@@ -1,8 +1,8 @@
 //! The vertices of a job file.
 
 ghost use Rattle.std.specs.Prelude.{◌≡◌, map, []};
-ghost use Rattle.job_spec.specs.Job.{kind_view, vertex_view, vertices_view};
-ghost use Rattle.job_spec.specs.Reading.{Gives, kind_at, member_names, vertex_at, vertices_after, optional, number};
+ghost use Rattle.job_spec.specs.Job.{kind_view, operator_view, vertex_view, vertices_view};
+ghost use Rattle.job_spec.specs.Reading.{Gives, kind_at, operator_at, any_number, row_key, window_size, member_names, vertex_at, vertices_after, optional, number};
 ghost use Rattle.serde_json.specs.Find.{get};
 ghost use Rattle.serde_json.specs.View.{view, items_view};
 ghost use Rattle.std.specs.Prelude.{codes};
@@ -10,11 +10,65 @@ ghost use Rattle.std.specs.Prelude.{codes};
 use crate::fault::JobFault;
 use crate::members::{has_only, member, name, number, text, whole};
 use crate::vertex::{Kind, VertexSpec};
+use abs_codec::Text;
 use indexmap::IndexMap;
+use operators::{KEY_LIMIT, RowKey, RowOp, WINDOW_LIMIT, WindowSize};
 use serde_json::Value;
 use std::alloc::Global;
 
-const MAX_KEY: usize = 1024;
+/// An operator's parameter that is any number of 64 bits.
+fn any_number(value: &Value) -> Result<i64, JobFault>
+    ensures { Gives (λ n. n) result (any_number (view value.now)) }
+{
+    whole(member(value, "n")?)
+}
+
+fn row_key(alloc: Global, value: &Value) -> Result<RowKey, JobFault>
+    ensures { Gives (λ key. key.text) result (row_key (view value.now)) }
+{
+    let key = text(member(value, "k")?)?;
+    if key.len() > KEY_LIMIT as usize {
+        return Err(JobFault::BadField);
+    }
+    RowKey::new(Text::from_str(alloc, key)?).ok_or(JobFault::BadField)
+}
+
+fn window_size(value: &Value) -> Result<WindowSize, JobFault>
+    ensures { Gives (λ size. size.n) result (window_size (view value.now)) }
+{
+    let n = number(member(value, "n")?, 1, WINDOW_LIMIT)?;
+    WindowSize::new(n).ok_or(JobFault::BadField)
+}
+
+#[tactic(auto, unfolding(crate::specs::Reading::operator_at))]
+fn operator_of(alloc: Global, word: &str, value: &Value) -> Result<RowOp, JobFault>
+    ensures { Gives operator_view result (operator_at word.now (view value.now)) }
+{
+    match word {
+        "add" => Ok(RowOp::Add {
+            n: any_number(value)?,
+        }),
+        "rekey" => Ok(RowOp::Rekey {
+            k: row_key(alloc, value)?,
+        }),
+        "filter_ge" => Ok(RowOp::FilterGe {
+            n: any_number(value)?,
+        }),
+        "filter_lt" => Ok(RowOp::FilterLt {
+            n: any_number(value)?,
+        }),
+        "split" => Ok(RowOp::Split {
+            n: any_number(value)?,
+        }),
+        "count" => Ok(RowOp::Count),
+        "sum" => Ok(RowOp::Sum),
+        "window" => Ok(RowOp::Window {
+            n: window_size(value)?,
+        }),
+        "loop_down" => Ok(RowOp::LoopDown),
+        _ => Err(JobFault::BadField),
+    }
+}
 
 #[tactic(auto, unfolding(crate::specs::Reading::kind_at))]
 fn kind_of(alloc: Global, word: &str, value: &Value) -> Result<Kind, JobFault>
@@ -23,22 +77,7 @@ fn kind_of(alloc: Global, word: &str, value: &Value) -> Result<Kind, JobFault>
     match word {
         "source" => Ok(Kind::Source),
         "sink" => Ok(Kind::Sink),
-        "add" => Ok(Kind::Add(whole(member(value, "n")?)?)),
-        "rekey" => {
-            let key = text(member(value, "k")?)?;
-            if key.len() > MAX_KEY {
-                return Err(JobFault::BadField);
-            }
-            Ok(Kind::Rekey(String::from_str(alloc, key)?))
-        }
-        "filter_ge" => Ok(Kind::FilterGe(whole(member(value, "n")?)?)),
-        "filter_lt" => Ok(Kind::FilterLt(whole(member(value, "n")?)?)),
-        "split" => Ok(Kind::Split(whole(member(value, "n")?)?)),
-        "count" => Ok(Kind::Count),
-        "sum" => Ok(Kind::Sum),
-        "window" => Ok(Kind::Window(number(member(value, "n")?, 1, 1024)?)),
-        "loop_down" => Ok(Kind::LoopDown),
-        _ => Err(JobFault::BadField),
+        _ => Ok(Kind::Operator(operator_of(alloc, word, value)?)),
     }
 }
 
@@ -46,13 +85,11 @@ fn member_names(kind: &Kind) -> &'static [&'static str]
     ensures { map (λ n. n.now) result.now ≡ member_names (kind_view kind.now) }
 {
     match kind {
-        Kind::Rekey(_) => &["name", "kind", "parallelism", "k"],
-        Kind::Add(_) | Kind::FilterGe(_) | Kind::FilterLt(_) | Kind::Split(_) | Kind::Window(_) => {
-            &["name", "kind", "parallelism", "n"]
-        }
-        Kind::Source | Kind::Sink | Kind::Count | Kind::Sum | Kind::LoopDown => {
+        Kind::Operator(RowOp::Rekey { .. }) => &["name", "kind", "parallelism", "k"],
+        Kind::Operator(RowOp::Count | RowOp::Sum | RowOp::LoopDown) | Kind::Source | Kind::Sink => {
             &["name", "kind", "parallelism"]
         }
+        Kind::Operator(_) => &["name", "kind", "parallelism", "n"],
     }
 }
 
