@@ -1,4 +1,8 @@
 pub mod Operator
+pub mod Chains
+pub mod ChainLaws
+pub mod Picks
+pub mod PickLaws
 pub mod RowSpelling
 pub mod RowCode
 pub mod Lanes

@@ -5,6 +5,7 @@ ghost use Rattle.std.specs.Ordering.{is_eq};
 ghost use Rattle.abs_codec.specs.Same.{EqualIsSame};
 ghost use Rattle.abs_codec.specs.Spelling.{Fits};
 ghost use Rattle.dataflow_model.specs.Graph.{Meaning};
+ghost use Rattle.operators.specs.Chains.{HasNoKeys};
 ghost use Rattle.operators.specs.Operator.{OrderIsExact, KeysFit, KeysHaveLanes, IsGoodState, FreshIsGood, StatesStayGood, SentFits, KeylessKeepsFresh};
 
 use abs_codec::{Codec, NoMemory};
@@ -91,4 +92,9 @@ pub trait Operator: Eq + Drop {
     ghost sent_fits: { SentFits meaning (Fits Self.Record.HasSpelling Self.Record.spelling) (Fits Self.State.HasSpelling Self.State.spelling) Suits };
 
     ghost keyless_keeps_fresh: { KeylessKeepsFresh meaning };
+}
+
+/// An operator without keys: it keeps no state from record to record.
+pub trait Stateless: Operator {
+    ghost has_no_keys: { HasNoKeys Self.meaning };
 }
