@@ -6,6 +6,7 @@ ghost use Rattle.abs_codec.specs.Same.{EqualIsSame};
 ghost use Rattle.abs_codec.specs.declared.text.Text.{Text};
 
 use crate::items::Items;
+use crate::map::Map;
 use crate::text::{Bytes, Text};
 
 /// Texts that compare equal are one text.
@@ -22,6 +23,11 @@ pub fn equal_bytes_are_one()
 /// Where that holds of the items, it holds of lists of them.
 pub fn equal_items_are_one<T: PartialEq>()
     ensures { EqualIsSame T.eq → EqualIsSame ⟦<Items<T> as PartialEq>⟧.eq }
+{}
+
+/// Where that holds of the keys and the values, it holds of maps.
+pub fn equal_maps_are_one<K: Ord, V: PartialEq>()
+    ensures { EqualIsSame K.eq → EqualIsSame V.eq → EqualIsSame ⟦<Map<K, V> as PartialEq>⟧.eq }
 {}
 
 /// Numbers that compare equal are one number.
