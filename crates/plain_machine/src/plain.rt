@@ -159,6 +159,26 @@ impl<O: Operator> PlainMachine<O, O::Record, O::Key, O::State> {
         Ok(PlainMachine { job, configuration })
     }
 
+    /// What the task has put out, which is nothing unless it is a sink.
+    pub fn output(&self, task: usize) -> &[O::Record]
+        ensures { result.now ≡ ((configuration_of O.Key.cmp self.now.configuration).tasks task).output }
+    {
+        match self.configuration.tasks.get(task) {
+            Some(held) => &held.output,
+            None => &[],
+        }
+    }
+
+    /// What stands in the channel, which is nothing if there is no such channel.
+    pub fn channel(&self, number: usize) -> &[O::Record]
+        ensures { result.now ≡ (configuration_of O.Key.cmp self.now.configuration).channels number }
+    {
+        match self.configuration.channels.get(number) {
+            Some(queue) => queue,
+            None => &[],
+        }
+    }
+
     /// A source's next record.
     fn next_record(&self, task: usize) -> Option<&O::Record>
         ensures { option_copied result ≡ offered (job_of O.meaning self.now.job) (Read task) (configuration_of O.Key.cmp self.now.configuration) }
