@@ -1,10 +1,8 @@
 //! The gate of a task.
 
-ghost use Rattle.std.specs.Prelude.{◌≡◌, ◌<◌, ◌≤◌, ◌-◌, ◌&&◌, ℕ, List, length, map, count_by, not, false, IfOk};
-ghost use Rattle.alignment.specs.declared.input.Input.{Input};
-ghost use Rattle.alignment.specs.declared.input.Phase.{Phase};
+ghost use Rattle.std.specs.Prelude.{◌≡◌, ◌<◌, length, map, not, false, IfOk};
 ghost use Rattle.alignment.specs.declared.input.Phase.TheVariants.{AtRest};
-ghost use Rattle.alignment.specs.Inputs.{fresh, input_at, with_barrier, without_barriers, missing_unmarked, missing_marked};
+ghost use Rattle.alignment.specs.Inputs.{fresh, input_at, with_barrier, without_barriers};
 ghost use Rattle.alignment.specs.Table.{IsFor, IsKept, has_copied, at_unmarked, at_marked, effect_of, after, is_blocked, is_logged};
 
 use crate::input::{Effect, Input, Phase};
@@ -96,7 +94,7 @@ impl Gate {
         matches!(self.phase, Phase::Copied(_)) && input.is_marked && !input.came
     }
 
-    /// The input's barrier of this number is taken.
+    /// The input's barrier of this number is taken. A number's last barrier takes time linear in the inputs, all others constant time.
     pub fn barrier(&mut self, input: u32, number: u64) -> Effect
         requires within { input < length self.old.inputs }
         requires awaited { (input_at self.old.inputs input).came ≡ false }

@@ -1,6 +1,6 @@
 //! A finite map, and the map as it was at `freeze`.
 
-ghost use Rattle.std.specs.Prelude.{◌≡◌, ◌≢◌, ◌↔◌, [], ◌++◌, length, slice_get, option_map, is_some, IsTrue, OnOk, OnErr, IfErr, if◌then◌else◌};
+ghost use Rattle.std.specs.Prelude.{◌≡◌, ◌≢◌, ◌↔◌, [], ◌++◌, length, slice_get, option_map, is_some, IsTrue, OnSome, OnOk, OnErr, IfErr, if◌then◌else◌};
 ghost use Rattle.std.specs.Option.{option_copied};
 ghost use Rattle.std.specs.List.Sorted.{IsStrictlySortedBy};
 ghost use Rattle.std.specs.Map.{keys_of};
@@ -98,14 +98,17 @@ impl<K: Ord, S> KeyedState<K, S> {
 
     /// The first entry of the frozen map whose key is above this one, or the first of all.
     pub fn frozen_next(&self, after: Option<&K>) -> Option<(&K, &S)>
-        ensures { option_map deref_pair result ≡ slice_get (entries_above K.cmp (option_copied after.entry) (frozen_entries self.now)) 0 }
+        ensures first { option_map deref_pair result ≡ slice_get (entries_above K.cmp (option_copied after.entry) (frozen_entries self.now)) 0 }
+        // The keys rise.
+        ensures ordered { OnSome result (IsStrictlySortedBy K.cmp (keys_of (frozen_entries self.now))) }
     {
-        let frozen = self.frozen.as_ref()?.as_btree_map();
+        let frozen = self.frozen.as_ref()?;
         match after {
             Some(key) => frozen
+                .as_btree_map()
                 .range((Bound::Excluded(key), Bound::Unbounded))
                 .next(),
-            None => frozen.first_key_value(),
+            None => frozen.iter().next(),
         }
     }
 
