@@ -14,7 +14,7 @@ use Rattle.job_spec.specs.declared.edge.EdgeSpec.{EdgeSpec}
 use Rattle.job_spec.specs.declared.edge.EdgeRoute.{EdgeRoute}
 use Rattle.job_spec.specs.declared.edge.EdgeRoute.TheVariants.{Forward, Hash, Broadcast}
 use Rattle.job_spec.specs.Job.{Kind, Vertex, Job, IsVertex, IsEdge, IsJob, is_source, is_sink, is_keyed, ports}
-use Rattle.job_spec.specs.Reading.{◌>>=◌, Gives, or_fault, wanted, member_at, text, flag, whole, within, number, optional, is_name, name_at, kind_at, has_only, member_names, vertex_at, is_named, vertices_after, route, numbered, is_forward, is_hash, checked, edge_names, edge_at, edges_after, list, lists_at, value_at, job_of}
+use Rattle.job_spec.specs.Reading.{◌>>=◌, Gives, or_fault, wanted, member_at, text, flag, whole, within, number, optional, is_name, name_at, kind_at, has_only, member_names, vertex_at, is_named, vertices_after, route, numbered, is_forward, is_hash, checked, edge_names, edge_at, edges_after, list, lists_at, job_at}
 
 bind_ok : {A B : Type 0} (r : Result A JobFault) (f : A → Result B JobFault) (y : B) → (r >>= f) ≡ Ok y → (x : A) × (r ≡ Ok x) × (f x ≡ Ok y)
 bind_ok (Ok x) f y h = (x, refl, h)
@@ -282,19 +282,18 @@ job_1 lists vs = edges_after vs [] lists.1 >>= job_2 vs
 abbrev job_0 : Items × Items → Result Job JobFault
 job_0 lists = vertices_after [] lists.0 >>= job_1 lists
 
--- what a job file says is a job
-pub job_is : (bytes : List ℕ) (j : Job) → job_of bytes ≡ Ok j → IsJob j
-unfolding job_of
-job_is bytes j h =
-    let d = bind_ok (value_at bytes) (λ v. lists_at v >>= job_0) j h in
-    let lists = bind_ok (lists_at d.0) job_0 j d.2 in
+-- what the value of a job file says is a job
+job_is : (d : Data) (j : Job) → job_at d ≡ Ok j → IsJob j
+unfolding job_at
+job_is d j h =
+    let lists = bind_ok (lists_at d) job_0 j h in
     let vs = bind_ok (vertices_after [] lists.0.0) (job_1 lists.0) j lists.2 in
     let es = bind_ok (edges_after vs.0 [] lists.0.1) (job_2 vs.0) j vs.2 in
     let made : Job = record { vertices = vs.0; edges = es.0 } in
     let same : made ≡ j = ok_same made j es.2 in
     let vertices = vertices_are [] lists.0.0 vs.0 vs.1 tt in
     let edges = edges_are vs.0 [] lists.0.1 es.0 es.1 tt in
-    let short = lists_within d.0 lists.0 lists.1 in
+    let short = lists_within d lists.0 lists.1 in
     subst IsJob same (record {
       few_vertices = (let few : length vs.0 ≤ 256 = omega arith in few);
       few_edges = (let few : length es.0 ≤ 256 = omega arith in few);
@@ -302,6 +301,6 @@ job_is bytes j h =
       edges = All-from_recursion _ _ edges.0;
     })
 
-pub gives_job : {X : Type 0} (view : X → Job) (bytes : List ℕ) (r : Result X JobFault) → Gives view r (job_of bytes) → IfOk r (λ x. IsJob (view x))
-gives_job view bytes (Ok x) h = job_is bytes (view x) h
-gives_job view bytes (Err e) h = tt
+pub gives_job : {X : Type 0} (view : X → Job) (d : Data) (r : Result X JobFault) → Gives view r (job_at d) → IfOk r (λ x. IsJob (view x))
+gives_job view d (Ok x) h = job_is d (view x) h
+gives_job view d (Err e) h = tt

@@ -249,11 +249,14 @@ lists_at d = do
   es ← list 0 256 edges
   if has_only (codes "vertices" ∷ codes "edges" ∷ []) d then Ok (vs, es) else Err faults.BadField
 
--- what a job file says, or the first fault of it
-unfoldable pub job_of : List ℕ → Result Job JobFault
-job_of bytes = do
-  d ← value_at bytes
+-- what the value of a job file says, or the first fault of it
+unfoldable pub job_at : Data → Result Job JobFault
+job_at d = do
   lists ← lists_at d
   vs ← vertices_after [] lists.0
   es ← edges_after vs [] lists.1
   Ok (record { vertices = vs; edges = es })
+
+-- what a job file says, or the first fault of it
+unfoldable pub job_of : List ℕ → Result Job JobFault
+job_of bytes = value_at bytes >>= job_at

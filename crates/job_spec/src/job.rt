@@ -2,12 +2,13 @@
 
 use crate::edge::EdgeSpec;
 use crate::fault::JobFault;
-use crate::reading::job_of;
+use crate::reading::{job_at, parse};
 use crate::subtasks::{operators_of, vertex_at};
 use crate::vertex::VertexSpec;
 use abs_codec::NoMemory;
 use indexmap::IndexMap;
 use operators::RowOp;
+use serde_json::Value;
 use std::alloc::Global;
 use std::marker::Model;
 
@@ -33,14 +34,25 @@ impl Model for JobSpec {
 impl JobSpec {
     ghost use Rattle.std.specs.Prelude.{◌≡◌, ◌<◌, IfOk, Some, length, map, slice_get};
     ghost use Rattle.job_spec.specs.Job.{IsJob, vertex_view, operator_view, operators_of};
-    ghost use Rattle.job_spec.specs.Reading.{Gives, job_of};
+    ghost use Rattle.job_spec.specs.Reading.{Gives, job_at, job_of};
+    ghost use Rattle.serde_json.specs.View.{view};
 
     /// Reads a job file.
+    #[tactic(auto, unfolding(crate::specs::Reading::job_of))]
     pub fn read(alloc: Global, bytes: &[u8]) -> Result<JobSpec, JobFault>
         // The job, or the first fault.
         ensures { Gives (λ job. job) result (job_of bytes.now) }
     {
-        let (vertices, edges) = job_of(alloc, bytes)?;
+        let value = parse(alloc, bytes)?;
+        JobSpec::read_value(alloc, &value)
+    }
+
+    /// Reads the JSON value of a job file.
+    pub fn read_value(alloc: Global, value: &Value) -> Result<JobSpec, JobFault>
+        // The job, or the first fault.
+        ensures { Gives (λ job. job) result (job_at (view value.now)) }
+    {
+        let (vertices, edges) = job_at(alloc, value)?;
         Ok(JobSpec { vertices, edges })
     }
 

@@ -1,6 +1,6 @@
 //! Reads a job file.
 
-ghost use Rattle.job_spec.specs.Reading.{Gives, value_at, list, lists_at, job_of};
+ghost use Rattle.job_spec.specs.Reading.{Gives, value_at, list, lists_at, job_at};
 ghost use Rattle.std.specs.Prelude.{◌≡◌, ◌&&◌, nat_le, IfOk};
 ghost use Rattle.serde_json.specs.Events.{items_len};
 ghost use Rattle.serde_json.specs.View.{view, items_view};
@@ -64,27 +64,26 @@ fn lists(value: &Value) -> Result<(&Vec<Value>, &Vec<Value>), JobFault>
     }
 }
 
-#[tactic(auto, unfolding(crate::specs::Reading::job_of))]
-fn parts_of(
+#[tactic(auto, unfolding(crate::specs::Reading::job_at))]
+fn parts_at(
     alloc: Global,
-    bytes: &[u8],
+    value: &Value,
 ) -> Result<(IndexMap<String, VertexSpec>, Vec<EdgeSpec>), JobFault>
-    ensures { Gives (λ j. record { vertices = vertices_view j.0.entries; edges = j.1.items }) result (job_of bytes.now) }
+    ensures { Gives (λ j. record { vertices = vertices_view j.0.entries; edges = j.1.items }) result (job_at (view value.now)) }
 {
-    let value = parse(alloc, bytes)?;
-    let (vertex_items, edge_items) = lists(&value)?;
+    let (vertex_items, edge_items) = lists(value)?;
     let vertices = vertices(alloc, vertex_items)?;
     let edges = edges(alloc, &vertices, edge_items)?;
     Ok((vertices, edges))
 }
 
-/// The vertices and edges of a job file.
-pub(crate) fn job_of(
+/// The vertices and edges that the value of a job file has.
+pub(crate) fn job_at(
     alloc: Global,
-    bytes: &[u8],
+    value: &Value,
 ) -> Result<(IndexMap<String, VertexSpec>, Vec<EdgeSpec>), JobFault>
-    ensures exact { Gives (λ j. record { vertices = vertices_view j.0.entries; edges = j.1.items }) result (job_of bytes.now) }
+    ensures exact { Gives (λ j. record { vertices = vertices_view j.0.entries; edges = j.1.items }) result (job_at (view value.now)) }
     ensures job { IfOk result (λ j. IsJob (record { vertices = vertices_view j.0.entries; edges = j.1.items })) }
 {
-    parts_of(alloc, bytes)
+    parts_at(alloc, value)
 }
