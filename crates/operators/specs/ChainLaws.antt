@@ -1,5 +1,5 @@
 -- The laws of a chain.
-use Rattle.std.proofs.Common.{◌≡◌, ◌+◌, ◌-◌, ◌≤◌, ℕ, false, List, [], ◌∷◌, ap, subst, arith}
+use Rattle.std.proofs.Common.{◌≡◌, ◌+◌, ◌-◌, ◌≤◌, ℕ, false, List, [], ◌∷◌, arith}
 use Rattle.std.specs.Prelude.{◌==◌}
 use Rattle.std.specs.List.{All, flat_map}
 use Rattle.std.proofs.lemmas.List.Elements.{All-nil, All-cons, All-append, All-head, All-tail}
@@ -38,10 +38,3 @@ module _ {R K S A L T B C : Type 0} where
   chain_sent_fits a b first second RecordFits StateFits FitsInSecond SuitsFirst SuitsSecond sent_a sent_b fresh_b op s r good fits =
       All-flat_map (MayBeSent RecordFits (a.ports (first op))) (MayBeSent RecordFits (b.ports (second op) + a.ports (first op) - 1)) (passed_on b (second op)) (a.apply (first op) s r).sent
       (passed_on_fits a b RecordFits FitsInSecond SuitsSecond sent_b fresh_b (first op) (second op)) (sent_a (first op) s r good fits)
-
--- values that are made of two parts and a fact about them are the same where the parts are
-pub same_parts : {A B C : Type 0} {P : A → B → Type 0} (make : (a : A) (b : B) → P a b → C) → ((a : A) (b : B) (p q : P a b) → p ≡ q) → (a a' : A) (b b' : B) (p : P a b) (q : P a' b') → a ≡ a' → b ≡ b' → make a b p ≡ make a' b' q
-same_parts {A} {B} {C} {P} make one a a' b b' p q e e' =
-    let Q : A → Type 0 = λ x. (h : P x b) → make a b p ≡ make x b h in
-    let S : B → Type 0 = λ y. (h : P a' y) → make a b p ≡ make a' y h in
-    subst S e' (subst Q e (λ h. ap (make a b) (one a b p h))) q

@@ -1,4 +1,5 @@
 pub mod Operator
+pub mod Exact
 pub mod Chains
 pub mod ChainLaws
 pub mod Picks

@@ -42,3 +42,14 @@ module _ {R K S O : Type 0} where
   -- a record without a key leaves the fresh state as it is
   abbrev pub KeylessKeepsFresh : Meaning R K S O → Type 0
   KeylessKeepsFresh meaning = (op : O) (r : R) → meaning.key op r ≡ None → (meaning.apply op (meaning.fresh op) r).state ≡ meaning.fresh op
+
+-- a value that means what a part of it means
+abbrev pub meaning_by : {R K S O P : Type 0} → (P → O) → Meaning R K S O → Meaning R K S P
+meaning_by part meaning = record {
+  same_key = meaning.same_key;
+  lane = meaning.lane;
+  key = λ op. meaning.key (part op);
+  ports = λ op. meaning.ports (part op);
+  fresh = λ op. meaning.fresh (part op);
+  apply = λ op. meaning.apply (part op);
+}

@@ -14,10 +14,11 @@ use lib.Pointwise.{pointwise}
 use Rattle.abs_codec.specs.Same.{EqualIsSame, equal_integers, equal_numbers, equal_bytes, equal_lists}
 use Rattle.abs_codec.specs.Spelling.{Fits, bytes_spelling, signed_spelling, IsTextWithin}
 use Rattle.dataflow_model.specs.Graph.{Outcome}
+use Rattle.operators.specs.Exact.{same_part}
 use Rattle.operators.specs.Lanes.{lane_of}
 use Rattle.operators.specs.Operator.{IsGoodState, MayBeSent}
 use Rattle.operators.specs.RowSpelling.{RowIsSpelled, row_spelling, StateIsSpelled, state_spelling}
-use Rattle.operators.specs.RowMeaning.{◌⊞◌, ◌⊟◌, sum_of, number_in, keep, send, collect, with_value, with_key, row_meaning, row_outcome, row_key, row_ports, row_fresh, RowSuits}
+use Rattle.operators.specs.RowMeaning.{◌⊞◌, ◌⊟◌, sum_of, number_in, keep, send, collect, with_value, with_key, row_meaning, row_outcome, row_key, is_keyless, row_ports, row_fresh, RowSuits}
 use Rattle.operators.specs.declared.parameters.RowKey.{RowKey}
 use Rattle.operators.specs.declared.parameters.WindowSize.{WindowSize}
 use Rattle.operators.specs.declared.row.Row.{Row}
@@ -54,26 +55,15 @@ states_are_exact (Numbers ms) Plain h = absurd cc
 states_are_exact (Numbers ms) (Number n) h = absurd cc
 states_are_exact (Numbers ms) (Numbers ns) h = let e : pointwise int_eq ms ns ≡ true = h in ap Numbers (equal_lists int_eq equal_integers ms ns e)
 
--- a key and a size are told apart by what they hold, whatever shows that it is in range
-abbrev key_of : (text : List ℕ) → length text ≤ 1024 → is_utf8 text ≡ true → RowKey
-key_of text within utf8 = record { text = text; within = within; utf8 = utf8 }
-
-abbrev size_of : (n : ℕ) → 1 ≤ n → n ≤ 1024 → WindowSize
-size_of n at_least at_most = record { n = n; at_least = at_least; at_most = at_most }
-
 keys_are_exact : (j k : RowKey) → j.text ≡ k.text → j ≡ k
 keys_are_exact j k e =
-    let within : IsProp (length j.text ≤ 1024) = hlevel props in
-    let utf8 : IsProp (is_utf8 j.text ≡ true) = hlevel props in
-    let P : List ℕ → Type 0 = λ text. (w : length text ≤ 1024) (x : is_utf8 text ≡ true) → key_of j.text j.within j.utf8 ≡ key_of text w x in
-    subst P e (λ w x. ap (λ (h : length j.text ≤ 1024). key_of j.text h j.utf8) (within j.within w) ∙ ap (λ (h : is_utf8 j.text ≡ true). key_of j.text w h) (utf8 j.utf8 x)) k.within k.utf8
+    let P : List ℕ → Type 0 = λ text. (length text ≤ 1024) × (is_utf8 text ≡ true) in
+    same_part {P = P} (λ text h. record { text = text; within = h.0; utf8 = h.1 }) (λ text. hlevel props) j.text k.text (j.within, j.utf8) (k.within, k.utf8) e
 
 sizes_are_exact : (j k : WindowSize) → j.n ≡ k.n → j ≡ k
 sizes_are_exact j k e =
-    let at_least : IsProp (1 ≤ j.n) = hlevel props in
-    let at_most : IsProp (j.n ≤ 1024) = hlevel props in
-    let P : ℕ → Type 0 = λ n. (l : 1 ≤ n) (m : n ≤ 1024) → size_of j.n j.at_least j.at_most ≡ size_of n l m in
-    subst P e (λ l m. ap (λ (h : 1 ≤ j.n). size_of j.n h j.at_most) (at_least j.at_least l) ∙ ap (λ (h : j.n ≤ 1024). size_of j.n l h) (at_most j.at_most m)) k.at_least k.at_most
+    let P : ℕ → Type 0 = λ n. (1 ≤ n) × (n ≤ 1024) in
+    same_part {P = P} (λ n h. record { n = n; at_least = h.0; at_most = h.1 }) (λ n. hlevel props) j.n k.n (j.at_least, j.at_most) (k.at_least, k.at_most) e
 
 pub ops_are_exact : EqualIsSame op_comparison.eq
 ops_are_exact (Add m) (Add n) h = ap Add (equal_integers m n h)
@@ -146,6 +136,17 @@ row_key_fits op r key fits e = subst KeyFits (key_is op r key e) (key_of_row_fit
 
 pub row_key_has_lane : (op : RowOp) (q r : Row) (key : List ℕ) → row_key op q ≡ Some key → row_key op r ≡ Some key → row_meaning.lane q ≡ row_meaning.lane r
 row_key_has_lane op q r key is_q is_r = ap lane_of (key_is op q key is_q ∙ sym (key_is op r key is_r))
+
+pub keyless_has_no_key : (op : RowOp) (r : Row) → is_keyless op ≡ true → row_key op r ≡ None
+keyless_has_no_key Count r e = absurd cc
+keyless_has_no_key Sum r e = absurd cc
+keyless_has_no_key (Window n) r e = absurd cc
+keyless_has_no_key (Add n) r e = refl
+keyless_has_no_key (Rekey k) r e = refl
+keyless_has_no_key (FilterGe n) r e = refl
+keyless_has_no_key (FilterLt n) r e = refl
+keyless_has_no_key (Split n) r e = refl
+keyless_has_no_key LoopDown r e = refl
 
 pub row_keyless_keeps_fresh : (op : RowOp) (r : Row) → row_key op r ≡ None → (row_outcome op (row_fresh op) r).state ≡ row_fresh op
 row_keyless_keeps_fresh (FilterGe n) r none = cond_both (int_lt r.v n) (keep Plain) (send Plain 0 r) (λ o. o.state ≡ Plain) (λ e. refl) (λ e. refl)

@@ -1,5 +1,5 @@
 -- What the row operators mean.
-use Rattle.std.specs.Prelude.{◌<◌, ◌+ℤ◌, ◌-ℤ◌, ℕ, ℤ, pos, List, [], ◌∷◌, ◌++◌, length, fold, Option, Some, None, int_lt, nat_lt, if◌then◌else◌}
+use Rattle.std.specs.Prelude.{Bool, true, false, ◌<◌, ◌+ℤ◌, ◌-ℤ◌, ℕ, ℤ, pos, List, [], ◌∷◌, ◌++◌, length, fold, Option, Some, None, int_lt, nat_lt, if◌then◌else◌}
 use Rattle.std.specs.Int.{saturate_signed, w64}
 use Rattle.std.specs.Cmp.Lexicographic.{slice_cmp}
 use Rattle.std.specs.Ordering.{nat_cmp, is_eq}
@@ -85,6 +85,17 @@ row_key Count row = Some row.k
 row_key Sum row = Some row.k
 row_key (Window size) row = Some row.k
 row_key LoopDown row = None
+
+abbrev pub is_keyless : RowOp → Bool
+is_keyless (Add n) = true
+is_keyless (Rekey key) = true
+is_keyless (FilterGe n) = true
+is_keyless (FilterLt n) = true
+is_keyless (Split n) = true
+is_keyless Count = false
+is_keyless Sum = false
+is_keyless (Window size) = false
+is_keyless LoopDown = true
 
 -- ---- what is sent
 

@@ -55,7 +55,8 @@ impl<A: Operator, B: Stateless<Record = A::Record>> Operator for Chain<A, B> {
     ghost use Rattle.std.proofs.Props.{props};
     ghost use Rattle.std.specs.Cmp.{first_so, second_so};
     ghost use Rattle.operators.specs.Chains.{chain_meaning};
-    ghost use Rattle.operators.specs.ChainLaws.{chain_sent_fits, same_parts};
+    ghost use Rattle.operators.specs.ChainLaws.{chain_sent_fits};
+    ghost use Rattle.operators.specs.Exact.{same_parts};
 
     type Record = A::Record;
 

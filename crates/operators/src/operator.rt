@@ -73,28 +73,39 @@ pub trait Operator: Eq + Drop {
     /// Keys are one where they compare equal.
     ghost same_key: { (a b : Self.Key) → meaning.same_key a b ≡ is_eq (Self.Key.cmp a b) };
 
+    /// Keys that compare equal are the same key.
     ghost key_is_exact: { OrderIsExact Self.Key.cmp };
 
+    /// So are records,
     ghost record_is_exact: { EqualIsSame Self.Record.eq };
 
+    /// states,
     ghost state_is_exact: { EqualIsSame Self.State.eq };
 
+    /// and operators.
     ghost operator_is_exact: { EqualIsSame Self.eq };
 
+    /// The key of a record that fits, fits.
     ghost key_fits: { KeysFit meaning (Fits Self.Record.HasSpelling Self.Record.spelling) (Fits Self.Key.HasSpelling Self.Key.spelling) };
 
+    /// Records with one key have one lane.
     ghost key_has_lane: { KeysHaveLanes meaning };
 
+    /// The fresh state fits and has the operator's form.
     ghost fresh_is_good: { FreshIsGood meaning (Fits Self.State.HasSpelling Self.State.spelling) Suits };
 
+    /// A state and a record that fit give a state that fits, of the operator's form.
     ghost state_stays_good: { StatesStayGood meaning (Fits Self.Record.HasSpelling Self.Record.spelling) (Fits Self.State.HasSpelling Self.State.spelling) Suits };
 
+    /// They send records that fit, on the operator's ports.
     ghost sent_fits: { SentFits meaning (Fits Self.Record.HasSpelling Self.Record.spelling) (Fits Self.State.HasSpelling Self.State.spelling) Suits };
 
+    /// A record without a key leaves the fresh state as it is.
     ghost keyless_keeps_fresh: { KeylessKeepsFresh meaning };
 }
 
 /// An operator without keys: it keeps no state from record to record.
 pub trait Stateless: Operator {
+    /// No record has a key.
     ghost has_no_keys: { HasNoKeys Self.meaning };
 }

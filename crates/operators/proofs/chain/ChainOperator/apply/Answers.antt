@@ -1,11 +1,11 @@
-use Rattle.std.proofs.Common.{subst, sym, ◌∙◌}
+use Rattle.std.proofs.Common.{subst, ◌∙◌}
 use Rattle.std.specs.List.{All, flat_map}
 use Rattle.std.proofs.lemmas.List.Elements.{All-head, All-tail}
 use Rattle.std.specs.Vec.Iter.{into_iter_items}
 use Rattle.abs_codec.specs.Spelling.{Fits}
 use Rattle.operators.specs.Chains.{passed_on}
 use Rattle.operators.specs.Operator.{MayBeSent}
-use Rattle.operators.proofs.PassingOn.{taken_first, left_goes_on, all_is_left}
+use Rattle.operators.proofs.PassingOn.{taken_first, left_goes_on, all_is_left, all_still_hold}
 use Rattle.operators.proofs.chain.ChainOperator.apply.Goals as goal
 
 pub loop-port-init : goal.loop-port-init
@@ -15,7 +15,7 @@ loop-port-init g c =
     let fit = g.met.A.Operator.sent_fits c.args.self.now.first c.args.state.now c.args.item.now c.requires.state c.requires.fits in
     let pass = passed_on g.B.Operator.meaning c.args.self.now.second in
     let whole = (g.A.Operator.meaning.apply c.args.self.now.first c.args.state.now c.args.item.now).sent in
-    record { left = all_is_left pass c.new-sent.result.items (into_iter_items c.into_iter-port-iterator.result) whole c.new-sent.ensures.items same; fit = subst (All P) (sym same) fit }
+    record { left = all_is_left pass c.new-sent.result.items (into_iter_items c.into_iter-port-iterator.result) whole c.new-sent.ensures.items same; fit = all_still_hold P (into_iter_items c.into_iter-port-iterator.result) whole same fit }
 
 pub pass_on-requires : goal.pass_on-requires
 pass_on-requires g c =

@@ -1,5 +1,5 @@
 use Rattle.std.proofs.Props.{props}
-use Rattle.operators.specs.ChainLaws.{same_parts}
+use Rattle.operators.specs.Exact.{same_parts}
 use Rattle.operators.proofs.chain.ChainOperator.copy.Goals as goal
 
 pub returns : goal.returns
