@@ -5,3 +5,4 @@ pub mod Steps
 pub mod Rows
 pub mod Lists
 pub mod Outline
+pub mod Contents

@@ -28,6 +28,9 @@ pub enum ScriptFault {
     /// No object of exactly a job, a list of lists and a list of texts.
     #[error("script: bad field")]
     BadField,
+    /// The source tasks that want a partition each, and the partitions.
+    #[error("inputs: want {want}, got {got}")]
+    Inputs { want: u32, got: usize },
     #[error("partition {partition} row {row}: bad row")]
     BadRow { partition: usize, row: usize },
     #[error("step {0}: bad step")]

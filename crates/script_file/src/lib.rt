@@ -5,6 +5,7 @@
 //! which (`specs/`) read a JSON value as the code does, one name for each part.
 #![tactic(auto)]
 
+mod contents;
 mod fault;
 mod members;
 mod number;
@@ -12,6 +13,7 @@ mod outline;
 mod rows;
 mod step;
 
+pub use contents::{Contents, contents_of};
 pub use fault::{ItemFault, ScriptFault};
 pub use outline::{Outline, json_value, outline_of};
 pub use rows::{FittingRow, partitions, read_row};
