@@ -1,5 +1,5 @@
 -- How many have yet to acknowledge, and whether all have.
-use Rattle.std.proofs.Common.{◌≡◌, ◌<◌, ◌+◌, ℕ, zero, suc, List, [], ◌∷◌, Bool, true, false, not, cond, IsTrue, arith, length, refl}
+use Rattle.std.proofs.Common.{◌≡◌, ◌<◌, ◌+◌, zero, suc, List, [], ◌∷◌, Bool, true, false, not, cond, IsTrue, arith, length, refl}
 use Rattle.std.proofs.lemmas.Bool.{false≢true}
 use Rattle.std.proofs.lemmas.List.Sums.{sum_by-cons}
 use Rattle.std.specs.List.{All, count_by, list_all}

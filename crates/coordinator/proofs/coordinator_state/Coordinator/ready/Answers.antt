@@ -1,4 +1,4 @@
-use Rattle.std.proofs.Common.{rules, arith, nat_eq, IsTrue, ◌≡◌, sym, ◌∙◌, ap, not}
+use Rattle.std.proofs.Common.{rules, arith, ◌≡◌, ◌∙◌, ap, not}
 use Rattle.std.specs.List.{count_by}
 use Rattle.coordinator.proofs.Counts.{All-none_missing, none_missing-All}
 use Rattle.coordinator.proofs.coordinator_state.Coordinator.ready.Goals as goal
