@@ -1,6 +1,6 @@
 //! The machine's moves.
 
-ghost use Rattle.std.specs.Prelude.{◌≡◌, ◌++◌, ◌<◌, ◌≤◌, ◌↔◌, IsTrue, IfOk, IfErr, OnOk, OnErr, IfSome, IsNone, Some, slice_get, vec_items, option_copied, length, map, take, ℕ, true, false};
+ghost use Rattle.std.specs.Prelude.{◌≡◌, ◌++◌, ◌<◌, ◌↔◌, IsTrue, IfOk, IfErr, OnOk, OnErr, Some, slice_get, option_copied, length, map, take, ℕ, true, false};
 ghost use Rattle.std.specs.BTreeMap as tree;
 ghost use Rattle.abs_codec.specs.Spelling.{Fits};
 ghost use Rattle.operators.specs.Operator.{IsGoodState};
@@ -8,7 +8,7 @@ ghost use Rattle.dataflow_model.specs.Graph.{SinkTask, admitted, takes_lane};
 ghost use Rattle.dataflow_model.specs.Machine.{state_under, kept_under, left, mover, Read, Work, Step, IsPossible, Reaches, start};
 ghost use Rattle.plain_machine.specs.declared.job.Move as code;
 ghost use Rattle.plain_machine.specs.Offered.{has_inputs, offered};
-ghost use Rattle.plain_machine.specs.Plain.{route_of, channel_of, move_of, task_of, records_of, job_of, configuration_of, IsQueueAfter, IsOperator, IsUnfit, ApplyIsRefused};
+ghost use Rattle.plain_machine.specs.Plain.{route_of, channel_of, move_of, task_of, records_of, job_of, configuration_of, IsQueueAfter, IsOperator, IsUnfit};
 
 use crate::fault::PlainFault;
 use crate::job::{Channel, Configuration, Job, Move, Route, Task, TaskState};
@@ -363,6 +363,7 @@ impl<O: Operator> PlainMachine<O, O::Record, O::Key, O::State> {
     pub fn run(&mut self, alloc: Global, moves: &[Move]) -> Result<usize, PlainFault>
         ensures made { IfOk result (λ made. Reaches (job_of O.meaning self.old.job) (map move_of (take made moves.now)) (configuration_of O.Key.cmp self.old.configuration) (configuration_of O.Key.cmp self.new.configuration)) }
         ensures stopped { IfOk result (λ made. (next : code.Move) → slice_get moves.now made ≡ Some next → ¬ IsPossible (job_of O.meaning self.old.job) (move_of next) (configuration_of O.Key.cmp self.new.configuration)) }
+        ensures err { OnErr result ((made : ℕ) × Reaches (job_of O.meaning self.old.job) (map move_of (take made moves.now)) (configuration_of O.Key.cmp self.old.configuration) (configuration_of O.Key.cmp self.new.configuration)) }
         ensures job { self.new.job ≡ self.old.job }
     {
         for (made, step) in moves.iter().enumerate() {
