@@ -4,3 +4,6 @@ pub mod Targets
 pub mod Subtasks
 pub mod Joined
 pub mod PlainTasks
+pub mod OrderLemmas
+pub mod Growing
+pub mod RoleLemmas

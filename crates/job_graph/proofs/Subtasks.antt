@@ -7,7 +7,7 @@ use Rattle.std.proofs.lemmas.List.Sums.{sum_by-cons}
 use Rattle.std.proofs.lemmas.Option.{slice_get_within}
 use Rattle.job_graph.specs.declared.role.Role.{Role}
 use Rattle.job_graph.specs.declared.role.Role.TheVariants.{Source, Operator, Sink}
-use Rattle.job_graph.specs.Expanded.{Expanded, IsExpanded, is_sink, is_subtask, is_subtask_at, role_number, number_of}
+use Rattle.job_graph.specs.Expanded.{Expanded, IsExpanded, is_sink, is_subtask, is_subtask_at, role_number}
 
 -- a task that is a sink, behind so many others
 record IsSinkBehind (tasks : List Role) (k : ℕ) : Type 0 where
@@ -84,7 +84,7 @@ no_subtask graph subtask None expanded e = by (cases_lt subtask (count_by is_sin
     by (inl below) =
         let there = sink_behind graph.tasks subtask below in
         let within = slice_get_within graph.tasks there.task (Sink there.subtask) there.is in
-        let number = expanded.numbered there.task (Sink there.subtask) there.is in
+        let number = expanded.numbered.each there.task (Sink there.subtask) there.is in
         let missed = find_none (is_subtask_at graph.tasks subtask) 0 (length graph.tasks) there.task (sym e) (omega arith) (omega arith) in
         let here : is_subtask_at graph.tasks subtask there.task ≡ true = rw there.is (eq-eqb there.subtask subtask (number ∙ there.behind)) in
         absurd (false≢true (sym missed ∙ here))

@@ -5,6 +5,8 @@ use Rattle.std.specs.Option.{option_map_or}
 use Rattle.dataflow_model.specs.Graph.{Channel, takes_lane}
 use Rattle.job_graph.specs.declared.role.Role.{Role}
 use Rattle.job_graph.specs.declared.role.Role.TheVariants.{Source, Operator, Sink}
+use Rattle.job_graph.specs.declared.role.TaskKind.{TaskKind}
+use Rattle.job_graph.specs.declared.role.TaskKind.TheVariants as task
 use Rattle.job_graph.specs.Channel.{HasSubtask}
 
 pub record Expanded : Type 0 where
@@ -35,16 +37,25 @@ is_subtask subtask _ = false
 abbrev pub is_subtask_at : List Role → ℕ → ℕ → Bool
 is_subtask_at tasks subtask task = option_map_or (is_subtask subtask) (slice_get tasks task) false
 
--- the task's number among the tasks of its kind
-abbrev pub number_of : List Role → ℕ → Role → ℕ
-number_of tasks task (Source partition) = count_by is_source (take task tasks)
-number_of tasks task (Operator number) = count_by is_operator (take task tasks)
-number_of tasks task (Sink subtask) = count_by is_sink (take task tasks)
+-- how many tasks of the role's kind there are
+abbrev pub count_like : List Role → Role → ℕ
+count_like tasks (Source partition) = count_by is_source tasks
+count_like tasks (Operator number) = count_by is_operator tasks
+count_like tasks (Sink subtask) = count_by is_sink tasks
 
 abbrev pub role_number : Role → ℕ
 role_number (Source partition) = partition
 role_number (Operator number) = number
 role_number (Sink subtask) = subtask
+
+abbrev pub task_kind : Role → TaskKind
+task_kind (Source partition) = task.Source
+task_kind (Operator number) = task.Operator
+task_kind (Sink subtask) = task.Sink
+
+-- sources, operators and sinks are each numbered from 0
+pub record IsNumbered (tasks : List Role) : Type 0 where
+  pub each : (task : ℕ) (role : Role) → slice_get tasks task ≡ Some role → role_number role ≡ count_like (take task tasks) role
 
 -- a task that sends records, and one that takes them
 pub record IsSender (tasks : List Role) (task : ℕ) : Type 0 where
@@ -75,8 +86,7 @@ pub record HasPlainInput (channels : List Channel) (task : ℕ) : Type 0 where
 pub record IsExpanded (graph : Expanded) : Type 0 where
   pub few_tasks : length graph.tasks ≤ 256
   pub few_channels : length graph.channels ≤ 4096
-  -- sources, operators and sinks are each numbered from 0
-  pub numbered : (task : ℕ) (role : Role) → slice_get graph.tasks task ≡ Some role → role_number role ≡ number_of graph.tasks task role
+  pub numbered : IsNumbered graph.tasks
   pub joined : (number : ℕ) (channel : Channel) → slice_get graph.channels number ≡ Some channel → IsChannel graph.tasks channel
   -- the order has each task once,
   pub whole : IsPermutation (range_with_len 0 (length graph.tasks)) graph.order

@@ -3,3 +3,6 @@ pub mod Expanded
 pub mod Tables
 pub mod Inside
 pub mod PlainGraph
+pub mod Order
+pub mod Spelling
+pub mod Expansion

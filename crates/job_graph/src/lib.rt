@@ -1,10 +1,14 @@
-//! Job files, and the graphs of tasks and channels that they stand for.
+//! Jobs, and the graphs of tasks and channels that they stand for.
 #![tactic(auto)]
 
+mod blocks;
 mod channel;
 mod graph;
 mod links;
+mod order;
 mod role;
+mod routes;
+mod tasks;
 
 pub use channel::{Channel, Route};
 pub use graph::Graph;

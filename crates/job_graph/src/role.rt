@@ -1,5 +1,13 @@
 //! What a task is.
 
+/// What a task is, without its number.
+#[derive(Clone, Copy, Debug, PartialEq, Eq)]
+pub(crate) enum TaskKind {
+    Source,
+    Operator,
+    Sink,
+}
+
 /// What a task is, with its number among the tasks of its kind.
 #[derive(Clone, Copy, Debug, PartialEq, Eq)]
 pub enum Role {
