@@ -7,3 +7,11 @@ pub mod PlainTasks
 pub mod OrderLemmas
 pub mod Growing
 pub mod RoleLemmas
+pub mod LeftVertices
+pub mod Appends
+pub mod FlatMaps
+pub mod Wholes
+pub mod TaskLemmas
+pub mod ChannelOrigins
+pub mod Expandings
+pub mod Ends

@@ -19,7 +19,7 @@ both_more : (a b c : Bool) → (b ≡ true → c ≡ true) → (a && b) ≡ true
 both_more true b c f h = f h
 both_more false b c f h = h
 
-first_of_both : (a b : Bool) → (a && b) ≡ true → a ≡ true
+pub first_of_both : (a b : Bool) → (a && b) ≡ true → a ≡ true
 first_of_both true b h = refl
 first_of_both false b h = h
 

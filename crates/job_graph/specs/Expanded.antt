@@ -1,5 +1,5 @@
 -- An expanded job: its tasks, the channels between them, and an order of the tasks.
-use Rattle.std.specs.Prelude.{◌≡◌, ℕ, ◌<◌, ◌≤◌, ◌&&◌, ◌==◌, List, length, take, filter, count_by, Bool, true, false, Some, slice_get, Contains, IsPermutation}
+use Rattle.std.specs.Prelude.{◌≡◌, ℕ, ◌<◌, ◌≤◌, ◌&&◌, ◌==◌, List, length, take, filter, count_by, Bool, true, false, Some, slice_get, IsPermutation}
 use Rattle.std.specs.List.{range_with_len}
 use Rattle.std.specs.Option.{option_map_or}
 use Rattle.dataflow_model.specs.Graph.{Channel, takes_lane}
@@ -83,6 +83,12 @@ pub record HasPlainInput (channels : List Channel) (task : ℕ) : Type 0 where
   pub leads : channel.receiver ≡ task
   pub unmarked : channel.marked ≡ false
 
+-- the task has a place in the order before this one
+pub record StandsBefore (order : List ℕ) (task place : ℕ) : Type 0 where
+  pub before : ℕ
+  pub less : before < place
+  pub is : slice_get order before ≡ Some task
+
 pub record IsExpanded (graph : Expanded) : Type 0 where
   pub few_tasks : length graph.tasks ≤ 256
   pub few_channels : length graph.channels ≤ 4096
@@ -92,7 +98,7 @@ pub record IsExpanded (graph : Expanded) : Type 0 where
   pub whole : IsPermutation (range_with_len 0 (length graph.tasks)) graph.order
   -- and each behind the senders of its unmarked inputs, so that these lead round no cycle
   pub ordered : (number : ℕ) (channel : Channel) (place : ℕ) → slice_get graph.channels number ≡ Some channel → channel.marked ≡ false
-      → slice_get graph.order place ≡ Some channel.receiver → Contains (take place graph.order) channel.sender
+      → slice_get graph.order place ≡ Some channel.receiver → StandsBefore graph.order channel.sender place
   pub fed : (task : ℕ) → IsReceiver graph.tasks task → HasPlainInput graph.channels task
 
 -- ---- the channels of a task

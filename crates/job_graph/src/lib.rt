@@ -3,13 +3,16 @@
 
 mod blocks;
 mod channel;
+mod expand;
 mod graph;
 mod links;
 mod order;
 mod role;
 mod routes;
+mod spelling;
 mod tasks;
 
 pub use channel::{Channel, Route};
 pub use graph::Graph;
+pub use job_spec::{EdgeRoute, EdgeSpec, JobFault, JobSpec, Kind, VertexSpec};
 pub use role::Role;

@@ -1,6 +1,7 @@
 //! The order of vertices, and the cycles that leave none.
 
-ghost use Rattle.std.specs.Prelude.{◌≡◌, ◌<◌, ℕ, true, false, length, slice_index_or, IfOk, IfSome, IfNone};
+ghost use Rattle.std.specs.Prelude.{◌≡◌, ◌<◌, ℕ, true, false, length, slice_index_or, List, ◌++◌, filter, IsPermutation, IfOk, IfSome, IfNone};
+ghost use Rattle.std.specs.List.{flat_map, range_with_len};
 ghost use Rattle.job_graph.specs.Order.{at, has_input_from, is_ready, rest, AreLeft, IsInOrder};
 
 use job_spec::EdgeSpec;
@@ -51,6 +52,9 @@ pub(crate) fn in_order(
     ensures order { IfOk result (λ r. IsInOrder n edges.now r.0.items) }
     ensures apart { IfOk result (λ r. (v : ℕ) → at r.1.items v ≡ rest n r.0.items v) }
     ensures len { IfOk result (λ r. length r.1.items ≡ n) }
+    // Each vertex is taken once or left: what stands at all of them is what stands at these.
+    ensures whole { IfOk result (λ r. (f : ℕ → List ℕ) → IsPermutation (flat_map f (range_with_len 0 n))
+        (flat_map f r.0.items ++ flat_map f (filter (at r.1.items) (range_with_len 0 n)))) }
 {
     let mut order = Vec::new(alloc);
     let mut left = vec![in alloc; true; n]?;

@@ -79,8 +79,10 @@ impl JobSpec {
         operators_of(alloc, &self.vertices)
     }
 
+    /// The edges, in file order.
     pub fn edges(&self) -> &[EdgeSpec]
-        ensures { result.now ≡ self.now.edges }
+        ensures value { result.now ≡ self.now.edges }
+        ensures job { IsJob self.now }
     {
         &self.edges
     }
