@@ -1,6 +1,7 @@
 //! Two operators, one behind the other.
 
-ghost use Rattle.std.specs.Prelude.{◌≡◌, ◌++◌, OnOk};
+ghost use Rattle.std.specs.Prelude.{◌≡◌, ◌++◌, OnOk, IfOk};
+ghost use Rattle.std.specs.List.{All, flat_map};
 ghost use Rattle.abs_codec.specs.Spelling.{Fits};
 ghost use Rattle.operators.specs.Chains.{CanBeChained, passed_on};
 ghost use Rattle.operators.specs.Operator.{MayBeSent};
@@ -49,6 +50,22 @@ impl<A: Operator, B: Stateless<Record = A::Record>> Chain<A, B> {
         }
         Ok(())
     }
+
+    /// What becomes of all that the first operator sends.
+    fn pass_all(
+        &self,
+        alloc: Global,
+        items: Vec<(u32, A::Record)>,
+    ) -> Result<Vec<(u32, A::Record)>, NoMemory>
+        requires { All (MayBeSent (Fits A.Record.HasSpelling A.Record.spelling) (A.meaning.ports self.now.first)) items.items }
+        ensures { IfOk result (λ sent. sent.items ≡ flat_map (passed_on B.meaning self.now.second) items.items) }
+    {
+        let mut sent = Vec::new(alloc);
+        for (port, item) in items {
+            self.pass_on(alloc, port, item, &mut sent)?;
+        }
+        Ok(sent)
+    }
 }
 
 impl<A: Operator, B: Stateless<Record = A::Record>> Operator for Chain<A, B> {
@@ -95,10 +112,7 @@ impl<A: Operator, B: Stateless<Record = A::Record>> Operator for Chain<A, B> {
         item: &A::Record,
     ) -> Result<Outcome<A::State, A::Record>, NoMemory> {
         let outcome = self.first.apply(alloc, state, item)?;
-        let mut sent = Vec::new(alloc);
-        for (port, passed) in outcome.sent {
-            self.pass_on(alloc, port, passed, &mut sent)?;
-        }
+        let sent = self.pass_all(alloc, outcome.sent)?;
         Ok(Outcome {
             state: outcome.state,
             sent,

@@ -1,35 +1,11 @@
-use Rattle.std.proofs.Common.{subst, ◌∙◌}
-use Rattle.std.specs.List.{All, flat_map}
-use Rattle.std.proofs.lemmas.List.Elements.{All-head, All-tail}
-use Rattle.std.specs.Vec.Iter.{into_iter_items}
 use Rattle.abs_codec.specs.Spelling.{Fits}
-use Rattle.operators.specs.Chains.{passed_on}
 use Rattle.operators.specs.Operator.{MayBeSent}
-use Rattle.operators.proofs.PassingOn.{taken_first, left_goes_on, all_is_left, all_still_hold}
+use Rattle.operators.proofs.PassingOn.{all_still_hold}
 use Rattle.operators.proofs.chain.ChainOperator.apply.Goals as goal
 
-pub loop-port-init : goal.loop-port-init
-loop-port-init g c =
+pub pass_all-requires : goal.pass_all-requires
+pass_all-requires g c =
     let P = MayBeSent (Fits g.A.Record.Codec.HasSpelling g.A.Record.Codec.spelling) (g.A.Operator.meaning.ports c.args.self.now.first) in
-    let same = c.into_iter-port-iterator.ensures.into_iter_gives.0 ∙ c.in_ok-outcome.ensures.sent in
+    let sent = (g.A.Operator.meaning.apply c.args.self.now.first c.args.state.now c.args.item.now).sent in
     let fit = g.met.A.Operator.sent_fits c.args.self.now.first c.args.state.now c.args.item.now c.requires.state c.requires.fits in
-    let pass = passed_on g.B.Operator.meaning c.args.self.now.second in
-    let whole = (g.A.Operator.meaning.apply c.args.self.now.first c.args.state.now c.args.item.now).sent in
-    record { left = all_is_left pass c.new-sent.result.items (into_iter_items c.into_iter-port-iterator.result) whole c.new-sent.ensures.items same; fit = all_still_hold P (into_iter_items c.into_iter-port-iterator.result) whole same fit }
-
-pub pass_on-requires : goal.pass_on-requires
-pass_on-requires g c =
-    let turn = taken_first c.loop-port.port-iterator c.next.new.self c.next.result (c.in-Some.port, c.in-Some.passed) c.in-Some.is c.next.ensures.steps in
-    let P = MayBeSent (Fits g.A.Record.Codec.HasSpelling g.A.Record.Codec.spelling) (g.A.Operator.meaning.ports c.args.self.now.first) in
-    All-head P (c.in-Some.port, c.in-Some.passed) (into_iter_items c.next.new.self) (subst (All P) turn c.loop-port.invariant.fit)
-
-pub loop-port-preserved : goal.loop-port-preserved
-loop-port-preserved g c =
-    let turn = taken_first c.loop-port.port-iterator c.next.new.self c.next.result (c.in-Some.port, c.in-Some.passed) c.in-Some.is c.next.ensures.steps in
-    let P = MayBeSent (Fits g.A.Record.Codec.HasSpelling g.A.Record.Codec.spelling) (g.A.Operator.meaning.ports c.args.self.now.first) in
-    let pass = passed_on g.B.Operator.meaning c.args.self.now.second in
-    let whole = flat_map pass (g.A.Operator.meaning.apply c.args.self.now.first c.args.state.now c.args.item.now).sent in
-    record {
-      left = left_goes_on pass whole c.loop-port.sent.items c.pass_on.new.sent.items (into_iter_items c.loop-port.port-iterator) (into_iter_items c.next.new.self) (c.in-Some.port, c.in-Some.passed) turn c.in_ok-pass_on.ensures c.loop-port.invariant.left;
-      fit = All-tail P (c.in-Some.port, c.in-Some.passed) (into_iter_items c.next.new.self) (subst (All P) turn c.loop-port.invariant.fit);
-    }
+    all_still_hold P c.in_ok-outcome.outcome.sent.items sent c.in_ok-outcome.ensures.sent fit

@@ -4,12 +4,12 @@ use Rattle.std.specs.Vec.Iter.{into_iter_items}
 use Rattle.abs_codec.specs.Spelling.{Fits}
 use Rattle.operators.specs.Chains.{passed_on}
 use Rattle.operators.specs.Operator.{MayBeSent}
-use Rattle.operators.proofs.chain.ChainOperator.apply.Given as goal
+use Rattle.operators.proofs.chain.Chain.pass_all.Given as goal
 
 abbrev pub invariant-loop-port : goal.invariant-loop-port
 invariant-loop-port g l =
     let pass = passed_on g.B.Operator.meaning l.self.second in
     record {
-      left : l.sent.items ++ flat_map pass (into_iter_items l.port-iterator) ≡ flat_map pass (g.A.Operator.meaning.apply l.self.first l.state l.item).sent;
+      left : l.sent.items ++ flat_map pass (into_iter_items l.port-iterator) ≡ flat_map pass l.fn.items.items;
       fit : All (MayBeSent (Fits g.A.Record.Codec.HasSpelling g.A.Record.Codec.spelling) (g.A.Operator.meaning.ports l.self.first)) (into_iter_items l.port-iterator);
     }
