@@ -1,0 +1,95 @@
+//! What a step came to, as its answer line says it.
+
+use crate::engine::{CoreFault, Engine};
+use alignment::Effect;
+use script_file::Step;
+use source_log::SourceFault;
+use std::fmt;
+
+/// The answer to a step. Its text is what follows the step's number on the answer line.
+#[derive(Clone, Copy, Debug, PartialEq, Eq)]
+pub enum Answer {
+    Accepted,
+    Number(u64),
+    Barrier(Effect),
+    Refused(CoreFault),
+    Source(SourceFault),
+}
+
+fn word_of(effect: Effect) -> &'static str {
+    match effect {
+        Effect::Blocked => "blocked",
+        Effect::Copy => "copy",
+        Effect::Closed => "closed",
+        Effect::CopyAndDone => "copy-done",
+        Effect::Done => "done",
+    }
+}
+
+impl fmt::Display for Answer {
+    fn fmt<W: fmt::Write>(&self, f: &mut fmt::Formatter<W>) -> fmt::Result {
+        match *self {
+            Answer::Accepted => write!(f, "ok"),
+            Answer::Number(number) => write!(f, "ok {number}"),
+            Answer::Barrier(effect) => {
+                let word = word_of(effect);
+                write!(f, "ok {word}")
+            }
+            Answer::Refused(fault) => write!(f, "{fault}"),
+            Answer::Source(fault) => write!(f, "{fault}"),
+        }
+    }
+}
+
+impl From<Result<(), CoreFault>> for Answer {
+    fn from(outcome: Result<(), CoreFault>) -> Answer {
+        match outcome {
+            Ok(()) => Answer::Accepted,
+            Err(fault) => Answer::Refused(fault),
+        }
+    }
+}
+
+impl From<Result<u64, CoreFault>> for Answer {
+    fn from(outcome: Result<u64, CoreFault>) -> Answer {
+        match outcome {
+            Ok(number) => Answer::Number(number),
+            Err(fault) => Answer::Refused(fault),
+        }
+    }
+}
+
+impl From<Result<Effect, CoreFault>> for Answer {
+    fn from(outcome: Result<Effect, CoreFault>) -> Answer {
+        match outcome {
+            Ok(effect) => Answer::Barrier(effect),
+            Err(fault) => Answer::Refused(fault),
+        }
+    }
+}
+
+impl From<Result<(), SourceFault>> for Answer {
+    fn from(outcome: Result<(), SourceFault>) -> Answer {
+        match outcome {
+            Ok(()) => Answer::Accepted,
+            Err(fault) => Answer::Source(fault),
+        }
+    }
+}
+
+/// Makes a step.
+pub fn make_step<G: Engine>(engine: &mut G, step: Step) -> Answer {
+    match step {
+        Step::Read(task) => engine.read(task).into(),
+        Step::Work(task, input) => engine.work(task, input).into(),
+        Step::Barrier(task, input) => engine.take_barrier(task, input).into(),
+        Step::Trigger => engine.trigger().into(),
+        Step::Inject(task) => engine.inject(task).into(),
+        Step::Persist(task) => engine.persist(task).into(),
+        Step::Complete => engine.complete().into(),
+        Step::Commit(sink) => engine.commit(sink).into(),
+        Step::Fail => engine.fail().into(),
+        Step::Restart => engine.restart().into(),
+        Step::Append(partition, row) => engine.append(partition, row.into_row()).into(),
+    }
+}

@@ -1,0 +1,40 @@
+//! The committed rows, as the program prints them.
+
+use crate::engine::Engine;
+use crate::refusal::Refusal;
+use crate::row_text::row_line;
+use abs_codec::decode_all;
+use operators::Row;
+use std::alloc::Global;
+use std::io::Write;
+
+fn print_sink<G: Engine, W: Write>(
+    alloc: Global,
+    engine: &G,
+    sink: u32,
+    out: &mut W,
+) -> Result<(), Refusal> {
+    let rows = engine.committed_len(sink)?;
+    writeln!(out, "sink {sink} rows {rows}").map_err(|_| Refusal::Output)?;
+    for number in 0..rows {
+        let Some(record) = engine.committed(alloc, sink, number)? else {
+            return Ok(());
+        };
+        let row: Row = decode_all(alloc, &record)?;
+        let line = row_line(alloc, &row)?;
+        writeln!(out, "{line}").map_err(|_| Refusal::Output)?;
+    }
+    Ok(())
+}
+
+/// For each sink subtask in order the line `sink S rows N`, then the rows.
+pub fn print_committed<G: Engine, W: Write>(
+    alloc: Global,
+    engine: &G,
+    out: &mut W,
+) -> Result<(), Refusal> {
+    for sink in 0..engine.sinks() {
+        print_sink(alloc, engine, sink, out)?;
+    }
+    Ok(())
+}

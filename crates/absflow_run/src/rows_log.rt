@@ -1,0 +1,31 @@
+//! The partitions of a script as a log.
+
+use crate::refusal::Refusal;
+use operators::Row;
+use script_file::FittingRow;
+use source_log::{MemoryLog, Partitions, SourceFault};
+use std::alloc::Global;
+
+fn append_rows(
+    log: &mut MemoryLog<Row>,
+    partition: u32,
+    rows: Vec<FittingRow>,
+) -> Result<(), SourceFault> {
+    for row in rows {
+        log.append(partition, row.into_row())?;
+    }
+    Ok(())
+}
+
+/// A log with these rows in its partitions, of which there are so many.
+pub(crate) fn rows_log(
+    alloc: Global,
+    count: u32,
+    partitions: Vec<Vec<FittingRow>>,
+) -> Result<MemoryLog<Row>, Refusal> {
+    let mut log = MemoryLog::new(alloc, count)?;
+    for (partition, rows) in (0..count).zip(partitions) {
+        append_rows(&mut log, partition, rows)?;
+    }
+    Ok(log)
+}
