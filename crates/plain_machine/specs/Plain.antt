@@ -13,7 +13,7 @@ use Rattle.plain_machine.specs.declared.job.Task as code_task
 use Rattle.plain_machine.specs.declared.job.Task.TheVariants as tasks
 use Rattle.plain_machine.specs.declared.job.TaskState as code_state
 use Rattle.dataflow_model.specs.Graph.{Meaning, Task, SourceTask, OperatorTask, SinkTask, Route, Every, Lanes, Channel, Job}
-use Rattle.dataflow_model.specs.Machine.{TaskState, Configuration, Move, Read, Work, mover, Takes, left, received, state_under, fresh_task}
+use Rattle.dataflow_model.specs.Machine.{TaskState, Configuration, Move, Read, Work, mover, Takes, left, received, state_under, fresh_task, Step, IsPossible, Reaches}
 
 abbrev pub route_of : code_route.Route → Route
 route_of routes.Every = Every
@@ -79,3 +79,22 @@ module _ {R K S O : Type 0} where
     pub is_task : slice_get job.graph.tasks (mover move) ≡ Some (OperatorTask operator)
     pub takes : Takes job move (OperatorTask operator) taken c
     pub refused : ApplyIsRefused job.meaning RecordFits IsGood operator taken (c.tasks (mover move)).states
+
+module _ {O R K S : Type 0} (meaning : Meaning R K S O) (compare : K → K → Ordering) where
+  -- from one configuration to the other is the machine's step of this move
+  abbrev pub MakesStep : code_job.Job O R → Move → code_configuration.Configuration R K S → code_configuration.Configuration R K S → Type 0
+  MakesStep job move old new = Step (job_of meaning job) move (configuration_of compare old) (configuration_of compare new)
+
+  abbrev pub IsImpossible : code_job.Job O R → Move → code_configuration.Configuration R K S → Type 0
+  IsImpossible job move old = ¬ IsPossible (job_of meaning job) move (configuration_of compare old)
+
+  -- the moves, one after another, lead from one to the other
+  abbrev pub GoesAlong : code_job.Job O R → List code_move.Move → code_configuration.Configuration R K S → code_configuration.Configuration R K S → Type 0
+  GoesAlong job steps old new = Reaches (job_of meaning job) (map move_of steps) (configuration_of compare old) (configuration_of compare new)
+
+  abbrev pub HandsUnfit : (R → Type 0) → (O → S → Type 0) → code_job.Job O R → Move → code_configuration.Configuration R K S → Type 0
+  HandsUnfit RecordFits IsGood job move old = IsUnfit (job_of meaning job) RecordFits IsGood move (configuration_of compare old)
+
+-- both are one configuration of the machine
+abbrev pub StaysAt : {R K S : Type 0} → (K → K → Ordering) → code_configuration.Configuration R K S → code_configuration.Configuration R K S → Type 0
+StaysAt compare old new = configuration_of compare new ≡ configuration_of compare old

@@ -1,14 +1,14 @@
 //! The machine's moves.
 
-ghost use Rattle.std.specs.Prelude.{◌≡◌, ◌++◌, ◌<◌, ◌↔◌, IsTrue, IfOk, IfErr, OnOk, OnErr, Some, slice_get, option_copied, length, map, take, ℕ, true, false};
+ghost use Rattle.std.specs.Prelude.{◌≡◌, ◌++◌, ◌<◌, ◌↔◌, IsTrue, IfOk, IfErr, OnOk, OnErr, Some, slice_get, option_copied, length, take, ℕ, true, false};
 ghost use Rattle.std.specs.BTreeMap as tree;
 ghost use Rattle.abs_codec.specs.Spelling.{Fits};
 ghost use Rattle.operators.specs.Operator.{IsGoodState};
 ghost use Rattle.dataflow_model.specs.Graph.{SinkTask, admitted, takes_lane};
-ghost use Rattle.dataflow_model.specs.Machine.{state_under, kept_under, left, mover, Read, Work, Step, IsPossible, Reaches, start};
+ghost use Rattle.dataflow_model.specs.Machine.{state_under, kept_under, left, mover, Read, Work, start};
 ghost use Rattle.plain_machine.specs.declared.job.Move as code;
 ghost use Rattle.plain_machine.specs.Offered.{has_inputs, offered};
-ghost use Rattle.plain_machine.specs.Plain.{route_of, channel_of, move_of, task_of, records_of, job_of, configuration_of, IsQueueAfter, IsOperator, IsUnfit};
+ghost use Rattle.plain_machine.specs.Plain.{route_of, channel_of, move_of, task_of, records_of, job_of, configuration_of, IsQueueAfter, IsOperator, MakesStep, IsImpossible, GoesAlong, HandsUnfit, StaysAt};
 
 use crate::fault::PlainFault;
 use crate::job::{Channel, Configuration, Job, Move, Route, Task, TaskState};
@@ -257,8 +257,8 @@ impl<O: Operator> PlainMachine<O, O::Record, O::Key, O::State> {
 
     /// A source reads.
     fn read(&mut self, alloc: Global, task: usize) -> Result<bool, PlainFault>
-        ensures made { IfOk result (λ made. made ≡ true → Step (job_of O.meaning self.old.job) (Read task) (configuration_of O.Key.cmp self.old.configuration) (configuration_of O.Key.cmp self.new.configuration)) }
-        ensures not_made { IfOk result (λ made. made ≡ false → (¬ (IsPossible (job_of O.meaning self.old.job) (Read task) (configuration_of O.Key.cmp self.old.configuration))) × (self.new ≡ self.old)) }
+        ensures made { IfOk result (λ made. made ≡ true → MakesStep O.meaning O.Key.cmp self.old.job (Read task) self.old.configuration self.new.configuration) }
+        ensures not_made { IfOk result (λ made. made ≡ false → IsImpossible O.meaning O.Key.cmp self.old.job (Read task) self.old.configuration × (self.new ≡ self.old)) }
         ensures job { self.new.job ≡ self.old.job }
         ensures err { OnErr result (self.new ≡ self.old) }
         ensures memory { IfErr result (λ f. f ≡ PlainFault.Memory) }
@@ -284,9 +284,9 @@ impl<O: Operator> PlainMachine<O, O::Record, O::Key, O::State> {
     ) -> Result<(), PlainFault>
         requires sink { slice_get (job_of O.meaning self.old.job).graph.tasks task ≡ Some SinkTask }
         requires first { offered (job_of O.meaning self.old.job) (Work task input) (configuration_of O.Key.cmp self.old.configuration) ≡ Some taken }
-        ensures made { OnOk result (Step (job_of O.meaning self.old.job) (Work task input) (configuration_of O.Key.cmp self.old.configuration) (configuration_of O.Key.cmp self.new.configuration)) }
+        ensures made { OnOk result (MakesStep O.meaning O.Key.cmp self.old.job (Work task input) self.old.configuration self.new.configuration) }
         ensures job { self.new.job ≡ self.old.job }
-        ensures err { OnErr result (configuration_of O.Key.cmp self.new.configuration ≡ configuration_of O.Key.cmp self.old.configuration) }
+        ensures err { OnErr result (StaysAt O.Key.cmp self.old.configuration self.new.configuration) }
         ensures memory { IfErr result (λ f. f ≡ PlainFault.Memory) }
     {
         let sent = Vec::new(alloc);
@@ -307,10 +307,10 @@ impl<O: Operator> PlainMachine<O, O::Record, O::Key, O::State> {
     ) -> Result<(), PlainFault>
         requires operator { IsOperator (slice_get (job_of O.meaning self.old.job).graph.tasks task) }
         requires first { offered (job_of O.meaning self.old.job) (Work task input) (configuration_of O.Key.cmp self.old.configuration) ≡ Some taken }
-        ensures made { OnOk result (Step (job_of O.meaning self.old.job) (Work task input) (configuration_of O.Key.cmp self.old.configuration) (configuration_of O.Key.cmp self.new.configuration)) }
+        ensures made { OnOk result (MakesStep O.meaning O.Key.cmp self.old.job (Work task input) self.old.configuration self.new.configuration) }
         ensures job { self.new.job ≡ self.old.job }
-        ensures err { OnErr result (configuration_of O.Key.cmp self.new.configuration ≡ configuration_of O.Key.cmp self.old.configuration) }
-        ensures unfit { IfErr result (λ f. f ≡ PlainFault.Unfit → IsUnfit (job_of O.meaning self.old.job) (Fits O.Record.HasSpelling O.Record.spelling) (IsGoodState (Fits O.State.HasSpelling O.State.spelling) O.Suits) (Work task input) (configuration_of O.Key.cmp self.old.configuration)) }
+        ensures err { OnErr result (StaysAt O.Key.cmp self.old.configuration self.new.configuration) }
+        ensures unfit { IfErr result (λ f. f ≡ PlainFault.Unfit → HandsUnfit O.meaning O.Key.cmp (Fits O.Record.HasSpelling O.Record.spelling) (IsGoodState (Fits O.State.HasSpelling O.State.spelling) O.Suits) self.old.job (Work task input) self.old.configuration) }
     {
         let Task::Operator(operator) = &self.job.tasks[task] else {
             return Ok(());
@@ -327,11 +327,11 @@ impl<O: Operator> PlainMachine<O, O::Record, O::Key, O::State> {
 
     /// A task works off the first record of an input.
     fn work(&mut self, alloc: Global, task: usize, input: usize) -> Result<bool, PlainFault>
-        ensures made { IfOk result (λ made. made ≡ true → Step (job_of O.meaning self.old.job) (Work task input) (configuration_of O.Key.cmp self.old.configuration) (configuration_of O.Key.cmp self.new.configuration)) }
-        ensures not_made { IfOk result (λ made. made ≡ false → (¬ (IsPossible (job_of O.meaning self.old.job) (Work task input) (configuration_of O.Key.cmp self.old.configuration))) × (self.new ≡ self.old)) }
+        ensures made { IfOk result (λ made. made ≡ true → MakesStep O.meaning O.Key.cmp self.old.job (Work task input) self.old.configuration self.new.configuration) }
+        ensures not_made { IfOk result (λ made. made ≡ false → IsImpossible O.meaning O.Key.cmp self.old.job (Work task input) self.old.configuration × (self.new ≡ self.old)) }
         ensures job { self.new.job ≡ self.old.job }
-        ensures err { OnErr result (configuration_of O.Key.cmp self.new.configuration ≡ configuration_of O.Key.cmp self.old.configuration) }
-        ensures unfit { IfErr result (λ f. f ≡ PlainFault.Unfit → IsUnfit (job_of O.meaning self.old.job) (Fits O.Record.HasSpelling O.Record.spelling) (IsGoodState (Fits O.State.HasSpelling O.State.spelling) O.Suits) (Work task input) (configuration_of O.Key.cmp self.old.configuration)) }
+        ensures err { OnErr result (StaysAt O.Key.cmp self.old.configuration self.new.configuration) }
+        ensures unfit { IfErr result (λ f. f ≡ PlainFault.Unfit → HandsUnfit O.meaning O.Key.cmp (Fits O.Record.HasSpelling O.Record.spelling) (IsGoodState (Fits O.State.HasSpelling O.State.spelling) O.Suits) self.old.job (Work task input) self.old.configuration) }
     {
         let Some(first) = self.first_record(task, input) else {
             return Ok(false);
@@ -347,11 +347,11 @@ impl<O: Operator> PlainMachine<O, O::Record, O::Key, O::State> {
 
     /// Makes the move, or answers that it is not possible. An `Err` leaves the machine where it was.
     pub fn step(&mut self, alloc: Global, step: &Move) -> Result<bool, PlainFault>
-        ensures made { IfOk result (λ made. made ≡ true → Step (job_of O.meaning self.old.job) (move_of step.now) (configuration_of O.Key.cmp self.old.configuration) (configuration_of O.Key.cmp self.new.configuration)) }
-        ensures not_made { IfOk result (λ made. made ≡ false → (¬ (IsPossible (job_of O.meaning self.old.job) (move_of step.now) (configuration_of O.Key.cmp self.old.configuration))) × (self.new ≡ self.old)) }
+        ensures made { IfOk result (λ made. made ≡ true → MakesStep O.meaning O.Key.cmp self.old.job (move_of step.now) self.old.configuration self.new.configuration) }
+        ensures not_made { IfOk result (λ made. made ≡ false → IsImpossible O.meaning O.Key.cmp self.old.job (move_of step.now) self.old.configuration × (self.new ≡ self.old)) }
         ensures job { self.new.job ≡ self.old.job }
-        ensures err { OnErr result (configuration_of O.Key.cmp self.new.configuration ≡ configuration_of O.Key.cmp self.old.configuration) }
-        ensures unfit { IfErr result (λ f. f ≡ PlainFault.Unfit → IsUnfit (job_of O.meaning self.old.job) (Fits O.Record.HasSpelling O.Record.spelling) (IsGoodState (Fits O.State.HasSpelling O.State.spelling) O.Suits) (move_of step.now) (configuration_of O.Key.cmp self.old.configuration)) }
+        ensures err { OnErr result (StaysAt O.Key.cmp self.old.configuration self.new.configuration) }
+        ensures unfit { IfErr result (λ f. f ≡ PlainFault.Unfit → HandsUnfit O.meaning O.Key.cmp (Fits O.Record.HasSpelling O.Record.spelling) (IsGoodState (Fits O.State.HasSpelling O.State.spelling) O.Suits) self.old.job (move_of step.now) self.old.configuration) }
     {
         match step {
             Move::Read(task) => self.read(alloc, *task),
@@ -361,9 +361,9 @@ impl<O: Operator> PlainMachine<O, O::Record, O::Key, O::State> {
 
     /// Makes the moves, up to the first that is not possible, and answers how many it made. An `Err` leaves the machine after some of them.
     pub fn run(&mut self, alloc: Global, moves: &[Move]) -> Result<usize, PlainFault>
-        ensures made { IfOk result (λ made. Reaches (job_of O.meaning self.old.job) (map move_of (take made moves.now)) (configuration_of O.Key.cmp self.old.configuration) (configuration_of O.Key.cmp self.new.configuration)) }
-        ensures stopped { IfOk result (λ made. (next : code.Move) → slice_get moves.now made ≡ Some next → ¬ IsPossible (job_of O.meaning self.old.job) (move_of next) (configuration_of O.Key.cmp self.new.configuration)) }
-        ensures err { OnErr result ((made : ℕ) × Reaches (job_of O.meaning self.old.job) (map move_of (take made moves.now)) (configuration_of O.Key.cmp self.old.configuration) (configuration_of O.Key.cmp self.new.configuration)) }
+        ensures made { IfOk result (λ made. GoesAlong O.meaning O.Key.cmp self.old.job (take made moves.now) self.old.configuration self.new.configuration) }
+        ensures stopped { IfOk result (λ made. (next : code.Move) → slice_get moves.now made ≡ Some next → IsImpossible O.meaning O.Key.cmp self.old.job (move_of next) self.new.configuration) }
+        ensures err { OnErr result ((made : ℕ) × GoesAlong O.meaning O.Key.cmp self.old.job (take made moves.now) self.old.configuration self.new.configuration) }
         ensures job { self.new.job ≡ self.old.job }
     {
         for (made, step) in moves.iter().enumerate() {
