@@ -1,0 +1,9 @@
+pub mod Counted
+pub mod Ends
+pub mod Replaced
+pub mod Kept
+pub mod Rows
+pub mod Committed
+pub mod Begun
+pub mod Ready
+pub mod Unsettled

@@ -23,8 +23,12 @@ pub record Ledger : Type 0 where
 abbrev pub blank : ℕ → Ledger
 blank subtasks = record { subtasks = subtasks; transactions = []; committed = [] }
 
+-- the transaction of a number
+abbrev pub transaction_in : List Transaction → ℕ → Option Transaction
+transaction_in transactions n = if n == 0 then None else slice_get transactions (n - 1)
+
 abbrev pub transaction_at : Ledger → ℕ → Option Transaction
-transaction_at l n = if n == 0 then None else slice_get l.transactions (n - 1)
+transaction_at l n = transaction_in l.transactions n
 
 abbrev pub records_of : Ledger → ℕ → List (List ℕ)
 records_of l n = elim (transaction_at l n) [ None ↦ [] | Some t ↦ t.records ]
@@ -36,9 +40,15 @@ is_of l subtask n = elim (transaction_at l n) [ None ↦ false | Some t ↦ t.su
 abbrev pub committed_rows : Ledger → ℕ → List (List ℕ)
 committed_rows l subtask = flat_map (records_of l) (filter (is_of l subtask) l.committed)
 
--- a transaction that is neither committed nor aborted, with its checkpoint if it is pre-committed
+-- the number of a transaction that is neither committed nor aborted, with its checkpoint if it is pre-committed
+abbrev pub unsettled_as : ℕ → Progress → Option (ℕ × Option ℕ)
+unsettled_as n Open = Some (n, None)
+unsettled_as n (PreCommitted checkpoint) = Some (n, Some checkpoint)
+unsettled_as n Committed = None
+unsettled_as n Aborted = None
+
 abbrev pub unsettled_one : ℕ → ℕ × Transaction → Option (ℕ × Option ℕ)
-unsettled_one subtask e = if e.1.subtask == subtask then elim e.1.progress [ Open ↦ Some (e.0, None) | PreCommitted n ↦ Some (e.0, Some n) | Committed ↦ None | Aborted ↦ None ] else None
+unsettled_one subtask e = if e.1.subtask == subtask then unsettled_as e.0 e.1.progress else None
 
 -- those of a subtask, in rising number
 abbrev pub unsettled_of : Ledger → ℕ → List (ℕ × Option ℕ)
@@ -46,8 +56,16 @@ unsettled_of l subtask = filter_map (unsettled_one subtask) (enumerate_from 1 l.
 
 -- The calls, each by why it is refused and what it leaves at Ok.
 
+-- why a call on a transaction is refused, of which `judge` says why how far it has come refuses it
+abbrev pub refusal : (Progress → Option TransactionFault) → Option Transaction → Option TransactionFault
+refusal judge None = Some NoSuchTransaction
+refusal judge (Some t) = judge t.progress
+
 abbrev pub with_transaction : Ledger → ℕ → Transaction → Ledger
 with_transaction l n t = record l { transactions = slice_set l.transactions (n - 1) t }
+
+abbrev pub changed : Ledger → ℕ → (Transaction → Transaction) → Ledger
+changed l n change = elim (transaction_at l n) [ None ↦ l | Some t ↦ with_transaction l n (change t) ]
 
 abbrev pub begun : Ledger → ℕ → Ledger
 begun l subtask = record l { transactions = l.transactions ++ record { subtask = subtask; progress = Open; records = [] } ∷ [] }
@@ -59,13 +77,13 @@ if_open Committed = Some NotOpen
 if_open Aborted = Some NotOpen
 
 abbrev pub open_refusal : Ledger → ℕ → Option TransactionFault
-open_refusal l n = elim (transaction_at l n) [ None ↦ Some NoSuchTransaction | Some t ↦ if_open t.progress ]
+open_refusal l n = refusal if_open (transaction_at l n)
 
 abbrev pub appended : Ledger → ℕ → List ℕ → Ledger
-appended l n bytes = elim (transaction_at l n) [ None ↦ l | Some t ↦ with_transaction l n (record t { records = t.records ++ bytes ∷ [] }) ]
+appended l n bytes = changed l n (λ t. record t { records = t.records ++ bytes ∷ [] })
 
 abbrev pub pre_committed : Ledger → ℕ → ℕ → Ledger
-pre_committed l n checkpoint = elim (transaction_at l n) [ None ↦ l | Some t ↦ with_transaction l n (record t { progress = PreCommitted checkpoint }) ]
+pre_committed l n checkpoint = changed l n (λ t. record t { progress = PreCommitted checkpoint })
 
 abbrev pub if_pre_committed : Progress → Option TransactionFault
 if_pre_committed Open = Some NotPreCommitted
@@ -74,19 +92,17 @@ if_pre_committed Committed = None
 if_pre_committed Aborted = Some NotPreCommitted
 
 abbrev pub commit_refusal : Ledger → ℕ → Option TransactionFault
-commit_refusal l n = elim (transaction_at l n) [ None ↦ Some NoSuchTransaction | Some t ↦ if_pre_committed t.progress ]
+commit_refusal l n = refusal if_pre_committed (transaction_at l n)
 
--- a second commit changes nothing
+abbrev pub commits : Ledger → ℕ → Transaction → Progress → Ledger
+commits l n t Open = l
+commits l n t (PreCommitted checkpoint) = record (with_transaction l n (record t { progress = Committed })) { committed = l.committed ++ n ∷ [] }
+commits l n t Committed = l
+commits l n t Aborted = l
+
+-- what is pre-committed is committed, and comes last in the order of commit; a second commit changes nothing
 abbrev pub after_commit : Ledger → ℕ → Ledger
-after_commit l n = elim (transaction_at l n) [
-  | None ↦ l
-  | Some t ↦ elim t.progress [
-    | Open ↦ l
-    | PreCommitted checkpoint ↦ record (with_transaction l n (record t { progress = Committed })) { committed = l.committed ++ n ∷ [] }
-    | Committed ↦ l
-    | Aborted ↦ l
-  ]
-]
+after_commit l n = elim (transaction_at l n) [ None ↦ l | Some t ↦ commits l n t t.progress ]
 
 abbrev pub if_not_committed : Progress → Option TransactionFault
 if_not_committed Open = None
@@ -95,16 +111,22 @@ if_not_committed Committed = Some AlreadyCommitted
 if_not_committed Aborted = None
 
 abbrev pub abort_refusal : Ledger → ℕ → Option TransactionFault
-abort_refusal l n = elim (transaction_at l n) [ None ↦ Some NoSuchTransaction | Some t ↦ if_not_committed t.progress ]
+abort_refusal l n = refusal if_not_committed (transaction_at l n)
 
 -- an aborted transaction has no records
 abbrev pub aborted : Ledger → ℕ → Ledger
-aborted l n = elim (transaction_at l n) [ None ↦ l | Some t ↦ with_transaction l n (record t { progress = Aborted; records = [] }) ]
+aborted l n = changed l n (λ t. record t { progress = Aborted; records = [] })
 
 -- What every ledger keeps.
 
+abbrev pub has_committed : Progress → Bool
+has_committed Open = false
+has_committed (PreCommitted n) = false
+has_committed Committed = true
+has_committed Aborted = false
+
 abbrev pub is_committed : Ledger → ℕ → Bool
-is_committed l n = elim (transaction_at l n) [ None ↦ false | Some t ↦ elim t.progress [ Open ↦ false | PreCommitted c ↦ false | Committed ↦ true | Aborted ↦ false ] ]
+is_committed l n = elim (transaction_at l n) [ None ↦ false | Some t ↦ has_committed t.progress ]
 
 pub record IsOrdered (l : Ledger) : Type 0 where
   -- the order of commit has each committed transaction once, and nothing else

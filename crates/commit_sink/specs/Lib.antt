@@ -1,2 +1,7 @@
 pub mod Ledger
+pub mod Roomy
+pub mod Shares
+pub mod Ends
 pub mod Sink
+pub mod Calls
+pub mod FlakyTransactions

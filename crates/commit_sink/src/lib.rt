@@ -5,8 +5,15 @@
 //! all of its work.
 #![tactic(auto)]
 
+mod entry;
+mod flaky_transactions;
+mod memory_transactions;
+mod roomy;
+mod share;
 mod sink;
 mod transactions;
 
+pub use flaky_transactions::{FaultlessTransactions, FlakyTransactions, TransactionCall};
+pub use memory_transactions::MemoryTransactions;
 pub use sink::{Pending, Sink};
 pub use transactions::{Progress, TransactionFault, Transactions};

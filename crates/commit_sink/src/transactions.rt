@@ -2,8 +2,11 @@
 
 ghost use Rattle.std.specs.Prelude.{◌≡◌, ◌≢◌, ◌↔◌, ◌<◌, ◌+◌, ◌^◌, ℕ, None, Some, Err, [], length, slice_get, IfOk, IfErr, IsTrue};
 ghost use Rattle.std.specs.Option.{option_map};
+ghost use Rattle.commit_sink.specs.declared.transactions.TransactionFault.TheVariants.{Memory};
 ghost use Rattle.commit_sink.specs.Ledger.{Ledger, Ends, IsOrdered, aborted, abort_refusal, appended, begun, committed_rows, after_commit, commit_refusal, open_refusal, pre_committed, unsettled_of};
 
+use abs_codec::NoMemory;
+use std::alloc::{AllocError, AllocFailed};
 use thiserror::Error;
 
 /// How far a transaction has come.
@@ -40,6 +43,30 @@ pub enum TransactionFault {
     /// Memory was refused, or the subtask has 2^64 - 1 records.
     #[error("X6 Memory")]
     Memory,
+}
+
+impl From<NoMemory> for TransactionFault {
+    ghost from_gives = { λ _ e. e ≡ Memory };
+
+    fn from(_e: NoMemory) -> TransactionFault {
+        TransactionFault::Memory
+    }
+}
+
+impl<T: Drop> From<AllocFailed<T>> for TransactionFault {
+    ghost from_gives = { λ _ e. e ≡ Memory };
+
+    fn from(_e: AllocFailed<T>) -> TransactionFault {
+        TransactionFault::Memory
+    }
+}
+
+impl From<AllocError> for TransactionFault {
+    ghost from_gives = { λ _ e. e ≡ Memory };
+
+    fn from(_e: AllocError) -> TransactionFault {
+        TransactionFault::Memory
+    }
 }
 
 /// Transactions of the subtasks of a job's sinks. Subtasks are numbered from 0, transactions over all subtasks from 1.
