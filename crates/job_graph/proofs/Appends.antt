@@ -1,5 +1,5 @@
 -- Bytes that are written one after another.
-use Rattle.std.proofs.Common.{◌≡◌, ◌∙◌, ℕ, ◌+◌, ◌<◌, List, [], ◌∷◌, ◌++◌, length, drop, get_or, Result, Ok, Err, OnOk, refl, sym, ap, append_assoc, add-one, drop-cons}
+use Rattle.std.proofs.Common.{◌≡◌, ◌∙◌, ℕ, ◌+◌, ◌<◌, List, [], ◌∷◌, ◌++◌, length, drop, get_or, Result, Ok, Err, OnOk, sym, ap, append_assoc, add-one, drop-cons}
 use Rattle.std.specs.List.{flat_map}
 
 pub appended_behind : {A E : Type 0} (H : Type 0) (r : Result A E) (old middle new more : List ℕ) (x : ℕ) → middle ≡ old ++ x ∷ [] → OnOk r (H × (new ≡ middle ++ more)) → OnOk r (new ≡ old ++ (x ∷ [] ++ more))

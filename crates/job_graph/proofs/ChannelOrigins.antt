@@ -1,9 +1,9 @@
 -- The channels of an edge, and the edge of a channel.
-use Rattle.std.proofs.Common.{◌≡◌, ◌∙◌, ℕ, zero, suc, ◌+◌, ◌<◌, ◌≤◌, Bool, true, false, cond, ◌&&◌, ◌||◌, not, List, [], ◌∷◌, ◌++◌, length, map, Some, slice_get, slice_index, refl, sym, ap, subst, All, arith}
+use Rattle.std.proofs.Common.{◌≡◌, ◌∙◌, ℕ, zero, suc, ◌+◌, ◌<◌, Bool, true, false, cond, ◌||◌, List, [], ◌∷◌, Some, slice_get, slice_index, refl, sym, ap, subst, All, arith}
 use Rattle.std.proofs.lemmas.Bool.{false≢true}
 use Rattle.std.proofs.lemmas.Option.{slice_get_within, get_or_from_slice_get}
-use Rattle.std.specs.List.{flat_map, list_any, range_with_len}
-use Rattle.dataflow_model.specs.Graph.{Channel, Every, Lanes}
+use Rattle.std.specs.List.{list_any, range_with_len}
+use Rattle.dataflow_model.specs.Graph.{Channel, Every}
 use Rattle.job_spec.specs.declared.edge.EdgeRoute.{EdgeRoute}
 use Rattle.job_spec.specs.declared.edge.EdgeRoute.TheVariants.{Forward, Hash, Broadcast}
 use Rattle.job_spec.specs.declared.edge.EdgeSpec.{EdgeSpec}

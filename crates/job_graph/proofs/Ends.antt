@@ -1,12 +1,12 @@
 -- The vertices of edges and orders.
-use Rattle.std.proofs.Common.{◌≡◌, ◌∙◌, ℕ, ◌+◌, ◌^◌, ◌<◌, ◌≤◌, ◌&&◌, not, true, ltb, List, length, take, get_or, Some, slice_get, sum, All, sym, ap, subst, arith}
+use Rattle.std.proofs.Common.{◌≡◌, ℕ, ◌^◌, ◌<◌, ◌≤◌, ltb, List, length, get_or, sum, All, ap, subst, arith}
 use Rattle.std.proofs.lemmas.Bool.{ltb-true, and_parts}
 use Rattle.std.proofs.lemmas.Option.{slice_get_within, get_or_from_slice_get, slice_get-get_or}
-use Rattle.job_spec.specs.Job.{Job, IsJob, IsEdge, Vertex}
+use Rattle.job_spec.specs.Job.{Job, IsJob, Vertex}
 use Rattle.job_spec.specs.declared.edge.EdgeSpec.{EdgeSpec}
 use Rattle.std.specs.List.{flat_map}
 use Rattle.job_graph.specs.Expansion.{parallelisms_of, subtasks_of}
-use Rattle.job_graph.specs.Order.{IsInOrder, rest}
+use Rattle.job_graph.specs.Order.{IsInOrder}
 use Rattle.job_graph.proofs.TaskLemmas.{length-subtasks}
 
 -- the ends of edges are vertices

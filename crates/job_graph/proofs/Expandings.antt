@@ -1,11 +1,11 @@
 -- What a job expands to is a graph.
-use Rattle.std.proofs.Common.{◌≡◌, ◌∙◌, ℕ, zero, suc, ◌+◌, ◌<◌, ◌≤◌, Bool, true, false, cond, ◌&&◌, ◌||◌, not, eqb, ltb, List, [], ◌∷◌, ◌++◌, length, take, map, sum, get_or, Some, None, Option, slice_get, slice_index, refl, sym, ap, subst, true≢false, IsPermutation, length-append, append_assoc, arith}
-use Rattle.std.proofs.lemmas.Bool.{false≢true, eqb-true, eq-eqb, ltb-true, lt-ltb, and_parts, not-true, not-false, not_from_false}
+use Rattle.std.proofs.Common.{◌≡◌, ◌∙◌, ℕ, zero, suc, ◌+◌, ◌<◌, ◌≤◌, Bool, true, false, ◌&&◌, ◌||◌, not, eqb, ltb, List, [], ◌∷◌, ◌++◌, length, take, map, sum, get_or, Some, Option, slice_get, slice_index, refl, sym, ap, subst, true≢false, IsPermutation, arith}
+use Rattle.std.proofs.lemmas.Bool.{false≢true, eqb-true, eq-eqb, ltb-true, lt-ltb, and_parts, not-true}
 use Rattle.std.proofs.lemmas.List.{length-map}
-use Rattle.std.proofs.lemmas.List.FromFn.{length-map-range_with_len, length-range_with_len}
+use Rattle.std.proofs.lemmas.List.FromFn.{length-map-range_with_len}
 use Rattle.std.proofs.lemmas.List.Sums.{sum_by_more}
 use Rattle.std.proofs.lemmas.Option.{slice_get-map, slice_get_within, get_or_from_slice_get}
-use Rattle.std.specs.List.{flat_map, list_any, range_with_len}
+use Rattle.std.specs.List.{flat_map, range_with_len}
 use Rattle.std.specs.Option.{option_map_or}
 use Rattle.dataflow_model.specs.Graph.{Channel}
 use Rattle.job_spec.specs.declared.edge.EdgeRoute.{EdgeRoute}
@@ -13,12 +13,12 @@ use Rattle.job_spec.specs.declared.edge.EdgeRoute.TheVariants.{Forward, Hash, Br
 use Rattle.job_spec.specs.declared.edge.EdgeSpec.{EdgeSpec}
 use Rattle.job_spec.specs.Job as job
 use Rattle.job_graph.specs.declared.role.Role.{Role}
-use Rattle.job_graph.specs.Expanded.{Expanded, IsExpanded, IsChannel, IsSender, IsReceiver, HasPlainInput, StandsBefore, task_kind, is_source}
-use Rattle.job_graph.specs.Expansion.{Expands, IsVertexOrder, block, blocks, edge_channels, first_task, has_plain_input, is_fed, is_forward, parallelisms_of, subtasks_of, task_kinds_of}
-use Rattle.job_graph.specs.Order.{IsNext, IsInOrder, has_input_from, is_ready, rest}
+use Rattle.job_graph.specs.Expanded.{Expanded, IsExpanded, IsChannel, IsSender, IsReceiver, HasPlainInput, StandsBefore, task_kind}
+use Rattle.job_graph.specs.Expansion.{Expands, block, blocks, edge_channels, first_task, has_plain_input, is_fed, is_forward, parallelisms_of, subtasks_of, task_kinds_of}
+use Rattle.job_graph.specs.Order.{is_ready, rest}
 use Rattle.job_graph.proofs.ChannelOrigins.{IsEven, IsOfEdge, channel_of_edge, edge_reaches, all_at, some_is, none_is}
 use Rattle.job_graph.proofs.FlatMaps.{offset, has_at, origin_at, offset_rises, mapped_at, mapped_from}
-use Rattle.job_graph.proofs.TaskLemmas.{offset_subtasks, length-subtasks, parallelism_at, subtask_from, blocks_apart, kind_takes, ports_two, sender_at, receiver_at}
+use Rattle.job_graph.proofs.TaskLemmas.{length-subtasks, parallelism_at, subtask_from, blocks_apart, kind_takes, ports_two, sender_at, receiver_at}
 
 forward_is : (route : EdgeRoute) → is_forward route ≡ true → route ≡ Forward
 forward_is Forward h = refl

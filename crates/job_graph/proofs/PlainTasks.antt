@@ -1,5 +1,5 @@
 -- The plain machine's graph of an expanded job.
-use Rattle.std.proofs.Common.{◌≡◌, ◌∙◌, ℕ, List, map, Option, Some, None, option_map, slice_get, refl, ap}
+use Rattle.std.proofs.Common.{◌≡◌, ◌∙◌, ℕ, List, Option, Some, option_map, slice_get, ap}
 use Rattle.std.proofs.lemmas.Option.{slice_get-map}
 use Rattle.dataflow_model.specs.Graph.{Task, Channel}
 use Rattle.job_graph.specs.declared.role.Role.{Role}

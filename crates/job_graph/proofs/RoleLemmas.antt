@@ -1,5 +1,5 @@
 -- Roles that are numbered one after another.
-use Rattle.std.proofs.Common.{◌≡◌, ◌∙◌, ℕ, ◌+◌, ◌<◌, ◌≤◌, ◌⊎◌, List, [], ◌∷◌, ◌++◌, length, take, map, get_or, Some, slice_get, refl, sym, ap, inl, inr, arith}
+use Rattle.std.proofs.Common.{◌≡◌, ◌∙◌, ℕ, ◌+◌, ◌<◌, ◌⊎◌, List, [], ◌∷◌, ◌++◌, length, take, map, get_or, Some, slice_get, sym, ap, inl, inr, arith}
 use Rattle.std.proofs.lemmas.List.{take-append-le, take_more, map_push}
 use Rattle.std.proofs.lemmas.Option.{slice_get_within}
 use Rattle.std.proofs.Math.Seq.{take-append_seam}

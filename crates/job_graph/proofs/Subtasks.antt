@@ -1,5 +1,5 @@
 -- Sink tasks and their subtask numbers.
-use Rattle.std.proofs.Common.{◌≡◌, ◌∙◌, ℕ, zero, suc, ◌+◌, ◌<◌, ◌≤◌, ◌⊎◌, Bool, true, false, cond, eqb, inl, inr, List, [], ◌∷◌, length, take, count_by, Option, Some, None, IfSome, IfNone, slice_get, refl, sym, ap, true≢false, arith, zero-add}
+use Rattle.std.proofs.Common.{◌≡◌, ◌∙◌, ℕ, zero, suc, ◌+◌, ◌<◌, ◌≤◌, ◌⊎◌, Bool, true, false, cond, inl, inr, List, [], ◌∷◌, length, take, count_by, Option, Some, None, IfSome, IfNone, slice_get, refl, sym, ap, arith}
 use Rattle.std.specs.List.{find, range_with_len}
 use Rattle.std.specs.Option.{option_map_or}
 use Rattle.std.proofs.lemmas.Bool.{eq-eqb, eqb-true, false≢true, cases_lt}
@@ -7,7 +7,7 @@ use Rattle.std.proofs.lemmas.List.Sums.{sum_by-cons}
 use Rattle.std.proofs.lemmas.Option.{slice_get_within}
 use Rattle.job_graph.specs.declared.role.Role.{Role}
 use Rattle.job_graph.specs.declared.role.Role.TheVariants.{Source, Operator, Sink}
-use Rattle.job_graph.specs.Expanded.{Expanded, IsExpanded, is_sink, is_subtask, is_subtask_at, role_number}
+use Rattle.job_graph.specs.Expanded.{Expanded, IsExpanded, is_sink, is_subtask, is_subtask_at}
 
 -- a task that is a sink, behind so many others
 record IsSinkBehind (tasks : List Role) (k : ℕ) : Type 0 where

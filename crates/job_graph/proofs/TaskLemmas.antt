@@ -1,5 +1,5 @@
 -- The tasks of a job's vertices.
-use Rattle.std.proofs.Common.{◌≡◌, ◌∙◌, ℕ, zero, suc, ◌+◌, ◌<◌, ◌≤◌, ◌⊎◌, inl, inr, Bool, true, false, List, [], ◌∷◌, ◌++◌, length, take, map, sum, replicate, Some, None, option_map, slice_get, slice_index, refl, sym, ap, subst, true≢false, length-append, arith}
+use Rattle.std.proofs.Common.{◌≡◌, ◌∙◌, ℕ, zero, suc, ◌+◌, ◌<◌, ◌≤◌, ◌⊎◌, inl, inr, false, List, [], ◌∷◌, length, take, map, sum, replicate, Some, option_map, slice_get, slice_index, refl, sym, ap, true≢false, length-append, arith}
 use Rattle.std.proofs.lemmas.Bool.{cases_order}
 use Rattle.std.proofs.lemmas.List.{length-replicate}
 use Rattle.std.proofs.lemmas.List.Sums.{sum_by-cons}
@@ -9,7 +9,6 @@ use Rattle.job_spec.specs.Job as job
 use Rattle.job_graph.specs.declared.role.Role.{Role}
 use Rattle.job_graph.specs.declared.role.Role.TheVariants.{Source, Operator, Sink}
 use Rattle.job_graph.specs.declared.role.TaskKind.{TaskKind}
-use Rattle.job_graph.specs.declared.role.TaskKind.TheVariants as task
 use Rattle.job_graph.specs.Expanded.{IsSender, IsReceiver, is_source, is_sink, task_kind}
 use Rattle.job_graph.specs.Expansion.{kind_of, subtasks_of, parallelisms_of, first_task}
 use Rattle.job_graph.proofs.FlatMaps.{offset, has_at, origin_at, offset_rises, map_from}

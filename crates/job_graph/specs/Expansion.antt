@@ -6,7 +6,7 @@ use Rattle.dataflow_model.specs.Graph.{Channel, Route, Every, Lanes}
 use Rattle.job_spec.specs.declared.fault.JobFault.{JobFault}
 use Rattle.job_spec.specs.declared.fault.JobFault.TheVariants as faults
 use Rattle.job_spec.specs.declared.edge.EdgeRoute.{EdgeRoute}
-use Rattle.job_spec.specs.declared.edge.EdgeRoute.TheVariants.{Forward, Hash, Broadcast}
+use Rattle.job_spec.specs.declared.edge.EdgeRoute.TheVariants.{Forward, Hash}
 use Rattle.job_spec.specs.declared.edge.EdgeSpec.{EdgeSpec}
 use Rattle.job_spec.specs.Job.{Kind, source, sink, Vertex, Job, is_source}
 use Rattle.job_graph.specs.declared.role.TaskKind.{TaskKind}

@@ -1,5 +1,5 @@
 -- Vertices in the order in which records can reach them, and those on cycles.
-use Rattle.std.specs.Prelude.{◌≡◌, ℕ, ◌+◌, ◌<◌, ◌&&◌, ◌==◌, List, [], ◌∷◌, length, take, Bool, true, false, not, nat_lt, slice_index_or, if◌then◌else◌}
+use Rattle.std.specs.Prelude.{◌≡◌, ℕ, ◌<◌, ◌&&◌, ◌==◌, List, length, take, Bool, true, false, not, nat_lt, slice_index_or}
 use Rattle.std.specs.List.{list_any}
 use Rattle.job_spec.specs.declared.edge.EdgeSpec.{EdgeSpec}
 

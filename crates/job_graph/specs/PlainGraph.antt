@@ -1,5 +1,5 @@
 -- The graph of the plain machine that an expanded job is, with an operator for each operator task.
-use Rattle.std.specs.Prelude.{◌≡◌, ℕ, List, map, count_by, length, Option, Some, None, slice_get}
+use Rattle.std.specs.Prelude.{◌≡◌, List, map, count_by, length, Option, Some, None, slice_get}
 use Rattle.dataflow_model.specs.Graph.{Graph, Task, SourceTask, OperatorTask, SinkTask}
 use Rattle.job_graph.specs.declared.role.Role.{Role}
 use Rattle.job_graph.specs.declared.role.Role.TheVariants.{Source, Operator, Sink}

@@ -1,5 +1,5 @@
 -- The tables that a graph keeps of its channels, for each task.
-use Rattle.std.specs.Prelude.{◌≡◌, ℕ, ◌<◌, List, length, map, Some, slice_get}
+use Rattle.std.specs.Prelude.{◌≡◌, ℕ, List, Some, slice_get}
 use Rattle.dataflow_model.specs.Graph as model
 use Rattle.job_graph.specs.declared.links.Links.{Links}
 use Rattle.job_graph.specs.Expanded.{numbers_of, is_input, is_output, is_outlet}

@@ -1,5 +1,5 @@
 -- The value of bytes, where they are UTF-8 and where they are not.
-use Rattle.std.proofs.Common.{◌≡◌, ℕ, List, Bool, true, false, cond, None, refl}
+use Rattle.std.proofs.Common.{◌≡◌, ℕ, List, true, false, cond, None, refl}
 use Rattle.std.specs.Str.{IsUtf8, is_utf8}
 use Rattle.std.proofs.lemmas.Str.{IsUtf8-from_is_utf8, is_utf8-from_IsUtf8}
 use Rattle.serde_json.specs.Read.{read}

@@ -1,13 +1,12 @@
 -- What every job that was read keeps.
-use Rattle.std.proofs.Common.{◌≡◌, ◌∙◌, ℕ, zero, suc, ◌+◌, ◌<◌, ◌≤◌, ℤ, pos, negsuc, Bool, true, false, cond, not, ◌&&◌, ◌==◌, List, [], ◌∷◌, ◌++◌, length, map, Option, Some, None, option_map, option_and_then, slice_get, position, is_some, Result, Ok, Err, IfOk, refl, sym, ap, subst, arith, true≢false, codes, nat_le, nat_lt, All}
+use Rattle.std.proofs.Common.{◌≡◌, ◌∙◌, ℕ, ◌+◌, ◌<◌, ◌≤◌, ℤ, pos, negsuc, Bool, true, false, cond, not, ◌&&◌, ◌==◌, List, [], ◌∷◌, ◌++◌, length, Option, Some, None, option_map, option_and_then, slice_get, position, Result, Ok, Err, IfOk, refl, sym, ap, subst, arith, codes, nat_le, nat_lt}
 use Rattle.std.specs.List.{AllByRecursion}
 use Rattle.std.specs.Str.{bytes_eq}
 use Rattle.std.proofs.lemmas.List.Elements.{All-from_recursion}
-use Rattle.std.proofs.lemmas.Option.{slice_get_within}
 use Rattle.std.proofs.lemmas.Bool.{leb-true, leb-false, and_parts, false≢true, lt-ltb, eqb-true, not-false}
 use Rattle.serde_json.specs.Data.{Data, Items, no_items, item}
 use Rattle.serde_json.specs.Events.{items_len}
-use Rattle.serde_json.specs.Find.{get, as_array, as_number, as_i64}
+use Rattle.serde_json.specs.Find.{get, as_array}
 use Rattle.job_spec.specs.declared.fault.JobFault.{JobFault}
 use Rattle.job_spec.specs.declared.fault.JobFault.TheVariants as faults
 use Rattle.job_spec.specs.declared.edge.EdgeSpec.{EdgeSpec}

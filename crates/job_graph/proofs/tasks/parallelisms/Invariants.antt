@@ -1,4 +1,4 @@
-use Rattle.std.proofs.Common.{◌≡◌, ◌++◌, map, drop}
+use Rattle.std.proofs.Common.{◌≡◌, ◌++◌, drop}
 use Rattle.job_graph.specs.Expansion.{parallelisms_of}
 use Rattle.job_graph.proofs.tasks.parallelisms.Given as goal
 

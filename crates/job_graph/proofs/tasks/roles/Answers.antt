@@ -1,4 +1,4 @@
-use Rattle.std.proofs.Common.{◌≡◌, ◌+◌, length, ap, length-append, arith}
+use Rattle.std.proofs.Common.{length, ap, length-append, arith}
 use Rattle.job_graph.proofs.RoleLemmas.{numbered_push, kinds_push}
 use Rattle.job_graph.proofs.tasks.roles.Goals as goal
 

@@ -1,4 +1,3 @@
-use Rattle.std.proofs.Common.{◌≡◌}
 use Rattle.job_spec.proofs.VertexLemmas.{numbered_from, gives_or_fault}
 use Rattle.job_spec.proofs.edges.vertex_named.Goals as goal
 

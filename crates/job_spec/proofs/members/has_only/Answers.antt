@@ -1,4 +1,4 @@
-use Rattle.std.proofs.Common.{◌≡◌, ◌∙◌}
+use Rattle.std.proofs.Common.{◌∙◌}
 use Rattle.job_spec.proofs.Names.{have_names-keys}
 use Rattle.job_spec.proofs.members.has_only.Goals as goal
 

@@ -1,4 +1,4 @@
-use Rattle.std.proofs.Common.{◌≡◌, arith, rules}
+use Rattle.std.proofs.Common.{arith}
 use Rattle.std.proofs.lemmas.Grind.{common_steps}
 use Rattle.serde_json.proofs.Views.{items_len-items_view}
 use Rattle.job_spec.proofs.reading.is_length_in.Goals as goal

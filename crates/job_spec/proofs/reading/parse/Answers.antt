@@ -1,6 +1,6 @@
 use Rattle.std.proofs.lemmas.Bool.{false≢true}
-use Rattle.std.proofs.Common.{sym, ◌∙◌, ◌≡◌, ℕ, ◌<◌, ◌≤◌, length, Bool, false, nat_lt, Some, None, Ok, Err, ap, refl, arith, rules}
-use Rattle.job_spec.specs.Reading.{json_of, value_at, or_fault}
+use Rattle.std.proofs.Common.{sym, ◌∙◌, rules}
+use Rattle.job_spec.specs.Reading.{value_at}
 use Rattle.job_spec.proofs.Utf8.{json_of-text, json_of-none}
 use Rattle.job_spec.proofs.reading.parse.Goals as goal
 

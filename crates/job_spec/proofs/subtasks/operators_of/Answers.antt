@@ -1,4 +1,4 @@
-use Rattle.job_spec.specs.Job.{vertex_view, vertices_view, operators_in}
+use Rattle.job_spec.specs.Job.{vertices_view, operators_in}
 use Rattle.job_spec.proofs.FlatSteps.{flat_map_step}
 use Rattle.job_spec.proofs.subtasks.operators_of.Goals as goal
 

@@ -1,11 +1,10 @@
-use Rattle.std.proofs.Common.{◌≡◌, ◌∙◌, ◌++◌, ◌∷◌, [], None, refl, sym, ap, arith}
+use Rattle.std.proofs.Common.{◌≡◌, ◌∙◌, ◌++◌, ◌∷◌, [], None, refl, sym, arith}
 use Rattle.std.specs.HashMap.{get}
 use Rattle.std.specs.String.{string_eq}
 use Rattle.std.proofs.lemmas.Result.{err_from_is_err_and}
 use Rattle.std.proofs.lemmas.List.{map_push}
 use Rattle.indexmap.proofs.CallerLemmas.{insert_entry-new}
 use Rattle.job_spec.specs.Job.{vertex_view, vertices_view}
-use Rattle.job_spec.specs.Reading.{Fails}
 use Rattle.job_spec.proofs.Faults.{fails_bind, fails_along}
 use Rattle.job_spec.proofs.VertexLemmas.{none_from_false, vertices_next, vertices_done, is_some-lookup}
 use Rattle.job_spec.proofs.vertices.vertices.Goals as goal

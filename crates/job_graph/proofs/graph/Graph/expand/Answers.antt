@@ -1,7 +1,7 @@
-use Rattle.std.proofs.Common.{◌≡◌, map}
+use Rattle.std.proofs.Common.{map}
 use Rattle.job_graph.specs.Channel.{channel_view}
 use Rattle.job_graph.specs.Expanded.{Expanded}
-use Rattle.job_graph.specs.Expansion.{Expands, IsVertexOrder}
+use Rattle.job_graph.specs.Expansion.{Expands}
 use Rattle.job_graph.proofs.Expandings.{expanded}
 use Rattle.job_graph.proofs.graph.Graph.expand.Goals as goal
 

@@ -1,4 +1,4 @@
-use Rattle.std.proofs.Common.{◌≡◌, rules}
+use Rattle.std.proofs.Common.{rules}
 use Rattle.job_graph.proofs.Targets.{targets_are}
 use Rattle.job_graph.proofs.graph.Graph.targets.Goals as goal
 
