@@ -19,11 +19,22 @@ if_apart : {A : Type 0} (m n : ℕ) (x y : A) → (m ≡ n → ⊥) → (if m ==
 if_apart m n x y apart = ap (λ b. if b then x else y) (ne_eqb m n apart)
 
 -- a channel after its sender sent
-pub queue_sent : {R K S O : Type 0} (meaning : Meaning R K S O) (channels : List code_channel.Channel) (i : ℕ) (c : code_channel.Channel) (task : ℕ) (sent : List (ℕ × R)) (queue base rest : List R) → i < length channels → c ≡ get_or channels i c → c.sender ≡ task → queue ≡ base ++ admitted meaning (channel_of c) sent → base ≡ rest → queue ≡ rest ++ received meaning task sent (slice_get (map channel_of channels) i)
-queue_sent meaning channels i c task sent queue base rest within is same e f =
-    e ∙ ap (λ l. l ++ admitted meaning (channel_of c) sent) f ∙ ap (λ l. rest ++ l) (sym (received_at meaning channels i c task sent within is ∙ if_here c.sender task _ _ same))
+pub queue_sent : {R K S O : Type 0} (meaning : Meaning R K S O) (channels : List code_channel.Channel) (i : ℕ) (c : code_channel.Channel) (sender task : ℕ) (sent : List (ℕ × R)) (queue put base left rest : List R) →
+    i < length channels → c ≡ get_or channels i c → c.sender ≡ sender → sender ≡ task → queue ≡ put → put ≡ base ++ admitted meaning (channel_of c) sent → base ≡ left → left ≡ rest →
+    queue ≡ rest ++ received meaning task sent (slice_get (map channel_of channels) i)
+queue_sent meaning channels i c sender task sent queue put base left rest within is from same puts e f g =
+    puts
+    ∙ e
+    ∙ ap (λ l. l ++ admitted meaning (channel_of c) sent) (f ∙ g)
+    ∙ ap (λ l. rest ++ l) (sym (received_at meaning channels i c task sent within is ∙ if_here c.sender task _ _ (from ∙ same)))
 
 -- a channel after another task sent
-pub queue_kept : {R K S O : Type 0} (meaning : Meaning R K S O) (channels : List code_channel.Channel) (i : ℕ) (c : code_channel.Channel) (task : ℕ) (sent : List (ℕ × R)) (queue rest : List R) → i < length channels → c ≡ get_or channels i c → (c.sender ≡ task → ⊥) → queue ≡ rest → queue ≡ rest ++ received meaning task sent (slice_get (map channel_of channels) i)
-queue_kept meaning channels i c task sent queue rest within is apart e =
-    e ∙ sym (append-nil rest) ∙ ap (λ l. rest ++ l) (sym (received_at meaning channels i c task sent within is ∙ if_apart c.sender task _ _ apart))
+pub queue_kept : {R K S O : Type 0} (meaning : Meaning R K S O) (channels : List code_channel.Channel) (i : ℕ) (c : code_channel.Channel) (sender task : ℕ) (sent : List (ℕ × R)) (queue base left rest : List R) →
+    i < length channels → c ≡ get_or channels i c → (c.sender ≡ sender → ⊥) → sender ≡ task → queue ≡ base → base ≡ left → left ≡ rest →
+    queue ≡ rest ++ received meaning task sent (slice_get (map channel_of channels) i)
+queue_kept meaning channels i c sender task sent queue base left rest within is apart same e f g =
+    e
+    ∙ f
+    ∙ g
+    ∙ sym (append-nil rest)
+    ∙ ap (λ l. rest ++ l) (sym (received_at meaning channels i c task sent within is ∙ if_apart c.sender task _ _ (λ h. apart (h ∙ sym same))))
