@@ -258,7 +258,7 @@ fn unsettled_of(
 }
 
 impl MemoryTransactions {
-    ghost use Rattle.std.specs.Prelude.{◌≡◌};
+    ghost use Rattle.std.specs.Prelude.{◌≡◌, ◌≤◌, Some, length, slice_get, IfSome, IfNone};
     ghost use Rattle.commit_sink.specs.Ledger.{blank};
 
     /// Transactions of so many subtasks, none of them begun. It takes no memory.
@@ -272,6 +272,22 @@ impl MemoryTransactions {
             committed: Roomy::new(alloc),
             shares: Vec::new(alloc),
         }
+    }
+
+    /// The transaction at a place in the order of numbers, from 0: its subtask, how far it has come, and its records.
+    pub fn transaction_at(&self, index: u64) -> Option<(u32, Progress, &[Bytes])>
+        ensures some { IfSome result (λ t. slice_get (⟦<MemoryTransactions as Transactions>⟧.state self.now).transactions index ≡ Some (record { subtask = t.0; progress = t.1; records = t.2.now })) }
+        ensures none { IfNone result (length (⟦<MemoryTransactions as Transactions>⟧.state self.now).transactions ≤ index) }
+    {
+        let entry = self.transactions.get(index as usize)?;
+        Some((entry.subtask(), entry.progress(), entry.records()))
+    }
+
+    /// The number at a place in the order of commit, from 0.
+    pub fn committed_at(&self, index: u64) -> Option<u64>
+        ensures { result ≡ slice_get (⟦<MemoryTransactions as Transactions>⟧.state self.now).committed index }
+    {
+        self.committed.as_slice().get(index as usize).copied()
     }
 }
 

@@ -148,6 +148,13 @@ impl MemoryStore {
             latest: None,
         }
     }
+
+    /// The number that is given out next.
+    pub fn next_number(&self) -> u64
+        ensures { result ≡ (⟦<MemoryStore as SnapshotStore>⟧.state self.now).next }
+    {
+        self.next
+    }
 }
 
 impl SnapshotStore for MemoryStore {
