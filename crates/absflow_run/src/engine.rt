@@ -4,6 +4,7 @@ ghost use Rattle.abs_codec.specs.Spelling.{Fits};
 ghost use Rattle.operators.specs.RowSpelling.{RowIsSpelled, row_spelling};
 
 use alignment::Effect;
+use job_graph::Graph;
 use job_spec::JobSpec;
 use operators::Row;
 use source_log::{MemoryLog, SourceFault};
@@ -48,7 +49,12 @@ pub enum CoreFault {
 /// What the steps of a script call.
 pub trait Engine: Sized {
     /// An engine over new devices and this log, which is down.
-    fn open(alloc: Global, job: &JobSpec, log: MemoryLog<Row>) -> Result<Self, CoreFault>;
+    fn open(
+        alloc: Global,
+        job: &JobSpec,
+        graph: Graph,
+        log: MemoryLog<Row>,
+    ) -> Result<Self, CoreFault>;
 
     fn restart(&mut self) -> Result<u64, CoreFault>;
 

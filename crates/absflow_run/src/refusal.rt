@@ -18,8 +18,6 @@ pub enum Refusal {
     /// The text, a row or a step of it.
     #[error("{0}")]
     Script(#[from] ScriptFault),
-    #[error("{0}")]
-    Job(#[from] JobFault),
     /// A job that is sound, and that the engine does not serve.
     #[error("script: not served yet")]
     NotServed,
@@ -69,7 +67,7 @@ impl Refusal {
     /// Writes the line, with the names that a job's fault has.
     pub fn complain<E: Write>(&self, err: &mut E) -> io::Result<()> {
         write!(err, "{self}")?;
-        if let Refusal::Job(JobFault::UnmarkedCycle(names)) = self {
+        if let Refusal::Script(ScriptFault::Job(JobFault::UnmarkedCycle(names))) = self {
             let mut separator = ": ";
             for name in names {
                 write!(err, "{separator}{name}")?;

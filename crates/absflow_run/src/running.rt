@@ -5,8 +5,7 @@ use crate::committed::print_committed;
 use crate::engine::Engine;
 use crate::refusal::Refusal;
 use crate::rows_log::rows_log;
-use job_spec::JobSpec;
-use script_file::{Contents, Step, contents_of, json_value, outline_of};
+use script_file::{Contents, Script, Step};
 use std::alloc::Global;
 use std::io::{ErrorKind, Read, Write};
 
@@ -22,18 +21,6 @@ fn read_bytes<R: Read + Drop>(alloc: Global, file: R) -> Result<Vec<u8>, Refusal
         Err(e) if e.kind() == ErrorKind::OutOfMemory => Err(Refusal::Memory),
         Err(_) => Err(Refusal::Unreadable),
     }
-}
-
-/// How many source tasks the job has.
-fn sources(job: &JobSpec) -> u32 {
-    let mut sources: u32 = 0;
-    for number in 0..job.vertices() {
-        let (_, vertex) = job.vertex(number);
-        if vertex.kind.is_source() {
-            sources = sources.saturating_add(vertex.parallelism);
-        }
-    }
-    sources
 }
 
 /// Makes the steps, with an answer line for each.
@@ -55,13 +42,13 @@ fn run<G: Engine + Drop, R: Read + Drop, W: Write>(
     out: &mut W,
 ) -> Result<(), Refusal> {
     let bytes = read_bytes(alloc, file)?;
-    let value = json_value(alloc, &bytes)?;
-    let outline = outline_of(&value)?;
-    let job = JobSpec::read_value(alloc, outline.job)?;
-    let count = sources(&job);
-    let Contents { partitions, steps } = contents_of(alloc, &outline, count)?;
-    let log = rows_log(alloc, count, partitions)?;
-    let mut engine = G::open(alloc, &job, log)?;
+    let Script {
+        job,
+        graph,
+        contents: Contents { partitions, steps },
+    } = Script::read(alloc, &bytes)?;
+    let log = rows_log(alloc, graph.sources(), partitions)?;
+    let mut engine = G::open(alloc, &job, graph, log)?;
     engine.restart()?;
     make_steps(&mut engine, steps, out)?;
     print_committed(alloc, &engine, out)?;

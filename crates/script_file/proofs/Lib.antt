@@ -1,3 +1,4 @@
 pub mod NumberLemmas
 pub mod JsonLemmas
 pub mod ListLemmas
+pub mod ScriptLemmas

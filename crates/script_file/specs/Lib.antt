@@ -1,4 +1,5 @@
 pub mod Faults
+pub mod JobFaults
 pub mod Json
 pub mod Numbers
 pub mod Steps
@@ -6,3 +7,4 @@ pub mod Rows
 pub mod Lists
 pub mod Outline
 pub mod Contents
+pub mod Script

@@ -4,6 +4,7 @@ ghost use Rattle.std.specs.Prelude.{◌≡◌};
 ghost use Rattle.script_file.specs.declared.fault.ScriptFault.TheVariants as whole;
 ghost use Rattle.script_file.specs.declared.fault.ItemFault.TheVariants as one;
 
+use job_spec::JobFault;
 use std::alloc::{AllocError, AllocFailed};
 use thiserror::Error;
 
@@ -18,7 +19,7 @@ pub enum ItemFault {
 }
 
 /// The first fault of a script. Partitions, rows and steps are counted from 0.
-#[derive(Debug, Drop, PartialEq, Eq, Error)]
+#[derive(Debug, Drop, Error)]
 pub enum ScriptFault {
     /// More than 16,777,216 bytes.
     #[error("script: too long")]
@@ -28,6 +29,9 @@ pub enum ScriptFault {
     /// No object of exactly a job, a list of lists and a list of texts.
     #[error("script: bad field")]
     BadField,
+    /// The job is at fault.
+    #[error("{0}")]
+    Job(JobFault),
     /// The source tasks that want a partition each, and the partitions.
     #[error("inputs: want {want}, got {got}")]
     Inputs { want: u32, got: usize },
@@ -52,6 +56,20 @@ impl From<AllocError> for ScriptFault {
 
     fn from(_e: AllocError) -> ScriptFault {
         ScriptFault::Memory
+    }
+}
+
+impl From<JobFault> for ScriptFault {
+    ghost use Rattle.std.specs.Prelude.{◌≡◌};
+    ghost use Rattle.script_file.specs.JobFaults.{fault_of};
+
+    ghost from_gives = { λ f e. e ≡ fault_of f };
+
+    fn from(fault: JobFault) -> ScriptFault {
+        match fault {
+            JobFault::Memory => ScriptFault::Memory,
+            other => ScriptFault::Job(other),
+        }
     }
 }
 

@@ -11,10 +11,12 @@ mod members;
 mod number;
 mod outline;
 mod rows;
+mod script;
 mod step;
 
 pub use contents::{Contents, contents_of};
 pub use fault::{ItemFault, ScriptFault};
 pub use outline::{Outline, json_value, outline_of};
 pub use rows::{FittingRow, partitions, read_row};
+pub use script::Script;
 pub use step::{Step, parse_step, steps};
