@@ -1,15 +1,15 @@
 -- Channels, as items are put into them.
-use Rattle.std.proofs.Common.{◌≡◌, ◌<◌, ◌≤◌, ◌+◌, ◌-◌, ◌==◌, ℕ, zero, suc, List, [], ◌∷◌, ◌++◌, length, map, filter, take, drop, get_or, Option, Some, None, slice_get, slice_set, unwrap_or, All, refl, subst, sym, ap, ◌∙◌, arith, inl, inr}
+use Rattle.std.proofs.Common.{◌≡◌, ◌<◌, ◌≤◌, ◌+◌, ◌-◌, ◌==◌, ℕ, List, [], ◌∷◌, ◌++◌, length, map, filter, take, drop, get_or, Option, Some, slice_get, slice_set, unwrap_or, All, subst, sym, ap, ◌∙◌, arith, inl, inr}
 use Rattle.std.specs.Option.{option_map, option_map_or}
 use Rattle.std.proofs.lemmas.Bool.Decides.{eqb_tells}
 use Rattle.std.proofs.lemmas.List.{map-set, map-append, append-nil, take_all, set_past, length-map}
 use Rattle.std.proofs.lemmas.List.Elements.{filter-append}
-use Rattle.std.proofs.lemmas.Option.{slice_get_read, slice_get-map}
+use Rattle.std.proofs.lemmas.Option.{slice_get-map}
 use Rattle.channels.specs.Channel.{Contents}
 use Rattle.channels.specs.declared.item.Item.{Item}
 use Rattle.channels.specs.declared.item.Item.TheVariants.{Record}
 use Rattle.dataflow_model.specs.Graph.{Meaning}
-use Rattle.job_graph.specs.Expanded.{Expanded, meets, takes, outlets_of, targets_of}
+use Rattle.job_graph.specs.Expanded.{Expanded, meets, takes, outlets_of}
 use Rattle.job_graph.proofs.Targets.{targets_are}
 use Rattle.job_state.specs.Sending.{items_at, put_into, contents_items, room_at, AreChannels, HasRoom, Puts, without_head, delivered_last, deliveries_of_one}
 use Rattle.job_state.proofs.Places.{get_set_same, get_set_other, set_same}

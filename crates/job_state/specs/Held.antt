@@ -1,9 +1,9 @@
 -- What an attempt holds, and what its calls make of it.
-use Rattle.std.specs.Prelude.{◌≡◌, ◌+◌, ◌==◌, ℕ, List, [], ◌∷◌, ◌++◌, length, drop, map, replicate, slice_get, slice_set, Option, Some, None, unwrap_or, if◌then◌else◌}
+use Rattle.std.specs.Prelude.{◌≡◌, ◌+◌, ℕ, List, [], ◌∷◌, length, drop, map, replicate, slice_get, slice_set, Option, Some, None, unwrap_or}
 use Rattle.std.specs.declared.cmp.Ordering.{Ordering}
 use Rattle.abs_codec.specs.Entries.{value_at}
 use Rattle.channels.specs.declared.item.Item.{Item}
-use Rattle.channels.specs.declared.item.Item.TheVariants.{Record, Barrier}
+use Rattle.channels.specs.declared.item.Item.TheVariants.{Record}
 use Rattle.commit_sink.specs.Sink.{Sinking}
 use Rattle.coordinator.specs.Coordinator.{Coordination, at_first, started, acknowledged, completed}
 use Rattle.dataflow_model.specs.Graph.{Meaning}
@@ -11,7 +11,7 @@ use Rattle.dataflow_model.specs.Machine.{received, kept_under}
 use Rattle.job_graph.specs.Expanded.{Expanded}
 use Rattle.task_part.specs.declared.part.Part.{Part}
 use Rattle.task_part.specs.declared.part.Part.TheVariants as part
-use Rattle.job_state.specs.Sending.{items_at, Puts, barrier_into, without_head}
+use Rattle.job_state.specs.Sending.{Puts, barrier_into, without_head}
 use Rattle.job_state.specs.declared.holding.Holding.{Holding}
 use Rattle.job_state.specs.declared.holding.Holding.TheVariants as holds
 

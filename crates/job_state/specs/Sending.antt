@@ -1,5 +1,5 @@
 -- What is put into which channels, by the graph.
-use Rattle.std.specs.Prelude.{◌≡◌, ◌≤◌, ◌<◌, ◌==◌, ◌&&◌, ℕ, List, [], ◌∷◌, ◌++◌, All, length, drop, map, filter, flat_map, slice_get, slice_set, Option, Some, None, unwrap_or, if◌then◌else◌}
+use Rattle.std.specs.Prelude.{◌≡◌, ◌≤◌, ◌<◌, ◌==◌, ℕ, List, [], ◌∷◌, ◌++◌, All, length, drop, map, filter, flat_map, slice_get, slice_set, Option, Some, None, unwrap_or, if◌then◌else◌}
 use Rattle.std.specs.Option.{option_map_or}
 use Rattle.channels.specs.Channel.{Contents}
 use Rattle.channels.specs.declared.item.Item.{Item}

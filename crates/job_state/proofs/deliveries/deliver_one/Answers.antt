@@ -1,4 +1,4 @@
-use Rattle.std.proofs.Common.{◌≡◌, ◌++◌, ◌∷◌, [], Some, None, ap, sym, ◌∙◌, arith}
+use Rattle.std.proofs.Common.{◌++◌, ap, sym, ◌∙◌, arith}
 use Rattle.std.proofs.lemmas.List.{append-nil}
 use Rattle.job_state.specs.Sending.{delivered_last}
 use Rattle.job_state.proofs.Putting.{delivered}

@@ -1,5 +1,4 @@
-use Rattle.std.proofs.Common.{◌≡◌, ◌++◌, List, [], ◌∷◌, ℕ, Option, Some, None, map, filter, take}
-use Rattle.channels.specs.declared.item.Item.{Item}
+use Rattle.std.proofs.Common.{◌≡◌, ◌++◌, map, filter, take}
 use Rattle.channels.specs.declared.item.Item.TheVariants.{Record}
 use Rattle.job_graph.specs.Expanded.{meets, takes}
 use Rattle.job_state.specs.Sending.{delivered_last}

@@ -1,5 +1,5 @@
-use Rattle.std.proofs.Common.{slice_get, ap, sym, ◌∙◌}
-use Rattle.job_state.specs.Sending.{put_into, barrier_into, contents_items}
+use Rattle.std.proofs.Common.{slice_get, ap, ◌∙◌}
+use Rattle.job_state.specs.Sending.{put_into, barrier_into}
 use Rattle.job_state.proofs.Putting.{puts_same}
 use Rattle.job_state.proofs.Received.{barriers_put}
 use Rattle.job_state.proofs.deliveries.forward_barriers.Goals as goal

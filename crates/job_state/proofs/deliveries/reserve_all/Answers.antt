@@ -1,4 +1,4 @@
-use Rattle.std.proofs.Common.{◌≡◌, ◌≤◌, ◌<◌, ◌+◌, length, take, get_or, slice_set, arith, ap, ◌∙◌}
+use Rattle.std.proofs.Common.{◌≤◌, ◌<◌, length, take, get_or, slice_set, arith, ap, ◌∙◌}
 use Rattle.std.proofs.lemmas.List.Elements.{All-more}
 use Rattle.std.proofs.lemmas.Option.{slice_get-get_or}
 use Rattle.job_state.specs.Sending.{room_at}

@@ -1,7 +1,6 @@
-use Rattle.std.proofs.Common.{◌≤◌, ◌+◌, ℕ, get_or, ap, arith}
+use Rattle.std.proofs.Common.{ℕ, get_or, ap, arith}
 use Rattle.std.proofs.lemmas.Option.{slice_get-get_or}
-use Rattle.job_state.specs.Sending.{room_at}
-use Rattle.job_state.proofs.Putting.{head_taken, none_taken, room_moved}
+use Rattle.job_state.proofs.Putting.{head_taken, room_moved}
 use Rattle.job_state.proofs.deliveries.take_head.Goals as goal
 
 pub returns-then-place-channels-clause-rest : goal.returns-then-place-channels-clause-rest
