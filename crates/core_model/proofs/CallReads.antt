@@ -1,0 +1,47 @@
+-- A source reads its next record.
+use Rattle.std.proofs.Common.{◌≡◌, ◌+◌, Some, Result, Ok, Err, slice_get, ℕ, refl, sym, ap, ◌∙◌}
+use Rattle.std.proofs.lemmas.Option.{slice_get_within}
+use Rattle.commit_sink.specs.Sink.{Sinking}
+use Rattle.job_state.specs.Held.{Held}
+use Rattle.job_state.specs.declared.holding.Holding.{Holding}
+use Rattle.job_state.specs.declared.holding.Holding.TheVariants as holds
+use Rattle.source_log.specs.Partitions.{records_at}
+use Rattle.core_model.specs.Calls.{EndsRead, ReadsNext, left_by}
+use Rattle.core_model.specs.Keeps.{Keeps}
+use Rattle.core_model.specs.Language.{Language}
+use Rattle.core_model.specs.State.{State}
+use Rattle.core_model.specs.View.{run_of}
+use Rattle.core_model.specs.declared.fault.CoreFault.{CoreFault}
+use Rattle.core_model.specs.declared.fault.CoreFault.TheVariants.{NoSuchTask, NotReady, Memory, Device}
+use Rattle.core_model.proofs.Runs.{read_runs}
+use Rattle.core_model.proofs.ShapeCalls.{shape_reads}
+use Rattle.core_model.proofs.CallSteps.{after, KeepsAndGoes, goes_keeps, goes_one, keeps_still, keeps_down, shape_at, runs_at}
+use Rattle.core_model.proofs.CallRuns.{runs_moved, no_other_sinks}
+
+pub source_no_sink : {K S : Type 0} (offset : ℕ) (sink : Sinking) → ◌≡◌ {A = Holding K S} (holds.Source offset) (holds.Sink sink) → ⊥
+source_no_sink offset sink e = cc
+
+module _ {R K S O : Type 0} (lang : Language R K S O) (RecordFits : R → Type 0) (IsGood : O → S → Type 0) (s : State O R K S) (h k : Held R K S) (n task : ℕ) (keeps : Keeps lang RecordFits IsGood s) (is : s.held ≡ Some h) where
+  reads_next : ((p o : ℕ) (r : R) → slice_get (records_at s.partitions p) o ≡ Some r → RecordFits r) → ReadsNext s.graph task h k lang s.partitions → KeepsAndGoes lang RecordFits IsGood s (after lang s s.ledger (Some k) n)
+  reads_next fits ends =
+      let shape = shape_at lang RecordFits IsGood s keeps h is in
+      let runs = runs_at lang RecordFits IsGood s keeps h is in
+      let moved = ends.reads in
+      goes_keeps lang RecordFits IsGood s keeps s.ledger (Some k) n refl keeps.ordered
+      (shape_reads lang.cmp RecordFits IsGood s.graph s.operators h shape lang.meaning task ends.partition ends.offset ends.row k ends.is_source (fits ends.partition ends.offset ends.row ends.next) moved)
+      (runs_moved lang s h k runs s.ledger (Some k) n (ap (λ (x : Held R K S). x.copies) moved.ends) (ap (λ (x : Held R K S). x.coordination) moved.ends)
+      (λ t sink at.
+      no_other_sinks h.tasks task (holds.Source (ends.offset + 1)) (slice_get_within h.tasks task (holds.Source ends.offset) ends.at) (source_no_sink (ends.offset + 1)) t sink
+      (ap (λ (x : Held R K S). slice_get x.tasks t) (sym moved.ends) ∙ at))
+      runs.sinks)
+      (goes_one lang s h is s.ledger k n (run_of lang.cmp s.graph k)
+      (read_runs lang s h k task ends.partition ends.offset ends.row ends.is_source ends.at ends.next moved) refl)
+
+  pub keeps_read : ((p o : ℕ) (r : R) → slice_get (records_at s.partitions p) o ≡ Some r → RecordFits r) → (result : Result Unit CoreFault) → EndsRead s.graph task h k lang s.partitions result
+      → KeepsAndGoes lang RecordFits IsGood s (record s { held = left_by result (Some k); faults = n })
+  keeps_read fits (Ok u) ends = reads_next fits ends
+  keeps_read fits (Err NoSuchTask) ends = keeps_still lang RecordFits IsGood s keeps h is k n ends.1
+  keeps_read fits (Err NotReady) ends = keeps_still lang RecordFits IsGood s keeps h is k n ends.5
+  keeps_read fits (Err Memory) ends = keeps_still lang RecordFits IsGood s keeps h is k n ends
+  keeps_read fits (Err Device) ends = keeps_down lang RecordFits IsGood s keeps n
+  keeps_read fits (Err other) ends = absurd ends

@@ -1,0 +1,194 @@
+-- How each call on a running job ends: by what the job holds before (h) and after (k), and the device that the call uses.
+-- Where a device has failed, what the job holds afterwards is of no account: it is lost.
+use Rattle.std.specs.Prelude.{◌+◌, ◌^◌, ◌≡◌, ◌≢◌, ◌⊎◌, ◌<◌, ◌≤◌, ◌==◌, ℕ, Bool, true, false, List, [], ◌∷◌, ◌++◌, length, slice_get, Option, Some, None, Result, Ok, Err, MatchOption, unwrap_or, IsSome}
+use Rattle.std.specs.declared.cmp.Ordering.{Ordering}
+use Rattle.abs_codec.specs.Entries.{value_at}
+use Rattle.alignment.specs.declared.input.Effect.{Effect}
+use Rattle.alignment.specs.declared.input.Effect.TheVariants.{CopyAndDone}
+use Rattle.channels.specs.declared.item.Item.{Item}
+use Rattle.channels.specs.declared.item.Item.TheVariants.{Record, Barrier}
+use Rattle.commit_sink.specs.Ledger.{Ledger, appended, begun, pre_committed, after_commit}
+use Rattle.commit_sink.specs.Sink.{Sinking, names_with_open, pre_committed_last}
+use Rattle.coordinator.specs.Coordinator.{IsReady, has_acked}
+use Rattle.dataflow_model.specs.Graph.{Outcome}
+use Rattle.dataflow_model.specs.Machine.{state_under}
+use Rattle.job_graph.specs.Expanded.{Expanded, inputs_of, is_sink}
+use Rattle.job_graph.specs.declared.role.Role.{Role}
+use Rattle.job_graph.specs.declared.role.Role.TheVariants as role
+use Rattle.job_state.specs.Held.{Held, copy_at, Reads, Operates, CopiesSource, CopiesOperator, sink_copied, with_started, with_acknowledged, with_completed}
+use Rattle.job_state.specs.Sending.{items_at, without_head}
+use Rattle.job_state.specs.declared.holding.Holding.{Holding}
+use Rattle.job_state.specs.declared.holding.Holding.TheVariants as holds
+use Rattle.snapshot_store.specs.Store.{Stored, with_part, completed, reserved, discarded_below}
+use Rattle.source_log.specs.Partitions.{records_at}
+use Rattle.task_part.specs.declared.part.Part.{Part}
+use Rattle.core_model.specs.Language.{Language}
+use Rattle.core_model.specs.declared.fault.CoreFault.{CoreFault}
+use Rattle.core_model.specs.declared.fault.CoreFault.TheVariants.{NotRunning, NoSuchTask, NotReady, CheckpointPending, NoCheckpoint, NotAllAcked, Memory, Device, CommitFault, NumbersSpent}
+
+-- the state under a key, if there is a key and a state
+abbrev pub state_of : {K S : Type 0} → (K → K → Ordering) → List (K × S) → Option K → Option S
+state_of cmp entries None = None
+state_of cmp entries (Some key) = value_at cmp entries key
+
+-- ---- tasks and their inputs
+
+-- the channel that a task's input is
+abbrev pub input_at : Expanded → ℕ → ℕ → Option ℕ
+input_at graph task input = slice_get (inputs_of graph task) input
+
+abbrev pub IsSource : Expanded → ℕ → Type 0
+IsSource graph task = (partition : ℕ) × (slice_get graph.tasks task ≡ Some (role.Source partition))
+
+abbrev pub IsTask : Expanded → ℕ → Type 0
+IsTask graph task = IsSome (slice_get graph.tasks task)
+
+module _ {R K S : Type 0} where
+  -- no record stands first
+  abbrev pub NoRecord : Held R K S → ℕ → Type 0
+  NoRecord h channel = (r : R) → slice_get (items_at h.channels channel) 0 ≢ Some (Record r)
+
+  -- the barrier of the pending checkpoint stands first, and the task has not copied
+  abbrev pub IsBarrierNext : ℕ → Held R K S → ℕ → ℕ → Type 0
+  IsBarrierNext task h channel checkpoint = (slice_get (items_at h.channels channel) 0 ≡ Some (Barrier checkpoint)) × (h.coordination.pending ≡ Some checkpoint) × (copy_at h task ≡ None)
+
+module _ {R K S : Type 0} (task : ℕ) (h k : Held R K S) (channel : ℕ) where
+  module _ (old new : Ledger) where
+    -- a sink puts its first record last in its open transaction
+    pub record PutsOut (spelling : R → List ℕ) : Type 0 where
+      pub row : R
+      pub sink : Sinking
+      pub head : slice_get (items_at h.channels channel) 0 ≡ Some (Record row)
+      pub was : slice_get h.tasks task ≡ Some (holds.Sink sink)
+      pub appends : new ≡ appended old sink.open_one (spelling row)
+      pub ends : k ≡ record h { channels = without_head channel h.channels }
+
+    -- the device failed, before its work or after it
+    pub record FailsToPutOut (spelling : R → List ℕ) : Type 0 where
+      pub row : R
+      pub sink : Sinking
+      pub was : slice_get h.tasks task ≡ Some (holds.Sink sink)
+      pub either : (new ≡ old) ⊎ (new ≡ appended old sink.open_one (spelling row))
+
+    abbrev pub EndsPutOut : (R → List ℕ) → Result Unit CoreFault → Type 0
+    EndsPutOut spelling (Ok u) = PutsOut spelling
+    EndsPutOut spelling (Err NotReady) = NoRecord h channel × (k ≡ h) × (new ≡ old)
+    EndsPutOut spelling (Err Memory) = (k ≡ h) × (new ≡ old)
+    EndsPutOut spelling (Err Device) = FailsToPutOut spelling
+    EndsPutOut spelling (Err other) = ⊥
+
+  module _ (subtask : ℕ) (old new : Ledger) where
+    -- a sink begins a transaction, pre-commits the one that was open, and copies the names
+    pub record CopiesSink : Type 0 where
+      pub checkpoint : ℕ
+      pub sink : Sinking
+      pub barrier : IsBarrierNext task h channel checkpoint
+      pub was : slice_get h.tasks task ≡ Some (holds.Sink sink)
+      pub transactions : new ≡ pre_committed (begun old subtask) sink.open_one checkpoint
+      pub ends : k ≡ sink_copied task channel (names_with_open sink) (record (pre_committed_last sink checkpoint) { open_one = length old.transactions + 1 }) h
+
+    pub record FailsToCopySink : Type 0 where
+      pub checkpoint : ℕ
+      pub sink : Sinking
+      pub barrier : IsBarrierNext task h channel checkpoint
+      pub was : slice_get h.tasks task ≡ Some (holds.Sink sink)
+      pub either : ((new ≡ old) ⊎ (new ≡ begun old subtask)) ⊎ (new ≡ pre_committed (begun old subtask) sink.open_one checkpoint)
+
+    abbrev pub EndsCopySink : Result Unit CoreFault → Type 0
+    EndsCopySink (Ok u) = CopiesSink
+    EndsCopySink (Err NotReady) = ((checkpoint : ℕ) → ¬ IsBarrierNext task h channel checkpoint) × (k ≡ h) × (new ≡ old)
+    EndsCopySink (Err Memory) = (k ≡ h) × (new ≡ old)
+    EndsCopySink (Err Device) = FailsToCopySink
+    EndsCopySink (Err other) = ⊥
+
+module _ {R K S : Type 0} (graph : Expanded) (task : ℕ) (h k : Held R K S) where
+  -- a source sends its next record
+  pub record ReadsNext {O : Type 0} (lang : Language R K S O) (partitions : List (List R)) : Type 0 where
+    pub partition : ℕ
+    pub offset : ℕ
+    pub row : R
+    pub is_source : slice_get graph.tasks task ≡ Some (role.Source partition)
+    pub at : slice_get h.tasks task ≡ Some (holds.Source offset)
+    pub next : slice_get (records_at partitions partition) offset ≡ Some row
+    pub reads : Reads lang.meaning graph task offset row h k
+
+  abbrev pub EndsRead : {O : Type 0} → Language R K S O → List (List R) → Result Unit CoreFault → Type 0
+  EndsRead lang partitions (Ok u) = ReadsNext lang partitions
+  EndsRead lang partitions (Err NoSuchTask) = ¬ IsSource graph task × (k ≡ h)
+  EndsRead lang partitions (Err NotReady) = (partition offset : ℕ) × (slice_get graph.tasks task ≡ Some (role.Source partition)) × (slice_get h.tasks task ≡ Some (holds.Source offset)) × (length (records_at partitions partition) ≤ offset) × (k ≡ h)
+  EndsRead lang partitions (Err Memory) = k ≡ h
+  EndsRead lang partitions (Err Device) = IsSource graph task
+  EndsRead lang partitions (Err other) = ⊥
+
+  -- a source copies its offset and sends the barrier
+  abbrev pub EndsInject : Result Unit CoreFault → Type 0
+  EndsInject (Ok u) = (checkpoint offset : ℕ) × IsSource graph task × (h.coordination.pending ≡ Some checkpoint) × (copy_at h task ≡ None) × (slice_get h.tasks task ≡ Some (holds.Source offset)) × CopiesSource graph task offset checkpoint h k
+  EndsInject (Err NoSuchTask) = ¬ IsSource graph task × (k ≡ h)
+  EndsInject (Err NoCheckpoint) = IsSource graph task × (h.coordination.pending ≡ None) × (k ≡ h)
+  EndsInject (Err NotReady) = IsSource graph task × (copy_at h task ≢ None) × (k ≡ h)
+  EndsInject (Err Memory) = k ≡ h
+  EndsInject (Err other) = ⊥
+
+  -- the channel is the task's input
+  module _ (channel : ℕ) where
+    -- an operator works its first record
+    pub record OperatesNext {O : Type 0} (lang : Language R K S O) (operator : O) : Type 0 where
+      pub row : R
+      pub entries : List (K × S)
+      pub head : slice_get (items_at h.channels channel) 0 ≡ Some (Record row)
+      pub was : slice_get h.tasks task ≡ Some (holds.Operator entries)
+      pub operates : let outcome = lang.meaning.apply operator (state_under (lang.meaning.key operator row) (lang.meaning.fresh operator) (value_at lang.cmp entries)) row in
+          Operates lang.meaning lang.cmp graph task channel (lang.meaning.key operator row) outcome.state outcome.sent h k
+
+    abbrev pub EndsOperate : {O : Type 0} → Language R K S O → O → Result Unit CoreFault → Type 0
+    EndsOperate lang operator (Ok u) = OperatesNext lang operator
+    EndsOperate lang operator (Err NotReady) = NoRecord h channel × (k ≡ h)
+    EndsOperate lang operator (Err Memory) = k ≡ h
+    EndsOperate lang operator (Err other) = ⊥
+
+    abbrev pub EndsCopyOperator : Result Unit CoreFault → Type 0
+    EndsCopyOperator (Ok u) = (checkpoint : ℕ) × IsBarrierNext task h channel checkpoint × CopiesOperator graph task channel checkpoint h k
+    EndsCopyOperator (Err NotReady) = ((checkpoint : ℕ) → ¬ IsBarrierNext task h channel checkpoint) × (k ≡ h)
+    EndsCopyOperator (Err Memory) = k ≡ h
+    EndsCopyOperator (Err other) = ⊥
+
+  module _ (old new : Stored) where
+    -- a task's part is put and acknowledged
+    abbrev pub EndsPersist : (Part R K S → List ℕ) → Result Unit CoreFault → Type 0
+    EndsPersist spelling (Ok u) = (checkpoint : ℕ) × (p : Part R K S) × (h.coordination.pending ≡ Some checkpoint) × (copy_at h task ≡ Some p) × (has_acked h.coordination task ≡ false)
+        × (new ≡ with_part old checkpoint task (spelling p)) × (k ≡ with_acknowledged task h)
+    EndsPersist spelling (Err NoSuchTask) = ¬ IsTask graph task × (k ≡ h) × (new ≡ old)
+    EndsPersist spelling (Err NoCheckpoint) = IsTask graph task × (h.coordination.pending ≡ None) × (k ≡ h) × (new ≡ old)
+    EndsPersist spelling (Err NotReady) = IsTask graph task × ((copy_at h task ≡ None) ⊎ (has_acked h.coordination task ≡ true)) × (k ≡ h) × (new ≡ old)
+    EndsPersist spelling (Err Memory) = (k ≡ h) × (new ≡ old)
+    EndsPersist spelling (Err Device) = (checkpoint : ℕ) × (p : Part R K S) × (h.coordination.pending ≡ Some checkpoint) × (copy_at h task ≡ Some p) × (has_acked h.coordination task ≡ false)
+        × ((new ≡ old) ⊎ (new ≡ with_part old checkpoint task (spelling p)))
+    EndsPersist spelling (Err other) = ⊥
+
+-- the store once the parts below the last complete number are gone
+abbrev pub tidied : Option ℕ → Stored → Stored
+tidied None stored = stored
+tidied (Some last) stored = discarded_below stored last
+
+module _ {R K S : Type 0} (h k : Held R K S) (old new : Stored) where
+  -- a checkpoint begins
+  abbrev pub EndsTrigger : Result ℕ CoreFault → Type 0
+  EndsTrigger (Ok n) = (h.coordination.pending ≡ None) × (n ≡ old.next) × (new ≡ reserved (tidied h.coordination.last_complete old)) × (k ≡ with_started old.next h)
+  EndsTrigger (Err CheckpointPending) = (h.coordination.pending ≢ None) × (k ≡ h) × (new ≡ old)
+  EndsTrigger (Err NumbersSpent) = (h.coordination.pending ≡ None) × (2 ^ 63 ≤ old.next) × (k ≡ h) × (new ≡ tidied h.coordination.last_complete old)
+  EndsTrigger (Err Device) = (h.coordination.pending ≡ None) × (((new ≡ old) ⊎ (new ≡ tidied h.coordination.last_complete old)) ⊎ (new ≡ reserved (tidied h.coordination.last_complete old)))
+  EndsTrigger (Err other) = ⊥
+
+  -- the pending checkpoint is complete
+  abbrev pub EndsComplete : Result ℕ CoreFault → Type 0
+  EndsComplete (Ok n) = (h.coordination.pending ≡ Some n) × IsReady h.coordination × (new ≡ completed old n) × (k ≡ with_completed n h)
+  EndsComplete (Err NoCheckpoint) = (h.coordination.pending ≡ None) × (k ≡ h) × (new ≡ old)
+  EndsComplete (Err NotAllAcked) = (h.coordination.pending ≢ None) × ¬ IsReady h.coordination × (k ≡ h) × (new ≡ old)
+  EndsComplete (Err Device) = (n : ℕ) × (h.coordination.pending ≡ Some n) × IsReady h.coordination × ((new ≡ old) ⊎ (new ≡ completed old n))
+  EndsComplete (Err other) = ⊥
+
+-- what is left of an attempt after a call that ends so: a device's failure takes the job down
+abbrev pub left_by : {T A : Type 0} → Result T CoreFault → Option A → Option A
+left_by (Ok v) a = a
+left_by (Err Device) a = None
+left_by (Err other) a = a

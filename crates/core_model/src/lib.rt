@@ -1,0 +1,78 @@
+//! What an engine holds, as data, and what its calls do to it, in terms of the checkpoint model. The only code that runs here is [`CoreFault`].
+//!
+//! `State` is all that an engine holds; `engine_of` is what it stands for in the model, as a function of numbers; `Keeps` is what every engine
+//! keeps; the relations `Ends..` say how each call on a running job ends. The laws below say that those calls are the model's steps.
+#![tactic(auto)]
+
+mod fault;
+
+ghost use Rattle.core_model.specs.Language.{Language};
+ghost use Rattle.core_model.specs.CallLaws.{ReadsKeepEngines, InjectsKeepEngines, OperatesKeepEngines, OperatorCopiesKeepEngines, PutsOutKeepEngines, SinkCopiesKeepEngines};
+ghost use Rattle.core_model.specs.Laws.{ReadsAreSteps, OperatesAreSteps, InjectsAreSteps, CommittedAreRows, AppendsKeepSinks, CopiesKeepSinks, CommitsKeepSinks};
+
+pub use fault::CoreFault;
+
+/// A source that sends its next record makes a step of the model.
+pub fn reads_are_steps<R, K, S, O>()
+    ensures { (lang : Language R K S O) → ReadsAreSteps lang }
+{}
+
+/// An operator that works a record makes a step of the model.
+pub fn operates_are_steps<R, K, S, O>()
+    ensures { (lang : Language R K S O) → OperatesAreSteps lang }
+{}
+
+/// A source that copies its offset makes a step of the model.
+pub fn injects_are_steps<R, K, S, O>()
+    ensures { (lang : Language R K S O) → InjectsAreSteps lang }
+{}
+
+/// The committed rows of a subtask are those of its committed transactions.
+pub fn committed_are_rows()
+    ensures { CommittedAreRows }
+{}
+
+/// A record that is put out keeps what a sink keeps of its transactions.
+pub fn appends_keep_sinks()
+    ensures { AppendsKeepSinks }
+{}
+
+/// A sink's copy keeps it.
+pub fn copies_keep_sinks()
+    ensures { CopiesKeepSinks }
+{}
+
+/// A commit keeps it.
+pub fn commits_keep_sinks()
+    ensures { CommitsKeepSinks }
+{}
+
+/// A source's read keeps what every engine keeps, and is a step of the model, however it ends.
+pub fn reads_keep_engines<R, K, S, O>()
+    ensures { (lang : Language R K S O) → ReadsKeepEngines lang }
+{}
+
+/// So does a source's copy.
+pub fn injects_keep_engines<R, K, S, O>()
+    ensures { (lang : Language R K S O) → InjectsKeepEngines lang }
+{}
+
+/// So does an operator's work.
+pub fn operates_keep_engines<R, K, S, O>()
+    ensures { (lang : Language R K S O) → OperatesKeepEngines lang }
+{}
+
+/// So does an operator's copy.
+pub fn operator_copies_keep_engines<R, K, S, O>()
+    ensures { (lang : Language R K S O) → OperatorCopiesKeepEngines lang }
+{}
+
+/// So does a sink's work.
+pub fn puts_out_keep_engines<R, K, S, O>()
+    ensures { (lang : Language R K S O) → PutsOutKeepEngines lang }
+{}
+
+/// So does a sink's copy.
+pub fn sink_copies_keep_engines<R, K, S, O>()
+    ensures { (lang : Language R K S O) → SinkCopiesKeepEngines lang }
+{}
