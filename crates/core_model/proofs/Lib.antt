@@ -36,3 +36,13 @@ pub mod CallSinkCopies
 pub mod LedgerRestart
 pub mod LedgerSettle
 pub mod LedgerDevices
+pub mod CallGoes
+pub mod CallPersists
+pub mod CallCompletes
+pub mod CallTriggers
+pub mod LedgerOrdered
+pub mod CallCommits
+pub mod CallOpens
+pub mod CallLasts
+pub mod CallFails
+pub mod CallExact

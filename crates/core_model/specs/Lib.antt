@@ -6,3 +6,5 @@ pub mod Laws
 pub mod Calls
 pub mod Goes
 pub mod CallLaws
+pub mod Commits
+pub mod CheckpointLaws

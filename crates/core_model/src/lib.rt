@@ -8,6 +8,7 @@ mod fault;
 
 ghost use Rattle.core_model.specs.Language.{Language};
 ghost use Rattle.core_model.specs.CallLaws.{ReadsKeepEngines, InjectsKeepEngines, OperatesKeepEngines, OperatorCopiesKeepEngines, PutsOutKeepEngines, SinkCopiesKeepEngines};
+ghost use Rattle.core_model.specs.CheckpointLaws.{TriggersKeepEngines, PersistsKeepEngines, CompletesKeepEngines, CommitsKeepEngines, FailuresKeepEngines, FreshEnginesAreExact, FreshEnginesCommitOutputs, StepsWithdrawNoRow};
 ghost use Rattle.core_model.specs.Laws.{ReadsAreSteps, OperatesAreSteps, InjectsAreSteps, CommittedAreRows, AppendsKeepSinks, CopiesKeepSinks, CommitsKeepSinks};
 
 pub use fault::CoreFault;
@@ -75,4 +76,44 @@ pub fn puts_out_keep_engines<R, K, S, O>()
 /// So does a sink's copy.
 pub fn sink_copies_keep_engines<R, K, S, O>()
     ensures { (lang : Language R K S O) → SinkCopiesKeepEngines lang }
+{}
+
+/// A checkpoint's beginning keeps what every engine keeps, and is a step of the model, however it ends.
+pub fn triggers_keep_engines<R, K, S, O>()
+    ensures { (lang : Language R K S O) → TriggersKeepEngines lang }
+{}
+
+/// So does putting a part.
+pub fn persists_keep_engines<R, K, S, O>()
+    ensures { (lang : Language R K S O) → PersistsKeepEngines lang }
+{}
+
+/// So does a checkpoint's end.
+pub fn completes_keep_engines<R, K, S, O>()
+    ensures { (lang : Language R K S O) → CompletesKeepEngines lang }
+{}
+
+/// So does a sink's commit.
+pub fn commits_keep_engines<R, K, S, O>()
+    ensures { (lang : Language R K S O) → CommitsKeepEngines lang }
+{}
+
+/// So does a failure of the job.
+pub fn failures_keep_engines<R, K, S, O>()
+    ensures { (lang : Language R K S O) → FailuresKeepEngines lang }
+{}
+
+/// A fresh engine's sinks are exact: the exactly-once claim, from what every engine keeps.
+pub fn fresh_engines_are_exact<R, K, S, O>()
+    ensures { (lang : Language R K S O) → FreshEnginesAreExact lang }
+{}
+
+/// A fresh engine has committed each sink's output after some moves of the plain machine.
+pub fn fresh_engines_commit_outputs<R, K, S, O>()
+    ensures { (lang : Language R K S O) → FreshEnginesCommitOutputs lang }
+{}
+
+/// No step withdraws a committed row.
+pub fn steps_withdraw_no_row<R, K, S, O>()
+    ensures { (lang : Language R K S O) → StepsWithdrawNoRow lang }
 {}
