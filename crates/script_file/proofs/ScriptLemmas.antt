@@ -1,5 +1,5 @@
 -- From the parts of a script to the whole.
-use Rattle.std.proofs.Common.{◌≡◌, ◌⊎◌, inl, inr, Result, Ok, Err, count_by, refl, ap}
+use Rattle.std.proofs.Common.{inl, inr, Result, Ok, Err, count_by, refl}
 use Rattle.job_spec.specs.declared.fault.JobFault.{JobFault}
 use Rattle.job_spec.specs.declared.fault.JobFault.TheVariants as jobs
 use Rattle.job_spec.specs.Job.{Job}

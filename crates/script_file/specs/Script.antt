@@ -2,7 +2,6 @@
 use Rattle.std.specs.Prelude.{◌≡◌, ◌⊎◌, ℕ, List, count_by, Result, Ok, Err}
 use Rattle.serde_json.specs.Data.{Data}
 use Rattle.job_spec.specs.declared.fault.JobFault.{JobFault}
-use Rattle.job_spec.specs.declared.fault.JobFault.TheVariants as jobs
 use Rattle.job_spec.specs.Job.{Job}
 use Rattle.job_spec.specs.Reading.{job_at}
 use Rattle.job_graph.specs.Expanded.{Expanded, is_source}

@@ -1,4 +1,3 @@
-use Rattle.std.proofs.Common.{◌≡◌}
 use Rattle.std.proofs.lemmas.Result.{err_from_is_err_and}
 use Rattle.script_file.specs.Json.{value_of}
 use Rattle.script_file.specs.Script.{head_at, head_of}
