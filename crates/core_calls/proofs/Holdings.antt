@@ -1,0 +1,48 @@
+-- What a task holds, and the head of its input.
+use Rattle.std.proofs.Common.{◌≡◌, ◌≤◌, ℕ, zero, suc, Option, Some, None, List, [], ◌∷◌, slice_get, length, unwrap_or, All, sym, ap, ◌∙◌, subst, arith}
+use Rattle.std.specs.declared.cmp.Ordering.{Ordering}
+use Rattle.abs_codec.specs.Entries.{value_at}
+use Rattle.core_model.specs.Calls.{state_of}
+use Rattle.dataflow_model.specs.Graph.{Meaning}
+use Rattle.dataflow_model.specs.Machine.{state_under}
+use Rattle.job_graph.specs.Expanded.{Expanded}
+use Rattle.job_state.specs.Held.{Held, Operates}
+
+-- nothing stands at a place past the end alone
+pub none_past : {A : Type 0} (xs : List A) (i : ℕ) → slice_get xs i ≡ None → length xs ≤ i
+none_past [] i e = omega arith
+none_past (x ∷ xs) zero e = absurd cc
+none_past (x ∷ xs) (suc i) e = let less = none_past xs i e in omega (arith, less)
+
+-- what holds of all holds of the head
+pub head_is : {A : Type 0} (P : A → Type 0) (xs : List A) (x : A) → All P xs → slice_get xs 0 ≡ Some x → P x
+head_is P [] x all e = absurd cc
+head_is P (y ∷ ys) x all e = subst P (ap (λ o. unwrap_or o y) e) (all 0 y (omega arith))
+
+module _ {K S : Type 0} (cmp : K → K → Ordering) (entries : List (K × S)) where
+  -- a state that is found stands under the key
+  pub found_under : (key is : Option K) (fresh state : S) → key ≡ is → state_of cmp entries key ≡ Some state → state ≡ state_under is fresh (value_at cmp entries)
+  found_under key is fresh state k e = under is (ap (state_of cmp entries) (sym k) ∙ e)
+    where
+      under : (is : Option K) → state_of cmp entries is ≡ Some state → state ≡ state_under is fresh (value_at cmp entries)
+      under None e = absurd cc
+      under (Some at) e = sym (ap (λ o. unwrap_or o fresh) e)
+
+  -- where none is found, it is the fresh one
+  pub fresh_under : (key is : Option K) (fresh first : S) → key ≡ is → first ≡ fresh → state_of cmp entries key ≡ None → first ≡ state_under is fresh (value_at cmp entries)
+  fresh_under key is fresh first k f e = under is (ap (state_of cmp entries) (sym k) ∙ e)
+    where
+      under : (is : Option K) → state_of cmp entries is ≡ None → first ≡ state_under is fresh (value_at cmp entries)
+      under None e = f
+      under (Some at) e = f ∙ sym (ap (λ o. unwrap_or o fresh) e)
+
+  -- what holds of every state that is kept holds of one that is found
+  pub found_is : (P : S → Type 0) (key : Option K) (state : S) → ((k : K) (s : S) → value_at cmp entries k ≡ Some s → P s) → state_of cmp entries key ≡ Some state → P state
+  found_is P None state all e = absurd cc
+  found_is P (Some key) state all e = all key state e
+
+-- an operator's work, by the same key, state and records
+pub works_same : {R K S O : Type 0} (meaning : Meaning R K S O) (cmp : K → K → Ordering) (graph : Expanded) (task input : ℕ) (key is : Option K) (state next : S) (sent out : List (ℕ × R)) (h k : Held R K S)
+    → key ≡ is → state ≡ next → sent ≡ out → Operates meaning cmp graph task input key state sent h k → Operates meaning cmp graph task input is next out h k
+works_same meaning cmp graph task input key is state next sent out h k a b d works =
+    subst (λ x. Operates meaning cmp graph task input x next out h k) a (subst (λ x. Operates meaning cmp graph task input key x out h k) b (subst (λ x. Operates meaning cmp graph task input key state x h k) d works))

@@ -1,0 +1,111 @@
+//! A checkpoint begins, its parts are put, it is complete, and its transactions are committed.
+
+ghost use Rattle.std.specs.Prelude.{◌≡◌, ◌≢◌, ◌<◌, ◌≤◌, ℕ, List, Err, Some, None, length, slice_get, false};
+ghost use Rattle.coordinator.specs.Coordinator.{IsReady, has_acked, ack_refusal};
+ghost use Rattle.coordinator.specs.Coordinator as coordination;
+ghost use Rattle.snapshot_store.specs.Store.{put_refusal, complete_refusal};
+ghost use Rattle.task_part.specs.Spelling.{part_spelling};
+ghost use Rattle.core_model.specs.declared.fault.CoreFault.TheVariants as CoreFault;
+ghost use Rattle.core_model.specs.Calls.{EndsTrigger, EndsPersist, EndsComplete};
+
+use abs_codec::{Codec, CodecFault};
+use commit_sink::Transactions;
+use core_model::CoreFault;
+use job_graph::Graph;
+use job_state::{Attempt, Holding};
+use operators::Operator;
+use snapshot_store::{SnapshotStore, StoreFault};
+use std::alloc::Global;
+
+/// A checkpoint begins under a number of its own. The parts below the last complete number are discarded first.
+pub fn trigger<O: Operator, S: SnapshotStore>(
+    attempt: &mut Attempt<O>,
+    store: &mut S,
+) -> Result<u64, CoreFault>
+    ensures ends { EndsTrigger attempt.old attempt.new (S.state store.old) (S.state store.new) result }
+    ensures counted { result ≡ Err CoreFault.Device → S.fault_count store.old < S.fault_count store.new }
+    ensures grows { S.fault_count store.old ≤ S.fault_count store.new }
+{
+    if attempt.pending().is_some() {
+        return Err(CoreFault::CheckpointPending);
+    }
+    if let Some(last) = attempt.last_complete() {
+        if store.discard_below(last).is_err() {
+            return Err(CoreFault::Device);
+        }
+    }
+    match store.reserve() {
+        Ok(number) => {
+            attempt.start(number);
+            Ok(number)
+        }
+        Err(StoreFault::NumberFull) => Err(CoreFault::NumbersSpent),
+        Err(_) => Err(CoreFault::Device),
+    }
+}
+
+/// Puts the part of a task that has copied.
+pub fn persist<O: Operator, S: SnapshotStore>(
+    alloc: Global,
+    attempt: &mut Attempt<O>,
+    graph: &Graph,
+    store: &mut S,
+    task: u32,
+) -> Result<(), CoreFault>
+    requires acked { length attempt.old.coordination.acked ≡ length graph.now.tasks }
+    requires may { (n : ℕ) → attempt.old.coordination.pending ≡ Some n → has_acked attempt.old.coordination task ≡ false → task < length graph.now.tasks → put_refusal (S.state store.old) n task ≡ None }
+    ensures ends { EndsPersist graph.now task attempt.old attempt.new (S.state store.old) (S.state store.new) (part_spelling O.Record.spelling O.Key.spelling O.State.spelling) result }
+    ensures counted { result ≡ Err CoreFault.Device → S.fault_count store.old < S.fault_count store.new }
+    ensures grows { S.fault_count store.old ≤ S.fault_count store.new }
+{
+    if graph.role(task).is_none() {
+        return Err(CoreFault::NoSuchTask);
+    }
+    let Some(checkpoint) = attempt.pending() else {
+        return Err(CoreFault::NoCheckpoint);
+    };
+    let Some(part) = attempt.copy(task) else {
+        return Err(CoreFault::NotReady);
+    };
+    if attempt.has_acked(task) {
+        return Err(CoreFault::NotReady);
+    }
+    let mut bytes = Vec::new(alloc);
+    if part.encode(&mut bytes).is_err() {
+        return Err(CoreFault::Memory);
+    }
+    match store.put(checkpoint, task, &bytes) {
+        Ok(()) => {
+            attempt.acknowledge(checkpoint, task);
+            Ok(())
+        }
+        Err(StoreFault::Memory) => Err(CoreFault::Memory),
+        Err(_) => Err(CoreFault::Device),
+    }
+}
+
+/// The pending checkpoint, of which every part is there, is complete.
+pub fn complete<O: Operator, S: SnapshotStore>(
+    attempt: &mut Attempt<O>,
+    store: &mut S,
+) -> Result<u64, CoreFault>
+    requires may { (n : ℕ) → attempt.old.coordination.pending ≡ Some n → IsReady attempt.old.coordination → complete_refusal (S.state store.old) n ≡ None }
+    requires ready { (n : ℕ) → attempt.old.coordination.pending ≡ Some n → IsReady attempt.old.coordination → coordination.complete_refusal attempt.old.coordination n ≡ None }
+    ensures ends { EndsComplete attempt.old attempt.new (S.state store.old) (S.state store.new) result }
+    ensures counted { result ≡ Err CoreFault.Device → S.fault_count store.old < S.fault_count store.new }
+    ensures grows { S.fault_count store.old ≤ S.fault_count store.new }
+{
+    let Some(checkpoint) = attempt.pending() else {
+        return Err(CoreFault::NoCheckpoint);
+    };
+    if !attempt.ready() {
+        return Err(CoreFault::NotAllAcked);
+    }
+    match store.complete(checkpoint) {
+        Ok(()) => {
+            attempt.complete(checkpoint);
+            Ok(checkpoint)
+        }
+        Err(_) => Err(CoreFault::Device),
+    }
+}

@@ -1,0 +1,179 @@
+//! Records move: sources read, operators and sinks work.
+
+ghost use Rattle.std.specs.Prelude.{◌≡◌, ◌≢◌, ◌<◌, ◌≤◌, ◌+◌, ◌^◌, ℕ, List, Err, Some, None, length, slice_get, OnErr, IfOk, IfSome, IfNone};
+ghost use Rattle.std.specs.Option.{option_copied};
+ghost use Rattle.abs_codec.specs.Entries.{value_at};
+ghost use Rattle.abs_codec.specs.Spelling.{Fits};
+ghost use Rattle.dataflow_model.specs.Machine.{state_under};
+ghost use Rattle.operators.specs.Operator.{IsGoodState};
+ghost use Rattle.commit_sink.specs.Ledger.{open_refusal};
+ghost use Rattle.commit_sink.specs.Sink.{Sinking};
+ghost use Rattle.job_state.specs.declared.holding.Holding.TheVariants as Holding;
+ghost use Rattle.job_graph.specs.declared.role.Role.TheVariants as Role;
+ghost use Rattle.core_model.specs.declared.fault.CoreFault.TheVariants as CoreFault;
+ghost use Rattle.core_model.specs.Language.{language};
+ghost use Rattle.core_model.specs.Calls.{input_at, state_of, EndsRead, EndsOperate, EndsPutOut};
+ghost use Rattle.core_model.specs.Keeps.{AreHeld, AllFit};
+
+use abs_codec::{Codec, NoMemory};
+use channels::Item;
+use commit_sink::{TransactionFault, Transactions};
+use core_model::CoreFault;
+use job_graph::{Graph, Role};
+use job_state::{Attempt, Holding};
+use operators::{Operator, Outcome};
+use source_log::{Partitions, SourceFault};
+use std::alloc::Global;
+
+/// The channel that a task's input is.
+pub fn input_of(graph: &Graph, task: u32, input: u32) -> Option<u32>
+    ensures { result ≡ input_at graph.now task input }
+{
+    graph.inputs(task).get(input as usize).copied()
+}
+
+/// The offset that a task holds, if it holds one.
+pub(crate) fn source_offset<O: Operator>(attempt: &Attempt<O>, task: u32) -> Option<u64>
+    ensures some { IfSome result (λ offset. slice_get attempt.now.tasks task ≡ Some (Holding.Source offset)) }
+    ensures none { IfNone result ((offset : ℕ) → slice_get attempt.now.tasks task ≡ Some (Holding.Source offset) → ⊥) }
+{
+    match attempt.holding(task) {
+        Some(Holding::Source(offset)) => Some(*offset),
+        Some(Holding::Operator(_)) => None,
+        Some(Holding::Sink(_)) => None,
+        None => None,
+    }
+}
+
+/// Source `task` sends its next record.
+pub fn read_next<O: Operator, P: Partitions<Record = O::Record>>(
+    attempt: &mut Attempt<O>,
+    graph: &Graph,
+    log: &mut P,
+    task: u32,
+) -> Result<(), CoreFault>
+    requires held { AreHeld graph.now attempt.old }
+    requires channels { length attempt.old.channels ≡ length graph.now.channels }
+    requires partitions { (t p : ℕ) → slice_get graph.now.tasks t ≡ Some (Role.Source p) → p < length (P.records log.old) }
+    ensures ends { EndsRead graph.now task attempt.old attempt.new (language O.meaning O.Key.cmp O.Record.spelling O.Record.reading O.Key.reading O.State.reading) (P.records log.old) result }
+    ensures same { P.records log.new ≡ P.records log.old }
+    ensures kept { OnErr result (attempt.new ≡ attempt.old) }
+    ensures counted { result ≡ Err CoreFault.Device → P.fault_count log.old < P.fault_count log.new }
+{
+    let Some(Role::Source(partition)) = graph.role(task) else {
+        return Err(CoreFault::NoSuchTask);
+    };
+    let Some(offset) = source_offset(attempt, task) else {
+        return Err(CoreFault::NoSuchTask);
+    };
+    if log.len(partition).is_ok_and(|len| len <= offset) {
+        return Err(CoreFault::NotReady);
+    }
+    let row = match log.read(partition, offset) {
+        Ok(Some(row)) => row,
+        Ok(None) => return Err(CoreFault::NotReady),
+        Err(SourceFault::Memory) => return Err(CoreFault::Memory),
+        Err(_) => return Err(CoreFault::Device),
+    };
+    attempt.read(graph, task, offset, row)?;
+    Ok(())
+}
+
+/// The state under a record's key, if there is one.
+fn state_at<'a, O: Operator>(
+    attempt: &'a Attempt<O>,
+    task: u32,
+    key: &Option<O::Key>,
+) -> Option<&'a O::State>
+    ensures { (entries : List (O.Key × O.State)) → slice_get attempt.now.tasks task ≡ Some (Holding.Operator entries) → option_copied result ≡ state_of O.Key.cmp entries key.now }
+{
+    let Some(Holding::Operator(states)) = attempt.holding(task) else {
+        return None;
+    };
+    states.get(key.as_ref()?)
+}
+
+/// A record's key, and what the operator makes of the record in the state under that key.
+fn outcome_of<O: Operator>(
+    alloc: Global,
+    attempt: &Attempt<O>,
+    operator: &O,
+    task: u32,
+    row: &O::Record,
+) -> Result<(Option<O::Key>, Outcome<O::State, O::Record>), NoMemory>
+    requires holds { (entries : List (O.Key × O.State)) × (slice_get attempt.now.tasks task ≡ Some (Holding.Operator entries)) }
+    requires fits { Fits O.Record.HasSpelling O.Record.spelling row.now }
+    requires good { (entries : List (O.Key × O.State)) (key : O.Key) (state : O.State) → slice_get attempt.now.tasks task ≡ Some (Holding.Operator entries) → value_at O.Key.cmp entries key ≡ Some state → IsGoodState (Fits O.State.HasSpelling O.State.spelling) O.Suits operator.now state }
+    ensures key { IfOk result (λ made. made.0 ≡ O.meaning.key operator.now row.now) }
+    ensures state { (entries : List (O.Key × O.State)) → slice_get attempt.now.tasks task ≡ Some (Holding.Operator entries)
+        → IfOk result (λ made. made.1.state ≡ (O.meaning.apply operator.now (state_under (O.meaning.key operator.now row.now) (O.meaning.fresh operator.now) (value_at O.Key.cmp entries)) row.now).state) }
+    ensures sent { (entries : List (O.Key × O.State)) → slice_get attempt.now.tasks task ≡ Some (Holding.Operator entries)
+        → IfOk result (λ made. made.1.sent.items ≡ (O.meaning.apply operator.now (state_under (O.meaning.key operator.now row.now) (O.meaning.fresh operator.now) (value_at O.Key.cmp entries)) row.now).sent) }
+{
+    let key = operator.key(alloc, row)?;
+    let Some(state) = state_at(attempt, task, &key) else {
+        let fresh = operator.fresh(alloc)?;
+        let outcome = operator.apply(alloc, &fresh, row)?;
+        return Ok((key, outcome));
+    };
+    let outcome = operator.apply(alloc, state, row)?;
+    Ok((key, outcome))
+}
+
+/// An operator works the record at the head of its input.
+pub fn operate<O: Operator>(
+    alloc: Global,
+    attempt: &mut Attempt<O>,
+    graph: &Graph,
+    operator: &O,
+    task: u32,
+    channel: u32,
+) -> Result<(), CoreFault>
+    requires holds { (entries : List (O.Key × O.State)) × (slice_get attempt.old.tasks task ≡ Some (Holding.Operator entries)) }
+    requires channels { length attempt.old.channels ≡ length graph.now.channels }
+    requires fit { AllFit (Fits O.Record.HasSpelling O.Record.spelling) attempt.old }
+    requires good { (entries : List (O.Key × O.State)) (key : O.Key) (state : O.State) → slice_get attempt.old.tasks task ≡ Some (Holding.Operator entries) → value_at O.Key.cmp entries key ≡ Some state → IsGoodState (Fits O.State.HasSpelling O.State.spelling) O.Suits operator.now state }
+    ensures { EndsOperate graph.now task attempt.old attempt.new channel (language O.meaning O.Key.cmp O.Record.spelling O.Record.reading O.Key.reading O.State.reading) operator.now result }
+{
+    let Some(Item::Record(row)) = attempt.head(channel) else {
+        return Err(CoreFault::NotReady);
+    };
+    let (key, outcome) = outcome_of(alloc, attempt, operator, task, row)?;
+    attempt.operate(graph, task, channel, key, outcome.state, outcome.sent)?;
+    Ok(())
+}
+
+/// A sink puts the record at the head of its input last in its open transaction.
+pub fn put_out<O: Operator, X: Transactions>(
+    alloc: Global,
+    attempt: &mut Attempt<O>,
+    transactions: &mut X,
+    task: u32,
+    channel: u32,
+) -> Result<(), CoreFault>
+    requires holds { (sink : Sinking) × (slice_get attempt.old.tasks task ≡ Some (Holding.Sink sink)) × (open_refusal (X.state transactions.old) sink.open_one ≡ None) }
+    requires fit { AllFit (Fits O.Record.HasSpelling O.Record.spelling) attempt.old }
+    ensures ends { EndsPutOut task attempt.old attempt.new channel (X.state transactions.old) (X.state transactions.new) O.Record.spelling result }
+    ensures counted { result ≡ Err CoreFault.Device → X.fault_count transactions.old < X.fault_count transactions.new }
+    ensures grows { X.fault_count transactions.old ≤ X.fault_count transactions.new }
+{
+    let Some(Item::Record(row)) = attempt.head(channel) else {
+        return Err(CoreFault::NotReady);
+    };
+    let Some(Holding::Sink(sink)) = attempt.holding(task) else {
+        return Err(CoreFault::NotReady);
+    };
+    let open = sink.open();
+    let mut bytes = Vec::new(alloc);
+    if row.encode(&mut bytes).is_err() {
+        return Err(CoreFault::Memory);
+    }
+    match transactions.append(open, &bytes) {
+        Ok(()) => {
+            attempt.take(channel);
+            Ok(())
+        }
+        Err(TransactionFault::Memory) => Err(CoreFault::Memory),
+        Err(_) => Err(CoreFault::Device),
+    }
+}

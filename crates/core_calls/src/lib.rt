@@ -1,0 +1,13 @@
+//! The calls of a running job, each over the attempt and the one device that it uses.
+//!
+//! A call ends by what the attempt holds before and after, and the device: it is done, or it is refused and nothing has changed, or the device has
+//! failed, before its work or after it. Then what the attempt holds is of no account.
+#![tactic(auto)]
+
+mod barriers;
+mod checkpoints;
+mod dataflow;
+
+pub use barriers::{copy_operator, copy_sink, inject};
+pub use checkpoints::{complete, persist, trigger};
+pub use dataflow::{input_of, operate, put_out, read_next};
