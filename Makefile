@@ -1,4 +1,4 @@
-# make demo: the main job, from the sources as they stand. make test: the gate. make build: the proved program, bin/absflow.
+# make test: the gate: every proof from nothing, every edit that must be refused, every test.
 .PHONY: test
 
 test:
