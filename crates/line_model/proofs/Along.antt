@@ -3,8 +3,8 @@ use Rattle.std.proofs.Common.{◌≡◌, ℕ, ◌+◌, ◌==◌, ◌&&◌, Bool,
 use Rattle.std.proofs.lemmas.Option.{none-some, same_Some, slice_get_within, get_or_from_slice_get}
 use Rattle.std.proofs.Math.Bool.{and-true}
 use mathlib.Core.Path.{fun_ext}
-use Rattle.dataflow_model.specs.Graph.{Meaning, admitted}
-use Rattle.line_model.specs.Line.{on_first_port, outcome_under, states_after, sent_along, states_along, line_channel}
+use Rattle.dataflow_model.specs.Graph.{Meaning, Route, takes_lane, admitted}
+use Rattle.line_model.specs.Line.{on_first_port, outcome_under, states_after, sent_along, states_along, line_channel, TakesAll}
 use Rattle.line_model.specs.Laws.{OneForEach}
 
 pub take_more : {A : Type 0} (xs : List A) (i : ℕ) (x : A) → slice_get xs i ≡ Some x → take (i + 1) xs ≡ take i xs ++ x ∷ []
@@ -28,9 +28,9 @@ module _ {R K S O : Type 0} (meaning : Meaning R K S O) (operator : O) where
   states_along-append states (r ∷ xs) ys = states_along-append (states_after meaning operator states r) xs ys
 
   -- what a channel of the line admits
-  pub admitted-line : (sender : ℕ) (sent : List (ℕ × R)) → admitted meaning (line_channel sender) sent ≡ on_first_port sent
-  admitted-line sender sent =
-      let tests : (s : ℕ × R) → ((s.0 == 0) && Bool.true) ≡ (s.0 == 0) = λ s. and-true (s.0 == 0) in
+  pub admitted-line : (sender : ℕ) (route : Route) (sent : List (ℕ × R)) → TakesAll route → admitted meaning (line_channel sender route) sent ≡ on_first_port sent
+  admitted-line sender route sent takes =
+      let tests : (s : ℕ × R) → ((s.0 == 0) && takes_lane route (meaning.lane s.1)) ≡ (s.0 == 0) = λ s. ap (λ (b : Bool). (s.0 == 0) && b) (takes (meaning.lane s.1)) ∙ and-true (s.0 == 0) in
       ap (λ (p : ℕ × R → Bool). map (λ s. s.1) (filter p sent)) (fun_ext tests)
 
 module _ {R K S O : Type 0} where

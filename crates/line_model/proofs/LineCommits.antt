@@ -99,8 +99,8 @@ module _ {R K S O B : Type 0} where
         | inr some ↦
             let c = last_cut job spell partition operator devices s.cuts s.legal is some.0 some.1 in
             from_cut job spell partition operator devices s.cuts s.legal is some.0 some.1 c
-            (s.clear some.0 0 c.at (line_channel 0) c.is_cut (ap (λ cs. slice_get cs 0) is.channels) first)
-            (s.clear some.0 1 c.at (line_channel 1) c.is_cut (ap (λ cs. slice_get cs 1) is.channels) second)
+            (s.clear some.0 0 c.at (line_channel 0 is.first) c.is_cut (ap (λ cs. slice_get cs 0) is.channels) first)
+            (s.clear some.0 1 c.at (line_channel 1 is.second) c.is_cut (ap (λ cs. slice_get cs 1) is.channels) second)
       ]
 
   pub logged_lines_commit : (job : Job R K S O) (spell : R → B) → LoggedLinesCommitBeginnings job spell

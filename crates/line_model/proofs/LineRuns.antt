@@ -1,9 +1,9 @@
 -- Every moment of a plain run of a line.
 use Rattle.std.proofs.Common.{◌≡◌, ℕ, zero, suc, List, [], ◌∷◌, ◌++◌, take, drop, slice_get, Some, refl, sym, ap, ap₂, ◌∙◌, subst, arith, append_assoc, append-nil}
 use Rattle.std.proofs.lemmas.Option.{none-some, same_Some, slice_get_within}
-use Rattle.dataflow_model.specs.Graph.{Meaning, Task, SourceTask, OperatorTask, SinkTask, Channel, Job}
+use Rattle.dataflow_model.specs.Graph.{Meaning, Task, SourceTask, OperatorTask, SinkTask, Route, Channel, Job, admitted}
 use Rattle.dataflow_model.specs.Machine.{Configuration, Move, Read, Work, mover, HasInputs, handled, after, Takes, Reaches, start}
-use Rattle.line_model.specs.Line.{on_first_port, no_states, outcome_under, states_after, sent_along, states_along, applied, line_channel, IsLineAt}
+use Rattle.line_model.specs.Line.{on_first_port, no_states, outcome_under, states_after, sent_along, states_along, applied, line_channel, TakesAll, IsLineAt}
 use Rattle.line_model.specs.Laws.{LinesApply}
 use Rattle.line_model.proofs.Along.{take_more, first_and_rest, sent_along-append, states_along-append, admitted-line}
 
@@ -18,9 +18,9 @@ partition_of (SourceTask partition) = partition
 partition_of (OperatorTask operator) = 0
 partition_of SinkTask = 0
 
-module _ {R K S O : Type 0} (meaning : Meaning R K S O) (partitions : ℕ → List R) (partition : ℕ) (operator : O) where
+module _ {R K S O : Type 0} (meaning : Meaning R K S O) (partitions : ℕ → List R) (partition : ℕ) (operator : O) (first second : Route) (first_takes : TakesAll first) (second_takes : TakesAll second) where
   abbrev line : Job R K S O
-  line = record { meaning = meaning; graph = record { tasks = SourceTask partition ∷ OperatorTask operator ∷ SinkTask ∷ []; channels = line_channel 0 ∷ line_channel 1 ∷ [] }; partitions = partitions }
+  line = record { meaning = meaning; graph = record { tasks = SourceTask partition ∷ OperatorTask operator ∷ SinkTask ∷ []; channels = line_channel 0 first ∷ line_channel 1 second ∷ [] }; partitions = partitions }
 
   abbrev rows : List R
   rows = partitions partition
@@ -39,16 +39,19 @@ module _ {R K S O : Type 0} (meaning : Meaning R K S O) (partitions : ℕ → Li
       let s = (old.tasks 1).states in
       let o = (old.tasks 0).offset in
       let more = take_more rows o r is in
+      let one : admitted meaning (line_channel 0 first) ((0, r) ∷ []) ≡ r ∷ [] = admitted-line meaning operator 0 first ((0, r) ∷ []) first_takes in
       record {
         read = omega (arith, slice_get_within rows o r is);
         sent =
-            ap₂ (λ x y. a ++ x ++ y) (append-nil b) (sent_along-append meaning operator s c (r ∷ []))
+            ap (λ (x : List R). a ++ (b ++ []) ++ sent_along meaning operator s (c ++ x)) one
+            ∙ ap₂ (λ x y. a ++ x ++ y) (append-nil b) (sent_along-append meaning operator s c (r ∷ []))
             ∙ sym (append_assoc (a ++ b) (sent_along meaning operator s c) (sent_along meaning operator (states_along meaning operator s c) (r ∷ [])))
             ∙ ap₂ (λ x y. x ++ sent_along meaning operator y (r ∷ [])) i.sent i.states
             ∙ sym (sent_along-append meaning operator no_states (take o rows) (r ∷ []))
             ∙ ap (λ l. applied meaning operator l) (sym more);
         states =
-            states_along-append meaning operator s c (r ∷ [])
+            ap (λ (x : List R). states_along meaning operator s (c ++ x)) one
+            ∙ states_along-append meaning operator s c (r ∷ [])
             ∙ ap (λ y. states_along meaning operator y (r ∷ [])) i.states
             ∙ sym (states_along-append meaning operator no_states (take o rows) (r ∷ []))
             ∙ ap (λ l. states_along meaning operator no_states l) (sym more);
@@ -67,7 +70,7 @@ module _ {R K S O : Type 0} (meaning : Meaning R K S O) (partitions : ℕ → Li
       record {
         read = i.read;
         sent =
-            ap₂ (λ x y. a ++ (b ++ x) ++ sent_along meaning operator next y) (admitted-line meaning operator 1 sent) (append-nil rest)
+            ap₂ (λ x y. a ++ (b ++ x) ++ sent_along meaning operator next y) (admitted-line meaning operator 1 second sent second_takes) (append-nil rest)
             ∙ ap (λ l. l ++ sent_along meaning operator next rest) (sym (append_assoc a b (on_first_port sent)))
             ∙ append_assoc (a ++ b) (on_first_port sent) (sent_along meaning operator next rest)
             ∙ ap (λ l. a ++ b ++ sent_along meaning operator s l) (sym split)
@@ -103,10 +106,10 @@ module _ {R K S O : Type 0} (meaning : Meaning R K S O) (partitions : ℕ → Li
   step_kept old (Work (suc zero) zero) kind r is t i =
       subst (λ x. At (then_at old (Work 1 0) x r)) (same_Some (OperatorTask operator) kind is) (operates old r t.4 i)
   step_kept old (Work (suc zero) (suc zero)) kind r is t i =
-      let e : 2 ≡ 1 = ap (λ (c : Channel). c.receiver) (same_Some (line_channel 1) t.0 t.2) ∙ t.3 in absurd (omega (arith, e))
+      let e : 2 ≡ 1 = ap (λ (c : Channel). c.receiver) (same_Some (line_channel 1 second) t.0 t.2) ∙ t.3 in absurd (omega (arith, e))
   step_kept old (Work (suc zero) (suc (suc input))) kind r is t i = absurd (none-some t.0 t.2)
   step_kept old (Work (suc (suc zero)) zero) kind r is t i =
-      let e : 1 ≡ 2 = ap (λ (c : Channel). c.receiver) (same_Some (line_channel 0) t.0 t.2) ∙ t.3 in absurd (omega (arith, e))
+      let e : 1 ≡ 2 = ap (λ (c : Channel). c.receiver) (same_Some (line_channel 0 first) t.0 t.2) ∙ t.3 in absurd (omega (arith, e))
   step_kept old (Work (suc (suc zero)) (suc zero)) kind r is t i =
       subst (λ x. At (then_at old (Work 2 1) x r)) (same_Some SinkTask kind is) (puts_out old r t.4 i)
   step_kept old (Work (suc (suc zero)) (suc (suc input))) kind r is t i = absurd (none-some t.0 t.2)
@@ -129,5 +132,5 @@ module _ {R K S O : Type 0} where
   pub lines_apply : (job : Job R K S O) → LinesApply job
   lines_apply job partition operator moves at is reached =
       let build : List (Task O) → List Channel → Job R K S O = λ ts cs. record { meaning = job.meaning; graph = record { tasks = ts; channels = cs }; partitions = job.partitions } in
-      let same : job ≡ line job.meaning job.partitions partition operator = ap₂ build is.tasks is.channels in
-      subst (λ (j : Job R K S O). Reaches j moves start at → IsLineAt j partition operator at) (sym same) (from_start job.meaning job.partitions partition operator moves at) reached
+      let same : job ≡ line job.meaning job.partitions partition operator is.first is.second is.first_takes is.second_takes = ap₂ build is.tasks is.channels in
+      subst (λ (j : Job R K S O). Reaches j moves start at → IsLineAt j partition operator at) (sym same) (from_start job.meaning job.partitions partition operator is.first is.second is.first_takes is.second_takes moves at) reached

@@ -1,6 +1,6 @@
 -- A line: one source, one operator and one sink, with a channel from each to the next.
-use Rattle.std.specs.Prelude.{◌≡◌, ℕ, ◌+◌, ◌≤◌, ◌==◌, false, List, [], ◌∷◌, ◌++◌, map, filter, length, take, Option, None}
-use Rattle.dataflow_model.specs.Graph.{Outcome, Meaning, SourceTask, OperatorTask, SinkTask, Every, Channel, Job}
+use Rattle.std.specs.Prelude.{◌≡◌, ℕ, ◌+◌, ◌≤◌, ◌==◌, true, false, List, [], ◌∷◌, ◌++◌, map, filter, length, take, Option, None}
+use Rattle.dataflow_model.specs.Graph.{Outcome, Meaning, SourceTask, OperatorTask, SinkTask, Route, Channel, Job, takes_lane}
 use Rattle.dataflow_model.specs.Machine.{Configuration, state_under, kept_under}
 
 -- the records that are sent on port 0
@@ -35,14 +35,22 @@ module _ {R K S O : Type 0} where
   applied meaning operator rows = sent_along meaning operator no_states rows
 
 -- from a task to the next
-abbrev pub line_channel : ℕ → Channel
-line_channel sender = record { sender = sender; receiver = sender + 1; port = 0; route = Every; marked = false }
+abbrev pub line_channel : ℕ → Route → Channel
+line_channel sender route = record { sender = sender; receiver = sender + 1; port = 0; route = route; marked = false }
+
+-- a route that takes every record, as the one to the only subtask does
+abbrev pub TakesAll : Route → Type 0
+TakesAll route = (lane : ℕ) → takes_lane route lane ≡ true
 
 module _ {R K S O : Type 0} where
   -- the job is a line, of this source's partition and this operator
   pub record IsLine (job : Job R K S O) (partition : ℕ) (operator : O) : Type 0 where
     pub tasks : job.graph.tasks ≡ SourceTask partition ∷ OperatorTask operator ∷ SinkTask ∷ []
-    pub channels : job.graph.channels ≡ line_channel 0 ∷ line_channel 1 ∷ []
+    pub first : Route
+    pub second : Route
+    pub channels : job.graph.channels ≡ line_channel 0 first ∷ line_channel 1 second ∷ []
+    pub first_takes : TakesAll first
+    pub second_takes : TakesAll second
 
   -- What the sink has put out, what stands before it, and what the operator will make of what stands before that, are what the operator makes of
   -- the records that the source has read.
