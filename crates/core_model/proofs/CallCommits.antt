@@ -21,7 +21,7 @@ use Rattle.snapshot_store.specs.Store.{is_complete}
 use Rattle.core_model.specs.Language.{Language}
 use Rattle.core_model.specs.State.{State}
 use Rattle.core_model.specs.View.{held_state, run_of, transactions_at, devices_of}
-use Rattle.core_model.specs.Keeps.{SinkIn, PendingIn, Shape, RunsIn, Keeps}
+use Rattle.core_model.specs.Keeps.{SinkIn, PendingIn, Shape, NoneAfter, RunsIn, Keeps}
 use Rattle.core_model.specs.Calls.{left_by}
 use Rattle.core_model.specs.Commits.{IsNext, CommitsOne, FailsToCommit, CommitsEach, EndsCommit}
 use Rattle.core_model.specs.Goes.{Goes}
@@ -31,6 +31,7 @@ use Rattle.core_model.proofs.Lists.{get_set_same, get_set_other}
 use Rattle.core_model.proofs.ShapeCalls.{shape_forgotten}
 use Rattle.core_model.proofs.StoreView.{line_of, is_on-line_of}
 use Rattle.core_model.proofs.StoreRuns.{pending_moved}
+use Rattle.core_model.proofs.LastPending.{none_after_drop}
 use Rattle.core_model.proofs.LedgerShares.{share}
 use Rattle.core_model.proofs.LedgerSinks.{first_is, first_pending}
 use Rattle.core_model.proofs.LedgerCalls.{commit_now, commit_stays}
@@ -103,7 +104,8 @@ module _ {R K S O : Type 0} (lang : Language R K S O) (RecordFits : R → Type 0
 
     -- The sink holds this now: what it held, or all but the oldest of its pending ones.
     module _ (tasks : List (Holding K S)) (sink' : Sinking) (there : slice_get tasks task ≡ Some (holds.Sink sink')) (elsewhere : (t : ℕ) → (t ≡ task → ⊥) → slice_get tasks t ≡ slice_get h.tasks t)
-        (in_ledger : SinkIn ledger subtask sink') (fewer : (P : Pending → Type 0) → All P sink.pending → All P sink'.pending) where
+        (in_ledger : SinkIn ledger subtask sink') (fewer : (P : Pending → Type 0) → All P sink.pending → All P sink'.pending)
+        (last_stays : (checkpoint : Option ℕ) → NoneAfter checkpoint sink.pending → NoneAfter checkpoint sink'.pending) where
       abbrev k : Held R K S
       k = record h { tasks = tasks }
 
@@ -158,6 +160,13 @@ module _ {R K S O : Type 0} (lang : Language R K S O) (RecordFits : R → Type 0
                   subst (λ (x : Sinking). All (λ (q : Pending). is_complete s.stored q.checkpoint ≡ true) x.pending) (sym (holds_there t now held same.1)) (fewer (λ q. is_complete s.stored q.checkpoint ≡ true) here)
               | inr apart ↦ runs.copied_last t number now (sym (elsewhere t apart.1) ∙ held) pending none
             ];
+        last_pending = λ t now held.
+            elim (eqb_tells t task) [
+              | inl same ↦
+                  subst (λ (x : Sinking). NoneAfter h.coordination.pending x.pending) (sym (holds_there t now held same.1))
+                  (last_stays h.coordination.pending (runs.last_pending task sink next.was))
+              | inr apart ↦ runs.last_pending t now (sym (elsewhere t apart.1) ∙ held)
+            ];
       }
         where
           moved : (o : Option ℕ) → MatchOption o (Unit {0}) (PendingIn lang s.stored h) → MatchOption o (Unit {0}) (PendingIn lang s.stored k)
@@ -182,12 +191,12 @@ module _ {R K S O : Type 0} (lang : Language R K S O) (RecordFits : R → Type 0
         let less : Sinking = record sink { pending = drop 1 sink.pending } in
         let shape = shape_of lang RecordFits IsGood s keeps h was in
         keeps_committed (slice_set h.tasks task (holds.Sink less)) less (get_set_same h.tasks task (holds.Sink less) (slice_get_within h.tasks task (holds.Sink sink) next.was)) (λ t apart. get_set_other h.tasks task t (holds.Sink less) apart)
-        first.sink_in (λ P all. All-drop P 1 sink.pending all)
+        first.sink_in (λ P all. All-drop P 1 sink.pending all) (λ checkpoint last. none_after_drop checkpoint sink.pending last)
         (shape_forgotten lang.cmp RecordFits IsGood s.graph s.operators h shape task subtask sink is)
 
     -- it is committed, and the call is answered as failed
     still_pending : KeepsAndGoes lang RecordFits IsGood s (after s (Some h) s.stored ledger n)
-    still_pending = keeps_committed h.tasks sink next.was (λ t apart. refl) first.sink_still (λ P all. all) (shape_of lang RecordFits IsGood s keeps h was)
+    still_pending = keeps_committed h.tasks sink next.was (λ t apart. refl) first.sink_still (λ P all. all) (λ checkpoint last. last) (shape_of lang RecordFits IsGood s keeps h was)
 
   -- ---- rounds of the call
 

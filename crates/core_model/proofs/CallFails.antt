@@ -50,6 +50,7 @@ module _ {R K S O : Type 0} (lang : Language R K S O) (RecordFits : R → Type 0
     shape = keeps.shape;
     runs = still s.held keeps.runs;
     fresh = λ fresh. held_growth (job_of lang s) lang.spelling (is_logged_in s) (λ p. records_at partitions p) (held_engine (engine_of lang s)) grown (keeps.fresh fresh);
+    whole = keeps.whole;
   }
     where
       still : (held : Option (Held R K S)) → MatchOption held (Unit {0}) (RunsIn lang s) → MatchOption held (Unit {0}) (RunsIn lang (record s { partitions = partitions; faults = n }))

@@ -21,6 +21,7 @@ use Rattle.core_model.specs.State.{State}
 use Rattle.core_model.specs.View.{named_by, run_of, job_of, is_logged_in, devices_of, running_of, engine_of}
 use Rattle.core_model.specs.Keeps.{Shape, RunsIn, Keeps}
 use Rattle.core_model.specs.Goes.{Goes}
+use Rattle.core_model.proofs.StoreWhole.{steps_whole}
 
 -- ---- lists of steps
 
@@ -112,6 +113,9 @@ module _ {R K S O : Type 0} (lang : Language R K S O) where
         shape = shape;
         runs = runs;
         fresh = goes_keeps_fresh goes;
+        whole = λ fresh.
+            steps_whole (job_of lang s) (is_logged_in s) lang.spelling goes.0 (held_engine (engine_of lang s)) (held_engine (engine_of lang (after s held stored ledger n)))
+            (receiver-graph_of s.graph s.operators keeps.expanded) goes.1 (keeps.fresh fresh) (keeps.whole fresh);
       },
       goes,
     )
@@ -124,6 +128,7 @@ module _ {R K S O : Type 0} (lang : Language R K S O) where
     sinks = rw (graph, ledger) (runs.sinks);
     checkpoints = rw stored (runs.checkpoints);
     copied_last = rw stored (runs.copied_last);
+    last_pending = runs.last_pending;
   }
 
   pub goes_then_down : (s : State O R K S) (held : Option (Held R K S)) (stored : Stored) (ledger : Ledger) (n : ℕ) → Goes lang s (after s held stored ledger n) → Goes lang s (after s None stored ledger n)

@@ -1,8 +1,9 @@
 -- A sink with nothing left to commit has committed once for each complete checkpoint.
-use Rattle.std.proofs.Common.{◌≡◌, ◌⊎◌, ◌<◌, option_map, inl, inr, All, Option, Some, None, slice_get, length, map, ℕ, true, false, List, [], ◌∷◌, ◌++◌, refl, sym, ap, subst, ◌∙◌, append_assoc, arith}
+use Rattle.std.proofs.Common.{◌≡◌, ◌⊎◌, ◌<◌, option_map, inl, inr, All, Option, Some, None, Ok, slice_get, length, map, ℕ, true, false, List, [], ◌∷◌, ◌++◌, refl, sym, ap, subst, ◌∙◌, append_assoc, arith}
 use Rattle.std.proofs.lemmas.List.{map-append, append_cancel_left}
 use Rattle.std.proofs.lemmas.List.Elements.{All-nil, All-cons, All-head, All-tail, All-weaker}
-use Rattle.std.proofs.lemmas.Option.{none-some}
+use Rattle.std.proofs.lemmas.Option.{none-some, same_Some}
+use Rattle.std.proofs.lemmas.Bool.Decides.{eqb_tells}
 use Rattle.checkpoint_model.specs.Durable as durable
 use Rattle.checkpoint_model.specs.Durable.{is_on, IsSink, numbers_of, transactions_of}
 use Rattle.checkpoint_model.specs.HeldLaws.{held_engine}
@@ -21,15 +22,20 @@ use Rattle.snapshot_store.specs.Store.{is_complete}
 use Rattle.core_model.specs.Language.{Language}
 use Rattle.core_model.specs.State.{State}
 use Rattle.core_model.specs.View.{job_of, is_logged_in, transactions_at, engine_of}
-use Rattle.core_model.specs.Keeps.{SinkIn, Keeps}
-use Rattle.core_model.specs.Commits.{NoneIsNext}
+use Rattle.core_model.specs.Keeps.{SinkIn, NoneAfter, RunsIn, Keeps}
+use Rattle.core_model.specs.Commits.{NoneIsNext, EndsCommit}
+use Rattle.core_model.specs.LastCommitted.{committed_of, complete_numbers}
 use Rattle.core_model.proofs.StoreView.{line_of, is_on-line_of}
 use Rattle.core_model.proofs.LedgerPlaces.{same_at}
 use Rattle.core_model.proofs.LedgerShares.{share, Stands, pre_stand, pre_not_committed, same_checkpoint}
 use Rattle.core_model.proofs.LedgerSinks.{PendingIs}
 use Rattle.core_model.proofs.LedgerCommit.{numbers_pre}
+use Rattle.core_model.proofs.StorePut.{pending_incomplete}
 use Rattle.core_model.proofs.StoreRuns.{runs_pending}
-use Rattle.core_model.proofs.CallGoes.{runs_of}
+use Rattle.core_model.proofs.LastPending.{only_one}
+use Rattle.core_model.proofs.LedgerRows.{count_in}
+use Rattle.core_model.proofs.CallCommits.{keeps_commit}
+use Rattle.core_model.proofs.CallGoes.{shape_of, runs_of}
 
 -- ---- each that is pre-committed is one of those that the sink has pending
 
@@ -118,3 +124,43 @@ module _ {R K S O : Type 0} (lang : Language R K S O) (RecordFits : R → Type 0
 
   pub committed_up_to_last : NoneIsNext task h → (h.coordination.pending ≡ None) ⊎ (copy_at h task ≡ None) → length (share s.ledger subtask).committed ≡ length (line_of s.stored)
   committed_up_to_last none quiet = committed_all (none_pending none quiet)
+
+  -- Where the sink has none left to commit, the checkpoint of none that is pending is complete.
+  none_complete : NoneIsNext task h → All (λ p. is_complete s.stored p.checkpoint ≡ false) sink.pending
+  none_complete none = of sink.pending h.coordination.pending refl refl
+    where
+      runs : RunsIn lang s h
+      runs = runs_of lang RecordFits IsGood s keeps h was
+
+      P : Pending → Type 0
+      P p = is_complete s.stored p.checkpoint ≡ false
+
+      oldest_is_next : (p : Pending) (rest : List Pending) → sink.pending ≡ p ∷ rest → (h.coordination.pending ≡ Some p.checkpoint → ⊥) → ⊥
+      oldest_is_next p rest e apart = none sink p (record { was = at; oldest = ap (λ (l : List Pending). slice_get l 0) e; complete = apart })
+
+      of : (pending : List Pending) (checkpoint : Option ℕ) → sink.pending ≡ pending → h.coordination.pending ≡ checkpoint → All P sink.pending
+      of [] checkpoint e is = subst (All P) (sym e) (All-nil P)
+      of (p ∷ rest) None e is = absurd (oldest_is_next p rest e (λ same. none-some p.checkpoint (sym is ∙ same)))
+      of (p ∷ rest) (Some number) e is =
+          elim (eqb_tells number p.checkpoint) [
+            | inl same ↦
+                let now : h.coordination.pending ≡ Some p.checkpoint = is ∙ ap (λ (n : ℕ). Some n) same.1 in
+                let alone : rest ≡ [] = only_one h.coordination.pending p rest (subst (NoneAfter h.coordination.pending) e (runs.last_pending task sink at)) now in
+                let incomplete : P p = pending_incomplete lang s.stored h p.checkpoint (runs_pending lang s h runs p.checkpoint now) in
+                subst (All P) (sym (e ∙ ap (λ (l : List Pending). p ∷ l) alone)) (All-cons P p [] incomplete (All-nil P))
+            | inr apart ↦ absurd (oldest_is_next p rest e (λ same. apart.1 (same_Some number p.checkpoint (sym is ∙ same))))
+          ]
+
+  -- so it has committed once for each complete checkpoint, whatever is pending
+  pub committed_each : NoneIsNext task h → length (share s.ledger subtask).committed ≡ length (line_of s.stored)
+  committed_each none = committed_for_each (none_complete none)
+
+module _ {R K S O : Type 0} (lang : Language R K S O) (RecordFits : R → Type 0) (IsGood : O → S → Type 0) (s : State O R K S) (keeps : Keeps lang RecordFits IsGood s) (fresh : s.is_fresh ≡ true) (h : Held R K S) (was : s.held ≡ Some h)
+    (subtask : ℕ) (k : Held R K S) (ledger : Ledger) where
+  -- so has a commit that is answered Ok
+  pub commits_reach : (u : Unit {0}) → EndsCommit s.graph subtask h k s.ledger ledger (Ok u) → length (committed_of ledger subtask) ≡ length (complete_numbers s.stored)
+  commits_reach u ends =
+      let after : State O R K S = record s { held = Some k; ledger = ledger; faults = 0 } in
+      let kept : Keeps lang RecordFits IsGood after = (keeps_commit lang RecordFits IsGood s keeps h was subtask k ledger 0 (Ok u) ends).0 in
+      let form = (shape_of lang RecordFits IsGood after kept k refl).forms ends.0 (role.Sink subtask) ends.1 in
+      sym (count_in ledger subtask kept.ordered) ∙ committed_each lang RecordFits IsGood after kept fresh k refl ends.0 subtask ends.1 form.0 form.1 (ends.2).none_next

@@ -16,8 +16,9 @@ use Rattle.snapshot_store.specs.Store.{Stored, IsNumbered}
 use Rattle.core_model.specs.Language.{Language}
 use Rattle.core_model.specs.State.{State}
 use Rattle.core_model.specs.View.{store_of, transactions_at, run_of, job_of, is_logged_in, devices_of}
-use Rattle.core_model.specs.Keeps.{IsSimple, Shape, RunsIn, Keeps}
+use Rattle.core_model.specs.Keeps.{IsSimple, Shape, RunsIn, AllOrNone, Keeps}
 use Rattle.core_model.proofs.StoreTrigger.{store_blank}
+use Rattle.core_model.proofs.StoreWhole.{whole_new}
 
 no_shares : (subtasks : ℕ) (r : Option Role) → transactions_at (ledgers.blank subtasks) r ≡ record { committed = []; pre_committed = []; open_ones = [] }
 no_shares subtasks None = refl
@@ -54,4 +55,7 @@ module _ {R K S O : Type 0} (lang : Language R K S O) (s : State O R K S) where
           subst (λ (o : Option (Held R K S)). IsHeldSound (job_of lang s) (is_logged_in s) lang.spelling (devices_of lang s) (held_running (option_map (run_of lang.cmp s.graph) o))) (sym down)
           (subst (λ (d : Devices R K S (List ℕ)). IsHeldSound (job_of lang s) (is_logged_in s) lang.spelling d None) (sym (new_devices_of (length s.graph.tasks) (count_by is_sink s.graph.tasks) blank.0 blank.1))
           (new_held (job_of lang s) lang.spelling (is_logged_in s)));
+      whole = λ fresh.
+          let blank : store_of lang s.stored ≡ (new_devices {R = R} {K = K} {S = S} {B = List ℕ}).store = ap (store_of lang) (new fresh).0 ∙ store_blank lang (List ℕ) (length s.graph.tasks) in
+          subst (AllOrNone (job_of lang s)) (sym blank) (whole_new (List ℕ) (job_of lang s));
     }

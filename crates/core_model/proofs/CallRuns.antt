@@ -35,6 +35,7 @@ module _ {R K S O : Type 0} (lang : Language R K S O) (s : State O R K S) (h k :
     checkpoints = λ task sink at. rw coordination (runs.checkpoints task sink (same task sink at));
     copied_last = λ task number sink at pending none.
         runs.copied_last task number sink (same task sink at) (ap (λ (c : Coordination). c.pending) (sym coordination) ∙ pending) (ap (λ (cs : List (Option (Part R K S))). unwrap_or (slice_get cs task) None) (sym copies) ∙ none);
+    last_pending = λ task sink at. rw coordination (runs.last_pending task sink (same task sink at));
   }
     where
       pending_stays : (o : Option ℕ) → h.coordination.pending ≡ o → MatchOption k.coordination.pending (Unit {0}) (PendingIn lang s.stored k)
@@ -53,6 +54,7 @@ module _ {R K S O : Type 0} (lang : Language R K S O) (s : State O R K S) (h k :
     checkpoints = λ t sink at. rw coordination (runs.checkpoints t sink (same t sink at));
     copied_last = λ t number sink at pending not_yet.
         runs.copied_last t number sink (same t sink at) (ap (λ (c : Coordination). c.pending) (sym coordination) ∙ pending) (not_before t not_yet);
+    last_pending = λ t sink at. rw coordination (runs.last_pending t sink (same t sink at));
   }
     where
       pending_stays : (o : Option ℕ) → h.coordination.pending ≡ o → MatchOption k.coordination.pending (Unit {0}) (PendingIn lang s.stored k)

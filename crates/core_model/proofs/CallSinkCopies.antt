@@ -1,6 +1,7 @@
 -- A sink takes the barrier, begins a transaction, pre-commits the one that was open, and copies the names.
 use Rattle.std.proofs.Common.{◌≡◌, ◌⊎◌, ◌<◌, ◌+◌, ◌==◌, ◌++◌, if◌then◌else◌, inl, inr, All, MatchOption, Option, Some, None, Result, Ok, Err, slice_get, unwrap_or, length, ℕ, true, false, List, [], refl, sym, ap, subst, ◌∙◌}
 use Rattle.std.specs.Option.{option_map}
+use Rattle.std.proofs.lemmas.Bool.{false≢true}
 use Rattle.std.proofs.lemmas.Bool.Decides.{eqb_tells}
 use Rattle.std.proofs.lemmas.List.Elements.{All-push}
 use Rattle.std.proofs.lemmas.Option.{same_Some, none-some, slice_get_within}
@@ -24,7 +25,7 @@ use Rattle.snapshot_store.specs.Store.{is_complete}
 use Rattle.task_part.specs.declared.part.Part.{Part}
 use Rattle.task_part.specs.declared.part.Part.TheVariants as part
 use Rattle.core_model.specs.Calls.{EndsCopySink, CopiesSink, FailsToCopySink, IsBarrierNext, input_at, left_by}
-use Rattle.core_model.specs.Keeps.{Keeps, PendingIn, RunsIn}
+use Rattle.core_model.specs.Keeps.{Keeps, PendingIn, NoneAfter, RunsIn}
 use Rattle.core_model.specs.Language.{Language}
 use Rattle.core_model.specs.State.{State}
 use Rattle.core_model.specs.View.{named_by, names_in, attempt_of, run_of, store_of, transactions_at}
@@ -34,6 +35,7 @@ use Rattle.core_model.proofs.Lists.{get_set_same, get_set_other}
 use Rattle.core_model.proofs.Copies.{sink_copies}
 use Rattle.core_model.proofs.Runs.{between, barrier_runs}
 use Rattle.core_model.proofs.ShapeCalls.{shape_sink_copied}
+use Rattle.core_model.proofs.LastPending.{all_at, none_after_push}
 use Rattle.core_model.proofs.LedgerCopy.{Copied, copy_in}
 use Rattle.core_model.proofs.StoreView.{is_on-line_of}
 use Rattle.core_model.proofs.StorePut.{pending_incomplete}
@@ -172,7 +174,22 @@ module _ {R K S O : Type 0} (lang : Language R K S O) (RecordFits : R → Type 0
                 (sym none ∙ ap (copy_at k) e.1 ∙ ap (λ (o : Option (Option (Part R K S))). unwrap_or o None) (get_set_same h.copies task (Some (part.Sink names [])) within)))
             | inr e ↦ runs_before.copied_last t number sink' (sink_there t sink' e.1 at) pending (sym (copy_there t e.1) ∙ none)
           ];
+      last_pending = λ t sink' at.
+          elim (eqb_tells t task) [
+            | inl e ↦
+                let one : sink' ≡ sink_now = sink_here sink' (ap (slice_get k.tasks) (sym e.1) ∙ at) in
+                subst (λ (x : Sinking). NoneAfter h.coordination.pending x.pending) (sym one)
+                (none_after_push h.coordination.pending sink.pending (record { transaction = sink.open_one; checkpoint = checkpoint }) none_before)
+            | inr e ↦ runs_before.last_pending t sink' (sink_there t sink' e.1 at)
+          ];
     }
+
+      where
+        -- those that were pending are of complete checkpoints
+        none_before : (i : ℕ) (p : Pending) → slice_get sink.pending i ≡ Some p → h.coordination.pending ≡ Some p.checkpoint → ⊥
+        none_before i p here e =
+            let complete : is_complete s.stored p.checkpoint ≡ true = all_at (λ (q : Pending). is_complete s.stored q.checkpoint ≡ true) sink.pending i p (runs_before.copied_last task checkpoint sink was barrier.1 barrier.2) here in
+            false≢true (sym (pending_incomplete lang s.stored h checkpoint pending_in) ∙ ap (is_complete s.stored) (same_Some checkpoint p.checkpoint (sym barrier.1 ∙ e)) ∙ complete)
 
     copied : LeadsTo s.graph task channel → new.subtasks ≡ s.ledger.subtasks → IsOrdered new → KeepsAndGoes lang RecordFits IsGood s (after lang s new (Some k) n)
     copied leads subtasks ordered =

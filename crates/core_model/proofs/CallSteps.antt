@@ -22,6 +22,7 @@ use Rattle.core_model.specs.Keeps.{Keeps, Shape, RunsIn}
 use Rattle.core_model.specs.Language.{Language}
 use Rattle.core_model.specs.State.{State}
 use Rattle.core_model.specs.View.{named_by, run_of, job_of, is_logged_in, devices_of, running_of, engine_of}
+use Rattle.core_model.proofs.StoreWhole.{steps_whole}
 
 module _ {R K S O : Type 0} (lang : Language R K S O) (s : State O R K S) where
   -- the engine with another ledger, and with this held, after so many failures
@@ -130,6 +131,9 @@ module _ {R K S O : Type 0} (lang : Language R K S O) (RecordFits : R → Type 0
         fresh = λ fresh.
             held_sound (job_of lang s) lang.spelling (is_logged_in s) goes.0 (held_engine (engine_of lang s)) (held_engine (engine_of lang (after lang s ledger held n)))
             (receiver-graph_of s.graph s.operators keeps.expanded) goes.1 (keeps.fresh fresh);
+        whole = λ fresh.
+            steps_whole (job_of lang s) (is_logged_in s) lang.spelling goes.0 (held_engine (engine_of lang s)) (held_engine (engine_of lang (after lang s ledger held n)))
+            (receiver-graph_of s.graph s.operators keeps.expanded) goes.1 (keeps.fresh fresh) (keeps.whole fresh);
       },
       goes,
     )
@@ -152,4 +156,4 @@ module _ {R K S O : Type 0} (lang : Language R K S O) (RecordFits : R → Type 0
           (goes_keeps s.ledger (Some h) n refl keeps.ordered shape_at still (goes_still lang s h is n))
         where
           still : RunsIn lang (after lang s s.ledger (Some h) n) h
-          still = record { pending = runs_at.pending; last_complete = runs_at.last_complete; sinks = runs_at.sinks; checkpoints = runs_at.checkpoints; copied_last = runs_at.copied_last }
+          still = record { pending = runs_at.pending; last_complete = runs_at.last_complete; sinks = runs_at.sinks; checkpoints = runs_at.checkpoints; copied_last = runs_at.copied_last; last_pending = runs_at.last_pending }

@@ -7,6 +7,7 @@ pub mod Moves
 pub mod Copies
 pub mod Runs
 pub mod LedgerLists
+pub mod LastPending
 pub mod LedgerPlaces
 pub mod LedgerShares
 pub mod LedgerSinks
@@ -21,6 +22,7 @@ pub mod StorePut
 pub mod StoreComplete
 pub mod StoreTrigger
 pub mod StorePart
+pub mod StoreWhole
 pub mod StoreSteps
 pub mod StoreRuns
 pub mod CallSteps

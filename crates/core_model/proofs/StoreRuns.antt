@@ -1,5 +1,5 @@
 -- What a running job keeps of its devices, when the store changes.
-use Rattle.std.proofs.Common.{◌⊎◌, ◌≡◌, ◌<◌, ◌≤◌, inl, inr, Option, Some, None, Ok, All, MatchOption, unwrap_or, slice_get, slice_set, length, ℕ, Bool, true, false, List, sym, ap, subst, ◌∙◌}
+use Rattle.std.proofs.Common.{◌⊎◌, ◌≡◌, ◌<◌, ◌≤◌, inl, inr, Option, Some, None, Ok, All, MatchOption, unwrap_or, slice_get, slice_set, length, ℕ, Bool, true, false, List, sym, ap, subst, ◌∙◌, arith}
 use Rattle.std.proofs.lemmas.List.Elements.{All-weaker}
 use Rattle.std.proofs.lemmas.Option.{same_Some, none-some, MatchOption-at_some}
 use mathlib.Core.Path.{fun_ext}
@@ -14,6 +14,7 @@ use Rattle.core_model.specs.State.{State}
 use Rattle.core_model.specs.Keeps.{PendingIn, RunsIn}
 use Rattle.core_model.specs.Calls.{tidied}
 use Rattle.core_model.proofs.Lists.{get_set_other}
+use Rattle.core_model.proofs.LastPending.{all_at}
 use Rattle.core_model.proofs.StorePut.{pending_put}
 use Rattle.core_model.proofs.StoreComplete.{still_complete, completed_complete, completed_last}
 use Rattle.core_model.proofs.StoreTrigger.{pending_started_tidied, tidied_complete}
@@ -62,6 +63,7 @@ module _ {R K S O : Type 0} (lang : Language R K S O) (s : State O R K S) (h : H
     sinks = runs.sinks;
     checkpoints = runs.checkpoints;
     copied_last = runs.copied_last;
+    last_pending = runs.last_pending;
   }
 
   -- the pending checkpoint is complete
@@ -72,6 +74,7 @@ module _ {R K S O : Type 0} (lang : Language R K S O) (s : State O R K S) (h : H
     sinks = runs.sinks;
     checkpoints = λ t sink at. All-weaker (λ (p : Pending). (is_complete s.stored p.checkpoint ≡ true) ⊎ (h.coordination.pending ≡ Some p.checkpoint)) (λ p. (is_complete (completed s.stored n) p.checkpoint ≡ true) ⊎ (None ≡ Some p.checkpoint)) now sink.pending (runs.checkpoints t sink at);
     copied_last = λ t number sink at e none. absurd (none-some number e);
+    last_pending = λ t sink at i p here e. absurd (none-some p.checkpoint e);
   }
     where
       now : (p : Pending) → (is_complete s.stored p.checkpoint ≡ true) ⊎ (h.coordination.pending ≡ Some p.checkpoint) → (is_complete (completed s.stored n) p.checkpoint ≡ true) ⊎ (None ≡ Some p.checkpoint)
@@ -106,7 +109,14 @@ module _ {R K S O : Type 0} (lang : Language R K S O) (s : State O R K S) (h : H
       sinks = runs.sinks;
       checkpoints = λ t sink at. All-weaker (λ (p : Pending). is_complete tidy p.checkpoint ≡ true) (λ p. (is_complete tidy p.checkpoint ≡ true) ⊎ (Some s.stored.next ≡ Some p.checkpoint)) (λ p e. inl e) sink.pending (all_complete t sink (runs.checkpoints t sink at));
       copied_last = λ t number sink at e none. all_complete t sink (runs.checkpoints t sink at);
+      last_pending = λ t sink at i p here e. absurd (not_next p.checkpoint (all_at (λ (q : Pending). is_complete tidy q.checkpoint ≡ true) sink.pending i p (all_complete t sink (runs.checkpoints t sink at)) here) (same_Some s.stored.next p.checkpoint e));
     }
+      where
+        -- the new number is above all that are complete
+        not_next : (n : ℕ) → is_complete tidy n ≡ true → s.stored.next ≡ n → ⊥
+        not_next n complete same =
+            let less : n < s.stored.next = (pending_started_tidied lang h.coordination.last_complete s.stored h numbered).above n complete in
+            omega (arith, less, same)
 
     -- the parts below the last complete number are gone, and no number was left
     pub runs_tidied : RunsIn lang (record s { stored = tidy }) h
@@ -116,4 +126,5 @@ module _ {R K S O : Type 0} (lang : Language R K S O) (s : State O R K S) (h : H
       sinks = runs.sinks;
       checkpoints = λ t sink at. All-weaker (λ (p : Pending). is_complete tidy p.checkpoint ≡ true) (λ p. (is_complete tidy p.checkpoint ≡ true) ⊎ (h.coordination.pending ≡ Some p.checkpoint)) (λ p e. inl e) sink.pending (all_complete t sink (runs.checkpoints t sink at));
       copied_last = λ t number sink at e none. all_complete t sink (runs.checkpoints t sink at);
+      last_pending = λ t sink at i p here e. absurd (none-some p.checkpoint (sym none_pending ∙ e));
     }

@@ -1,6 +1,6 @@
 -- The calls of checkpoints and commits keep what every engine keeps, and are steps of the checkpoint model's engine; and what that means for a
 -- fresh engine's committed rows.
-use Rattle.std.specs.Prelude.{◌≡◌, ℕ, Bool, true, List, Option, Some, None, Ok, Result, map, slice_get}
+use Rattle.std.specs.Prelude.{◌≡◌, ℕ, Bool, true, List, Option, Some, None, Ok, Result, length, map, slice_get}
 use Rattle.abs_codec.specs.Reading.{whole_of}
 use Rattle.checkpoint_model.specs.Headline.{IsExactlyOnce}
 use Rattle.commit_sink.specs.Ledger.{Ledger, IsOrdered, committed_rows}
@@ -16,6 +16,7 @@ use Rattle.core_model.specs.CallLaws.{Passes, IsGoodBy, KeepsAndGoes, RunsWith}
 use Rattle.core_model.specs.Commits.{EndsCommit}
 use Rattle.core_model.specs.Goes.{Goes}
 use Rattle.core_model.specs.Keeps.{Keeps}
+use Rattle.core_model.specs.LastCommitted.{committed_of, complete_numbers}
 use Rattle.core_model.specs.Language.{Language}
 use Rattle.core_model.specs.State.{State}
 use Rattle.core_model.specs.View.{job_of, devices_of}
@@ -45,6 +46,12 @@ module _ {R K S O : Type 0} where
   CommitsKeepEngines lang =
       (fits : R → Bool) (state_fits : S → Bool) (suits : O → S → Bool) (s : State O R K S) (h k : Held R K S) (ledger : Ledger) (faults subtask : ℕ) (result : Result Unit CoreFault) → RunsWith lang fits state_fits suits s h →
       EndsCommit s.graph subtask h k s.ledger ledger result → KeepsAndGoes lang fits state_fits suits s (record s { held = left_by result (Some k); ledger = ledger; faults = faults })
+
+  -- A commit that is answered Ok leaves a fresh engine's sink as many committed transactions as there are complete checkpoints.
+  abbrev pub CommitsReachEveryCheckpoint : Language R K S O → Type 0
+  CommitsReachEveryCheckpoint lang =
+      (fits : R → Bool) (state_fits : S → Bool) (suits : O → S → Bool) (s : State O R K S) (h k : Held R K S) (ledger : Ledger) (subtask : ℕ) (u : Unit {0}) → RunsWith lang fits state_fits suits s h → s.is_fresh ≡ true →
+      EndsCommit s.graph subtask h k s.ledger ledger (Ok u) → length (committed_of ledger subtask) ≡ length (complete_numbers s.stored)
 
   -- the job fails
   abbrev pub FailuresKeepEngines : Language R K S O → Type 0

@@ -1,18 +1,20 @@
 -- What every engine keeps, and when it is sound.
-use Rattle.std.specs.Prelude.{◌≡◌, ◌≢◌, ◌⊎◌, ◌<◌, ◌≤◌, ◌==◌, ℕ, Bool, true, false, List, [], ◌∷◌, ◌++◌, length, map, count_by, slice_get, Option, Some, None, Ok, is_some, All, MatchOption, IsSome}
-use Rattle.dataflow_model.specs.Graph.{Channel}
+use Rattle.std.specs.Prelude.{◌≡◌, ◌≢◌, ◌⊎◌, ◌+◌, ◌<◌, ◌≤◌, ◌==◌, ℕ, Bool, true, false, List, [], ◌∷◌, ◌++◌, length, map, count_by, slice_get, Option, Some, None, Ok, is_some, All, MatchOption, IsSome}
+use Rattle.dataflow_model.specs.Graph.{Channel, Task, Job}
 use Rattle.std.specs.declared.cmp.Ordering.{Ordering}
 use Rattle.abs_codec.specs.Entries.{value_at}
 use Rattle.abs_codec.specs.Reading.{whole_of}
 use Rattle.channels.specs.declared.item.Item.{Item}
 use Rattle.channels.specs.declared.item.Item.TheVariants.{Record, Barrier}
-use Rattle.checkpoint_model.specs.Durable.{Transaction, AreLast, transactions_of, SinkTransactions}
+use Rattle.checkpoint_model.specs.Durable as durable
+use Rattle.checkpoint_model.specs.Durable.{Transaction, AreLast, transactions_of, SinkTransactions, is_on, HasParts}
 use Rattle.checkpoint_model.specs.Headline.{Engine}
 use Rattle.checkpoint_model.specs.Held.{held_running, IsHeldSound}
 use Rattle.checkpoint_model.specs.Book as book
 use Rattle.commit_sink.specs.Ledger as ledgers
 use Rattle.commit_sink.specs.Ledger.{Ledger, IsOrdered, transaction_at}
 use Rattle.commit_sink.specs.Sink.{Sinking}
+use Rattle.commit_sink.specs.declared.sink.Pending.{Pending}
 use Rattle.commit_sink.specs.declared.transactions.Progress.TheVariants.{Open, PreCommitted, Committed}
 use Rattle.coordinator.specs.Coordinator.{has_acked}
 use Rattle.job_graph.specs.Expanded.{Expanded, IsExpanded, is_source, is_sink, inputs_of}
@@ -28,7 +30,7 @@ use Rattle.task_part.specs.declared.part.Part.{Part}
 use Rattle.task_part.specs.declared.part.Part.TheVariants as part
 use Rattle.core_model.specs.Language.{Language}
 use Rattle.core_model.specs.State.{State}
-use Rattle.core_model.specs.View.{job_of, is_logged_in, devices_of, running_of, book_of}
+use Rattle.core_model.specs.View.{store_of, job_of, is_logged_in, devices_of, running_of, book_of}
 
 -- Each operator and sink has exactly one input, and no channel is a back-edge's.
 pub record IsSimple (graph : Expanded) : Type 0 where
@@ -100,6 +102,10 @@ pub record Shape {R K S O : Type 0} (cmp : K → K → Ordering) (RecordFits : R
   pub good : (task number : ℕ) (operator : O) (entries : List (K × S)) (key : K) (state : S) → slice_get graph.tasks task ≡ Some (role.Operator number) → slice_get operators number ≡ Some operator
       → slice_get held.tasks task ≡ Some (holds.Operator entries) → value_at cmp entries key ≡ Some state → IsGood operator state
 
+-- Of a sink's pending transactions none comes after one whose checkpoint is this.
+abbrev pub NoneAfter : Option ℕ → List Pending → Type 0
+NoneAfter checkpoint transactions = (i : ℕ) (p : Pending) → slice_get transactions i ≡ Some p → checkpoint ≡ Some p.checkpoint → i + 1 ≡ length transactions
+
 -- What a running job keeps, by its devices.
 pub record RunsIn {R K S O : Type 0} (lang : Language R K S O) (s : State O R K S) (held : Held R K S) : Type 0 where
   pub pending : MatchOption held.coordination.pending (Unit {0}) (PendingIn lang s.stored held)
@@ -111,6 +117,13 @@ pub record RunsIn {R K S O : Type 0} (lang : Language R K S O) (s : State O R K 
   -- and it is the pending one's only if the sink has copied for it
   pub copied_last : (task number : ℕ) (sink : Sinking) → slice_get held.tasks task ≡ Some (holds.Sink sink) → held.coordination.pending ≡ Some number → copy_at held task ≡ None
       → All (λ p. is_complete s.stored p.checkpoint ≡ true) sink.pending
+  -- and then it is the last one
+  pub last_pending : (task : ℕ) (sink : Sinking) → slice_get held.tasks task ≡ Some (holds.Sink sink) → NoneAfter held.coordination.pending sink.pending
+
+-- Of each complete checkpoint the store has the parts of all tasks, or none.
+abbrev pub AllOrNone : {R K S O : Type 0} → Job R K S O → durable.Store R K S → Type 0
+AllOrNone {R} {K} {S} {O} job store =
+    (n task : ℕ) (kind : Task O) (p : durable.Part R K S) → is_on store.line n ≡ true → slice_get job.graph.tasks task ≡ Some kind → store.parts n task ≡ Some p → HasParts job store n
 
 -- What every engine keeps. A fresh one is sound.
 pub record Keeps {R K S O : Type 0} (lang : Language R K S O) (RecordFits : R → Type 0) (IsGood : O → S → Type 0) (s : State O R K S) : Type 0 where
@@ -125,3 +138,4 @@ pub record Keeps {R K S O : Type 0} (lang : Language R K S O) (RecordFits : R �
   pub shape : MatchOption s.held (Unit {0}) (Shape lang.cmp RecordFits IsGood s.graph s.operators)
   pub runs : MatchOption s.held (Unit {0}) (RunsIn lang s)
   pub fresh : s.is_fresh ≡ true → IsHeldSound (job_of lang s) (is_logged_in s) lang.spelling (devices_of lang s) (held_running (running_of lang s))
+  pub whole : s.is_fresh ≡ true → AllOrNone (job_of lang s) (store_of lang s.stored)

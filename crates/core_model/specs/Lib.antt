@@ -2,6 +2,7 @@ pub mod Language
 pub mod State
 pub mod View
 pub mod Keeps
+pub mod LastCommitted
 pub mod Laws
 pub mod Calls
 pub mod Goes

@@ -8,7 +8,7 @@ mod fault;
 
 ghost use Rattle.core_model.specs.Language.{Language};
 ghost use Rattle.core_model.specs.CallLaws.{ReadsKeepEngines, InjectsKeepEngines, OperatesKeepEngines, OperatorCopiesKeepEngines, PutsOutKeepEngines, SinkCopiesKeepEngines};
-ghost use Rattle.core_model.specs.CheckpointLaws.{TriggersKeepEngines, PersistsKeepEngines, CompletesKeepEngines, CommitsKeepEngines, FailuresKeepEngines, FreshEnginesAreExact, FreshEnginesCommitOutputs, StepsWithdrawNoRow};
+ghost use Rattle.core_model.specs.CheckpointLaws.{TriggersKeepEngines, PersistsKeepEngines, CompletesKeepEngines, CommitsKeepEngines, CommitsReachEveryCheckpoint, FailuresKeepEngines, FreshEnginesAreExact, FreshEnginesCommitOutputs, StepsWithdrawNoRow};
 ghost use Rattle.core_model.specs.Laws.{ReadsAreSteps, OperatesAreSteps, InjectsAreSteps, CommittedAreRows, AppendsKeepSinks, CopiesKeepSinks, CommitsKeepSinks};
 
 pub use fault::CoreFault;
@@ -98,7 +98,12 @@ pub fn commits_keep_engines<R, K, S, O>()
     ensures { (lang : Language R K S O) → CommitsKeepEngines lang }
 {}
 
-/// So does a failure of the job.
+/// A commit at Ok leaves as many committed transactions as there are complete checkpoints.
+pub fn commits_reach_every_checkpoint<R, K, S, O>()
+    ensures { (lang : Language R K S O) → CommitsReachEveryCheckpoint lang }
+{}
+
+/// A failure of the job keeps what every engine keeps, and is a step of the model.
 pub fn failures_keep_engines<R, K, S, O>()
     ensures { (lang : Language R K S O) → FailuresKeepEngines lang }
 {}
