@@ -10,7 +10,7 @@ use Rattle.checkpoint_model.specs.Durable.{Begin, PreCommit, PreCommits, AreLast
 use Rattle.checkpoint_model.specs.Engine.{Running}
 use Rattle.checkpoint_model.specs.Headline.{CopiesATask}
 use Rattle.checkpoint_model.proofs.HeldViews.{same_run}
-use Rattle.commit_sink.specs.Ledger.{Ledger, Transaction, IsOrdered, transaction_at, begun, pre_committed}
+use Rattle.commit_sink.specs.Ledger.{Ledger, IsOrdered, transaction_at, begun, pre_committed}
 use Rattle.commit_sink.specs.declared.transactions.Progress.TheVariants.{PreCommitted}
 use Rattle.commit_sink.specs.Sink.{Sinking, names_with_open, pre_committed_last}
 use Rattle.commit_sink.specs.declared.sink.Pending.{Pending}
@@ -42,7 +42,7 @@ use Rattle.core_model.proofs.StorePut.{pending_incomplete}
 use Rattle.core_model.proofs.StoreRuns.{pending_copied, runs_pending}
 use Rattle.core_model.proofs.CallSteps.{after, Steps, KeepsAndGoes, goes_keeps, goes_two, goes_down_once, goes_down_twice, keeps_down, shape_at, runs_at}
 use Rattle.core_model.proofs.CallTasks.{LeadsTo, input_leads}
-use Rattle.core_model.proofs.CallSinks.{devices_with, others_same, changes_sink, sinks_in, changed_subtasks, pre_committed_subtasks, same_sink}
+use Rattle.core_model.proofs.CallSinks.{devices_with, others_same, changes_sink, sinks_in, changed_subtasks, same_sink}
 use Rattle.core_model.proofs.CallInjects.{copy_within}
 use Rattle.core_model.proofs.CallPutsOut.{keeps_still_with}
 
@@ -183,7 +183,6 @@ module _ {R K S O : Type 0} (lang : Language R K S O) (RecordFits : R → Type 0
             | inr e ↦ runs_before.last_pending t sink' (sink_there t sink' e.1 at)
           ];
     }
-
       where
         -- those that were pending are of complete checkpoints
         none_before : (i : ℕ) (p : Pending) → slice_get sink.pending i ≡ Some p → h.coordination.pending ≡ Some p.checkpoint → ⊥

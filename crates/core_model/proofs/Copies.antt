@@ -1,8 +1,8 @@
 -- What an attempt does when a task copies is what the model's attempt does: it takes the barrier, and then copies.
-use Rattle.std.proofs.Common.{◌⊎◌, ◌≡◌, ◌<◌, ◌+◌, ◌==◌, ◌++◌, inl, inr, if◌then◌else◌, Option, Some, None, slice_get, slice_set, unwrap_or, length, map, drop, ℕ, Bool, true, false, List, [], ◌∷◌, refl, sym, ap, ap₂, subst, ◌∙◌, arith, Ordering, is_some}
-use Rattle.std.specs.Option.{option_map, option_map_or}
+use Rattle.std.proofs.Common.{◌≡◌, ◌<◌, ◌==◌, ◌++◌, inl, inr, if◌then◌else◌, Option, Some, None, slice_get, slice_set, unwrap_or, length, drop, ℕ, Bool, true, false, List, [], refl, sym, ap, ap₂, ◌∙◌, is_some}
+use Rattle.std.specs.Option.{option_map_or}
 use Rattle.std.proofs.lemmas.Bool.Decides.{eqb_tells}
-use Rattle.std.proofs.lemmas.Option.{slice_get_within, same_Some, none-some}
+use Rattle.std.proofs.lemmas.Option.{slice_get_within, same_Some}
 use Rattle.std.proofs.lemmas.List.{append-nil}
 use Rattle.channels.specs.declared.item.Item.TheVariants.{Barrier}
 use Rattle.commit_sink.specs.Sink.{Sinking}
@@ -10,13 +10,10 @@ use Rattle.checkpoint_model.specs.Attempt as attempt
 use Rattle.checkpoint_model.specs.Attempt.{Attempt, TakesBarrier, barrier_taken, Copies, task_copied, barrier_of}
 use Rattle.checkpoint_model.proofs.Seen.{same_attempt}
 use Rattle.dataflow_model.specs.Graph.{Channel}
-use Rattle.dataflow_model.specs.Machine.{TaskState}
-use Rattle.job_graph.specs.Expanded.{Expanded, IsExpanded, IsChannel, is_source, is_sink}
-use Rattle.job_graph.specs.declared.role.Role.{Role}
+use Rattle.job_graph.specs.Expanded.{IsExpanded, IsChannel, is_source, is_sink}
 use Rattle.job_graph.specs.declared.role.Role.TheVariants as role
 use Rattle.job_state.specs.Held.{Held, copy_at, CopiesSource, CopiesOperator, sink_copied}
 use Rattle.job_state.specs.Sending.{items_at, barrier_into, without_head}
-use Rattle.job_state.specs.declared.holding.Holding.{Holding}
 use Rattle.job_state.specs.declared.holding.Holding.TheVariants as holds
 use Rattle.task_part.specs.declared.part.Part.{Part}
 use Rattle.task_part.specs.declared.part.Part.TheVariants as part

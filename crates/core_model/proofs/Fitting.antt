@@ -1,8 +1,7 @@
 -- Records in channels fit, whatever is put there and taken.
-use Rattle.std.proofs.Common.{◌⊎◌, ◌≡◌, ◌<◌, ◌≤◌, ◌+◌, ◌==◌, ◌++◌, inl, inr, if◌then◌else◌, All, Option, Some, None, slice_get, slice_set, unwrap_or, length, map, filter, drop, get_or, ℕ, zero, suc, Bool, true, false, List, [], ◌∷◌, refl, sym, ap, subst, ◌∙◌, arith}
-use Rattle.std.specs.List.{AllByRecursion}
+use Rattle.std.proofs.Common.{◌⊎◌, ◌<◌, ◌==◌, inl, inr, if◌then◌else◌, All, Option, Some, None, unwrap_or, length, map, filter, drop, ℕ, Bool, true, false, List, [], ◌∷◌, sym, ap, subst, arith}
 use Rattle.std.proofs.lemmas.Bool.Decides.{eqb_tells, leb_tells}
-use Rattle.std.proofs.lemmas.List.Elements.{All-append, All-map, All-filter, All-drop, All-from_recursion, recursion_from_All}
+use Rattle.std.proofs.lemmas.List.Elements.{All-append, All-map, All-filter, All-drop, All-from_recursion}
 use Rattle.channels.specs.declared.item.Item.{Item}
 use Rattle.channels.specs.declared.item.Item.TheVariants.{Record, Barrier}
 use Rattle.dataflow_model.specs.Graph.{Meaning, Channel, admits}

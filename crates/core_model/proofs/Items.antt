@@ -1,5 +1,5 @@
 -- What stands in the channels of a running job, as the model has it.
-use Rattle.std.proofs.Common.{◌⊎◌, ◌≡◌, ◌<◌, ◌==◌, ◌++◌, inl, inr, if◌then◌else◌, Option, Some, None, slice_get, slice_set, unwrap_or, length, map, drop, ℕ, zero, suc, Bool, true, false, List, [], ◌∷◌, refl, sym, ap, subst, ◌∙◌, arith}
+use Rattle.std.proofs.Common.{◌⊎◌, ◌≡◌, ◌<◌, ◌==◌, ◌++◌, inl, inr, if◌then◌else◌, Option, Some, None, slice_get, unwrap_or, length, map, drop, ℕ, Bool, true, false, List, [], ◌∷◌, refl, sym, ap, ◌∙◌, arith}
 use Rattle.std.specs.Option.{option_map}
 use Rattle.std.proofs.lemmas.Bool.Decides.{eqb_tells, leb_tells}
 use Rattle.std.proofs.lemmas.List.{map-append}

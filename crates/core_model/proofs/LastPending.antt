@@ -1,5 +1,5 @@
 -- Which of a sink's pending transactions is of the checkpoint that is pending: none but the last.
-use Rattle.std.proofs.Common.{◌≡◌, ◌<◌, ◌+◌, inl, inr, All, Option, Some, None, slice_get, length, drop, ℕ, zero, suc, List, [], ◌∷◌, ◌++◌, refl, sym, ap, subst, ◌∙◌, length-append, arith}
+use Rattle.std.proofs.Common.{◌≡◌, inl, inr, All, Option, Some, slice_get, length, drop, ℕ, suc, List, [], ◌∷◌, ◌++◌, refl, sym, subst, ◌∙◌, length-append, arith}
 use Rattle.std.proofs.lemmas.Bool.Decides.{eqb_tells}
 use Rattle.std.proofs.lemmas.Option.{none-some, slice_get_within, get_or_from_slice_get}
 use Rattle.commit_sink.specs.declared.sink.Pending.{Pending}

@@ -1,5 +1,5 @@
 -- What an attempt does when records move is a move of the model's attempt.
-use Rattle.std.proofs.Common.{◌⊎◌, ◌≡◌, ◌<◌, ◌+◌, ◌==◌, ◌++◌, inl, inr, if◌then◌else◌, Option, Some, None, slice_get, slice_set, unwrap_or, length, map, drop, ℕ, Bool, true, false, not, ◌&&◌, List, [], ◌∷◌, refl, sym, ap, ap₂, subst, ◌∙◌, arith, Ordering, is_some}
+use Rattle.std.proofs.Common.{◌≡◌, ◌<◌, ◌+◌, ◌==◌, ◌++◌, inl, inr, if◌then◌else◌, Option, Some, slice_get, slice_set, length, map, drop, ℕ, Bool, true, false, not, ◌&&◌, List, [], ◌∷◌, refl, sym, ap, ap₂, ◌∙◌, is_some}
 use Rattle.std.specs.Option.{option_map, option_map_or}
 use Rattle.std.proofs.lemmas.Bool.Decides.{eqb_tells}
 use Rattle.std.proofs.lemmas.Option.{slice_get_within, same_Some}
@@ -9,14 +9,13 @@ use Rattle.channels.specs.declared.item.Item.TheVariants.{Record}
 use Rattle.checkpoint_model.specs.Attempt as attempt
 use Rattle.checkpoint_model.specs.Attempt.{Attempt, Moves, moved, logs_after, TakesFirst}
 use Rattle.checkpoint_model.proofs.Seen.{same_attempt}
-use Rattle.dataflow_model.specs.Graph.{Outcome, Meaning, Task, SourceTask, OperatorTask, SinkTask, Channel, Job}
+use Rattle.dataflow_model.specs.Graph.{Outcome, SourceTask, OperatorTask, Channel}
 use Rattle.dataflow_model.specs.Machine.{TaskState, Effect, Read, Work, handled, received, kept_under, state_under}
-use Rattle.job_graph.specs.Expanded.{Expanded}
 use Rattle.job_graph.specs.declared.role.Role.TheVariants as role
 use Rattle.job_graph.specs.PlainGraph.{task_of, operator_task}
 use Rattle.job_graph.proofs.PlainTasks.{tasks-graph_of}
 use Rattle.job_state.specs.Held.{Held, copy_at, Reads, Operates}
-use Rattle.job_state.specs.Sending.{items_at, Puts, without_head}
+use Rattle.job_state.specs.Sending.{items_at, without_head}
 use Rattle.job_state.specs.declared.holding.Holding.{Holding}
 use Rattle.job_state.specs.declared.holding.Holding.TheVariants as holds
 use Rattle.source_log.specs.Partitions.{records_at}

@@ -1,30 +1,23 @@
 -- Each call of a running job, as steps of the model's engine.
-use Rattle.std.proofs.Common.{◌⊎◌, ◌≡◌, ◌<◌, ◌+◌, ◌==◌, ◌++◌, inl, inr, if◌then◌else◌, Option, Some, None, slice_get, slice_set, unwrap_or, length, map, drop, ℕ, Bool, true, false, not, ◌&&◌, List, [], ◌∷◌, refl, sym, ap, ap₂, subst, ◌∙◌, arith, Ordering, is_some}
-use Rattle.std.specs.Option.{option_map, option_map_or}
+use Rattle.std.proofs.Common.{◌≡◌, ◌<◌, inl, inr, Option, Some, None, slice_get, slice_set, unwrap_or, length, ℕ, List, [], refl, sym, ap, ◌∙◌}
+use Rattle.std.specs.Option.{option_map}
 use Rattle.std.proofs.lemmas.Bool.Decides.{eqb_tells}
-use Rattle.std.proofs.lemmas.List.{append-nil}
-use Rattle.std.proofs.lemmas.Option.{slice_get_within, same_Some}
 use Rattle.abs_codec.specs.Entries.{value_at}
 use Rattle.channels.specs.declared.item.Item.TheVariants.{Record, Barrier}
-use Rattle.checkpoint_model.specs.Attempt as attempt
-use Rattle.checkpoint_model.specs.Attempt.{Attempt, Moves, moved}
-use Rattle.checkpoint_model.specs.Durable as durable
-use Rattle.checkpoint_model.specs.Durable.{Devices, IsSink, ChangesSink}
+use Rattle.checkpoint_model.specs.Attempt.{Attempt}
 use Rattle.checkpoint_model.specs.Engine.{Running}
-use Rattle.checkpoint_model.specs.EngineLaws.{with_attempt, EngineMoves, EngineTakesBarrier, EngineCopies}
+use Rattle.checkpoint_model.specs.EngineLaws.{with_attempt}
 use Rattle.checkpoint_model.specs.Headline.{RunningStep, MovesPlainly, TakesABarrier, CopiesATask}
-use Rattle.checkpoint_model.specs.Held.{held_run}
 use Rattle.checkpoint_model.proofs.HeldViews.{same_run}
-use Rattle.checkpoint_model.proofs.Seen.{same_attempt}
-use Rattle.dataflow_model.specs.Graph.{Outcome, Task, SourceTask, OperatorTask, SinkTask, Channel, Job}
-use Rattle.dataflow_model.specs.Machine.{TaskState, Read, Work, handled, state_under}
-use Rattle.job_graph.specs.Expanded.{Expanded, IsExpanded}
+use Rattle.dataflow_model.specs.Graph.{Outcome, Task, SourceTask, OperatorTask, SinkTask, Channel}
+use Rattle.dataflow_model.specs.Machine.{Read, Work, state_under}
+use Rattle.job_graph.specs.Expanded.{IsExpanded}
 use Rattle.job_graph.specs.declared.role.Role.{Role}
 use Rattle.job_graph.specs.declared.role.Role.TheVariants as role
 use Rattle.job_graph.specs.PlainGraph.{task_of, operator_task}
 use Rattle.job_graph.proofs.PlainTasks.{tasks-graph_of}
-use Rattle.job_state.specs.Held.{Held, copy_at, Reads, Operates, CopiesSource, CopiesOperator, sink_copied}
-use Rattle.job_state.specs.Sending.{items_at, without_head}
+use Rattle.job_state.specs.Held.{Held, copy_at, Reads, Operates, CopiesSource, CopiesOperator}
+use Rattle.job_state.specs.Sending.{items_at}
 use Rattle.job_state.specs.declared.holding.Holding.TheVariants as holds
 use Rattle.source_log.specs.Partitions.{records_at}
 use Rattle.task_part.specs.declared.part.Part.{Part}
@@ -32,11 +25,10 @@ use Rattle.task_part.specs.declared.part.Part.TheVariants as part
 use Rattle.core_model.specs.Keeps.{IsSimple}
 use Rattle.core_model.specs.Language.{Language}
 use Rattle.core_model.specs.State.{State}
-use Rattle.core_model.specs.View.{held_state, copied_state, names_in, named_by, attempt_of, came_at, run_of, job_of, is_logged_in, devices_of}
-use Rattle.core_model.proofs.Lists.{get_set_same, get_set_other}
-use Rattle.core_model.proofs.Items.{plain, taken, first_record}
+use Rattle.core_model.specs.View.{named_by, attempt_of, run_of, job_of, is_logged_in, devices_of}
+use Rattle.core_model.proofs.Lists.{get_set_other}
 use Rattle.core_model.proofs.Moves.{reads_move, operates_move}
-use Rattle.core_model.proofs.Copies.{copied_at, source_copies, takes_barrier, middle, operator_copies, sink_copies}
+use Rattle.core_model.proofs.Copies.{source_copies, takes_barrier, middle, operator_copies}
 
 source_is_none : {O : Type 0} (p : ℕ) → ◌≡◌ {A = Task O} (SourceTask p) SinkTask → ⊥
 source_is_none p e = cc

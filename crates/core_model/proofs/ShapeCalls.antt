@@ -1,8 +1,7 @@
 -- Each change of what a running job holds keeps its shape.
-use Rattle.std.proofs.Common.{◌⊎◌, ◌≡◌, ◌<◌, ◌+◌, ◌==◌, ◌++◌, inl, inr, if◌then◌else◌, All, Option, Some, None, slice_get, slice_set, unwrap_or, length, map, drop, replicate, ℕ, zero, suc, Bool, true, false, List, [], ◌∷◌, refl, sym, ap, subst, ◌∙◌, arith, Ordering}
-use Rattle.std.proofs.lemmas.Option.{same_Some, slice_get_within}
+use Rattle.std.proofs.Common.{◌≡◌, ◌+◌, if◌then◌else◌, All, Option, Some, None, slice_get, slice_set, unwrap_or, length, map, drop, replicate, ℕ, zero, suc, Bool, true, false, List, [], ◌∷◌, refl, sym, ap, subst, ◌∙◌, arith, Ordering}
+use Rattle.std.proofs.lemmas.Option.{same_Some}
 use Rattle.abs_codec.specs.Entries.{value_at}
-use Rattle.channels.specs.declared.item.Item.{Item}
 use Rattle.channels.specs.declared.item.Item.TheVariants.{Record}
 use Rattle.commit_sink.specs.Sink.{Sinking}
 use Rattle.coordinator.specs.Coordinator.{Coordination, started, acknowledged, completed}
@@ -11,15 +10,13 @@ use Rattle.dataflow_model.specs.Machine.{received, kept_under}
 use Rattle.job_graph.specs.Expanded.{Expanded}
 use Rattle.job_graph.specs.declared.role.Role.{Role}
 use Rattle.job_graph.specs.declared.role.Role.TheVariants as role
-use Rattle.job_state.specs.Held.{Held, copy_at, Reads, Operates, CopiesSource, CopiesOperator, sink_copied, oldest_forgotten, with_started, with_acknowledged, with_completed, no_copies}
-use Rattle.job_state.specs.Sending.{items_at, Puts, barrier_into, without_head}
-use Rattle.job_state.specs.declared.holding.Holding.{Holding}
+use Rattle.job_state.specs.Held.{Held, Reads, Operates, CopiesSource, CopiesOperator, sink_copied, oldest_forgotten, with_started, with_acknowledged, with_completed, no_copies}
+use Rattle.job_state.specs.Sending.{items_at, barrier_into, without_head}
 use Rattle.job_state.specs.declared.holding.Holding.TheVariants as holds
-use Rattle.task_part.specs.declared.part.Part.{Part}
 use Rattle.task_part.specs.declared.part.Part.TheVariants as part
-use Rattle.core_model.specs.Keeps.{HoldsAs, CopyAs, IfRecord, Shape}
-use Rattle.core_model.proofs.Lists.{get_set_same, get_set_other, set_length}
-use Rattle.core_model.proofs.Fitting.{AllFit, fit_puts, fit_taken, fit_records, fit_barriers, fit_received}
+use Rattle.core_model.specs.Keeps.{Shape}
+use Rattle.core_model.proofs.Lists.{set_length}
+use Rattle.core_model.proofs.Fitting.{fit_puts, fit_taken, fit_records, fit_barriers, fit_received}
 use Rattle.core_model.proofs.Shapes.{HoldsGood, shape_task, shape_channels, shape_copy, shape_coordination}
 
 abbrev nothing : (A : Type 0) → Option A

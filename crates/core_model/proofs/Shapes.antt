@@ -1,5 +1,5 @@
 -- What a running job holds keeps its shape.
-use Rattle.std.proofs.Common.{◌≡◌, ◌<◌, ◌==◌, ◌++◌, inl, inr, if◌then◌else◌, All, Option, Some, None, slice_get, slice_set, unwrap_or, length, map, drop, ℕ, zero, suc, Bool, true, false, List, [], ◌∷◌, refl, sym, ap, subst, ◌∙◌, arith, Ordering}
+use Rattle.std.proofs.Common.{◌≡◌, ◌<◌, inl, inr, All, Some, slice_get, slice_set, length, ℕ, List, sym, ap, subst, ◌∙◌, Ordering}
 use Rattle.std.proofs.lemmas.Bool.Decides.{eqb_tells}
 use Rattle.std.proofs.lemmas.Option.{same_Some, slice_get_within}
 use Rattle.abs_codec.specs.Entries.{value_at}
@@ -8,7 +8,7 @@ use Rattle.coordinator.specs.Coordinator.{Coordination}
 use Rattle.job_graph.specs.Expanded.{Expanded}
 use Rattle.job_graph.specs.declared.role.Role.{Role}
 use Rattle.job_graph.specs.declared.role.Role.TheVariants as role
-use Rattle.job_state.specs.Held.{Held, copy_at}
+use Rattle.job_state.specs.Held.{Held}
 use Rattle.job_state.specs.Sending.{items_at}
 use Rattle.job_state.specs.declared.holding.Holding.{Holding}
 use Rattle.job_state.specs.declared.holding.Holding.TheVariants as holds

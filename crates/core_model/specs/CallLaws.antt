@@ -1,6 +1,6 @@
 -- Each call on a running job, however it ends, keeps what every engine keeps, and is steps of the checkpoint model's engine.
 -- What operators ask of records and states is given as tests.
-use Rattle.std.specs.Prelude.{◌≡◌, ℕ, Bool, true, List, Option, Some, Result, slice_get}
+use Rattle.std.specs.Prelude.{◌≡◌, ℕ, Bool, true, Some, Result, slice_get}
 use Rattle.commit_sink.specs.Ledger.{Ledger, IsOrdered}
 use Rattle.job_graph.specs.declared.role.Role.TheVariants as role
 use Rattle.job_state.specs.Held.{Held}

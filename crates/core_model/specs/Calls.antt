@@ -1,30 +1,24 @@
 -- How each call on a running job ends: by what the job holds before (h) and after (k), and the device that the call uses.
 -- Where a device has failed, what the job holds afterwards is of no account: it is lost.
-use Rattle.std.specs.Prelude.{◌+◌, ◌^◌, ◌≡◌, ◌≢◌, ◌⊎◌, ◌<◌, ◌≤◌, ◌==◌, ℕ, Bool, true, false, List, [], ◌∷◌, ◌++◌, length, slice_get, Option, Some, None, Result, Ok, Err, MatchOption, unwrap_or, IsSome}
+use Rattle.std.specs.Prelude.{◌+◌, ◌^◌, ◌≡◌, ◌≢◌, ◌⊎◌, ◌≤◌, ℕ, true, false, List, length, slice_get, Option, Some, None, Result, Ok, Err, IsSome}
 use Rattle.std.specs.declared.cmp.Ordering.{Ordering}
 use Rattle.abs_codec.specs.Entries.{value_at}
-use Rattle.alignment.specs.declared.input.Effect.{Effect}
-use Rattle.alignment.specs.declared.input.Effect.TheVariants.{CopyAndDone}
-use Rattle.channels.specs.declared.item.Item.{Item}
 use Rattle.channels.specs.declared.item.Item.TheVariants.{Record, Barrier}
-use Rattle.commit_sink.specs.Ledger.{Ledger, appended, begun, pre_committed, after_commit}
+use Rattle.commit_sink.specs.Ledger.{Ledger, appended, begun, pre_committed}
 use Rattle.commit_sink.specs.Sink.{Sinking, names_with_open, pre_committed_last}
 use Rattle.coordinator.specs.Coordinator.{IsReady, has_acked}
-use Rattle.dataflow_model.specs.Graph.{Outcome}
 use Rattle.dataflow_model.specs.Machine.{state_under}
-use Rattle.job_graph.specs.Expanded.{Expanded, inputs_of, is_sink}
-use Rattle.job_graph.specs.declared.role.Role.{Role}
+use Rattle.job_graph.specs.Expanded.{Expanded, inputs_of}
 use Rattle.job_graph.specs.declared.role.Role.TheVariants as role
 use Rattle.job_state.specs.Held.{Held, copy_at, Reads, Operates, CopiesSource, CopiesOperator, sink_copied, with_started, with_acknowledged, with_completed}
 use Rattle.job_state.specs.Sending.{items_at, without_head}
-use Rattle.job_state.specs.declared.holding.Holding.{Holding}
 use Rattle.job_state.specs.declared.holding.Holding.TheVariants as holds
 use Rattle.snapshot_store.specs.Store.{Stored, with_part, completed, reserved, discarded_below}
 use Rattle.source_log.specs.Partitions.{records_at}
 use Rattle.task_part.specs.declared.part.Part.{Part}
 use Rattle.core_model.specs.Language.{Language}
 use Rattle.core_model.specs.declared.fault.CoreFault.{CoreFault}
-use Rattle.core_model.specs.declared.fault.CoreFault.TheVariants.{NotRunning, NoSuchTask, NotReady, CheckpointPending, NoCheckpoint, NotAllAcked, Memory, Device, CommitFault, NumbersSpent}
+use Rattle.core_model.specs.declared.fault.CoreFault.TheVariants.{NoSuchTask, NotReady, CheckpointPending, NoCheckpoint, NotAllAcked, Memory, Device, NumbersSpent}
 
 -- the state under a key, if there is a key and a state
 abbrev pub state_of : {K S : Type 0} → (K → K → Ordering) → List (K × S) → Option K → Option S

@@ -1,6 +1,6 @@
 -- The calls of checkpoints and commits keep what every engine keeps, and are steps of the checkpoint model's engine; and what that means for a
 -- fresh engine's committed rows.
-use Rattle.std.specs.Prelude.{◌≡◌, ℕ, Bool, true, List, Option, Some, None, Ok, Result, length, map, slice_get}
+use Rattle.std.specs.Prelude.{◌≡◌, ℕ, Bool, true, List, Some, None, Ok, Result, length, map, slice_get}
 use Rattle.abs_codec.specs.Reading.{whole_of}
 use Rattle.checkpoint_model.specs.Headline.{IsExactlyOnce}
 use Rattle.commit_sink.specs.Ledger.{Ledger, IsOrdered, committed_rows}

@@ -1,5 +1,5 @@
 -- Steps of an engine's data are steps of the model's engine.
-use Rattle.std.specs.Prelude.{◌≡◌, ℕ, List, Option, Some, None}
+use Rattle.std.specs.Prelude.{ℕ, List}
 use Rattle.checkpoint_model.specs.Headline.{Engine}
 use Rattle.checkpoint_model.specs.Held.{HeldLeads}
 use Rattle.checkpoint_model.specs.HeldLaws.{held_engine}

@@ -1,5 +1,5 @@
 -- What every engine keeps, and when it is sound.
-use Rattle.std.specs.Prelude.{◌≡◌, ◌≢◌, ◌⊎◌, ◌+◌, ◌<◌, ◌≤◌, ◌==◌, ℕ, Bool, true, false, List, [], ◌∷◌, ◌++◌, length, map, count_by, slice_get, Option, Some, None, Ok, is_some, All, MatchOption, IsSome}
+use Rattle.std.specs.Prelude.{◌≡◌, ◌≢◌, ◌⊎◌, ◌+◌, ◌<◌, ◌≤◌, ℕ, true, false, List, [], ◌∷◌, ◌++◌, length, map, count_by, slice_get, Option, Some, None, Ok, is_some, All, MatchOption}
 use Rattle.dataflow_model.specs.Graph.{Channel, Task, Job}
 use Rattle.std.specs.declared.cmp.Ordering.{Ordering}
 use Rattle.abs_codec.specs.Entries.{value_at}
@@ -8,7 +8,6 @@ use Rattle.channels.specs.declared.item.Item.{Item}
 use Rattle.channels.specs.declared.item.Item.TheVariants.{Record, Barrier}
 use Rattle.checkpoint_model.specs.Durable as durable
 use Rattle.checkpoint_model.specs.Durable.{Transaction, AreLast, transactions_of, SinkTransactions, is_on, HasParts}
-use Rattle.checkpoint_model.specs.Headline.{Engine}
 use Rattle.checkpoint_model.specs.Held.{held_running, IsHeldSound}
 use Rattle.checkpoint_model.specs.Book as book
 use Rattle.commit_sink.specs.Ledger as ledgers
@@ -17,7 +16,7 @@ use Rattle.commit_sink.specs.Sink.{Sinking}
 use Rattle.commit_sink.specs.declared.sink.Pending.{Pending}
 use Rattle.commit_sink.specs.declared.transactions.Progress.TheVariants.{Open, PreCommitted, Committed}
 use Rattle.coordinator.specs.Coordinator.{has_acked}
-use Rattle.job_graph.specs.Expanded.{Expanded, IsExpanded, is_source, is_sink, inputs_of}
+use Rattle.job_graph.specs.Expanded.{Expanded, IsExpanded, is_source, is_sink}
 use Rattle.job_graph.specs.PlainGraph.{HaveOperators}
 use Rattle.job_graph.specs.declared.role.Role.{Role}
 use Rattle.job_graph.specs.declared.role.Role.TheVariants as role

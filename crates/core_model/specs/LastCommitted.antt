@@ -1,5 +1,5 @@
 -- How far the sinks have committed: their committed transactions, and the checkpoint that the last one is of.
-use Rattle.std.specs.Prelude.{ℕ, zero, suc, List, filter, length, slice_get, Option, Some, None}
+use Rattle.std.specs.Prelude.{ℕ, zero, suc, List, filter, length, slice_get, Option, None}
 use Rattle.std.specs.List.{range_with_len}
 use Rattle.commit_sink.specs.Ledger.{Ledger, is_of}
 use Rattle.snapshot_store.specs.Store.{Stored, is_complete}

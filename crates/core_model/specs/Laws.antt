@@ -1,6 +1,6 @@
 -- What the calls of a running job do to its data, as steps of the checkpoint model.
-use Rattle.std.specs.Prelude.{◌≡◌, ◌<◌, ◌+◌, ℕ, Option, Some, None, List, length, slice_get, drop, false, true}
-use Rattle.channels.specs.declared.item.Item.TheVariants.{Record, Barrier}
+use Rattle.std.specs.Prelude.{◌≡◌, ◌<◌, ◌+◌, ℕ, Some, None, List, length, slice_get, drop, false, true}
+use Rattle.channels.specs.declared.item.Item.TheVariants.{Record}
 use Rattle.checkpoint_model.specs.Durable.{is_on, joined}
 use Rattle.checkpoint_model.specs.Headline.{RunningStep}
 use Rattle.commit_sink.specs.Ledger.{Ledger, IsOrdered, appended, begun, pre_committed, after_commit, committed_rows}

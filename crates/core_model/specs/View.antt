@@ -1,11 +1,11 @@
 -- What an engine's data stand for in the checkpoint model.
-use Rattle.std.specs.Prelude.{◌≡◌, ℕ, ◌==◌, Bool, true, false, List, [], ◌∷◌, map, filter, slice_get, Option, Some, None, Result, Ok, Err, is_some, unwrap_or, option_map}
+use Rattle.std.specs.Prelude.{ℕ, Bool, false, List, [], map, filter, slice_get, Option, Some, None, Ok, Err, is_some, unwrap_or, option_map}
 use Rattle.std.specs.Option.{option_map_or}
 use Rattle.std.specs.Ordering.{nat_cmp}
 use Rattle.std.specs.declared.cmp.Ordering.{Ordering}
 use Rattle.std.specs.List.{range_with_len}
 use Rattle.abs_codec.specs.Entries.{value_at}
-use Rattle.abs_codec.specs.Reading.{Reading, whole_of}
+use Rattle.abs_codec.specs.Reading.{whole_of}
 use Rattle.channels.specs.declared.item.Item.{Item}
 use Rattle.channels.specs.declared.item.Item.TheVariants.{Record, Barrier}
 use Rattle.checkpoint_model.specs.Attempt as attempt
@@ -13,7 +13,6 @@ use Rattle.checkpoint_model.specs.Book as book
 use Rattle.checkpoint_model.specs.Durable as durable
 use Rattle.checkpoint_model.specs.Engine.{Running}
 use Rattle.checkpoint_model.specs.Headline.{Engine}
-use Rattle.checkpoint_model.specs.Held.{held_running}
 use Rattle.commit_sink.specs.Ledger.{Ledger, Transaction}
 use Rattle.commit_sink.specs.declared.transactions.Progress.{Progress}
 use Rattle.commit_sink.specs.declared.transactions.Progress.TheVariants.{Open, PreCommitted, Committed, Aborted}

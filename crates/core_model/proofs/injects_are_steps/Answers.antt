@@ -1,7 +1,4 @@
 use Rattle.core_model.proofs.Runs.{inject_runs}
-use Rattle.core_model.proofs.StoreRuns.{runs_put}
-use Rattle.core_model.proofs.StoreSteps.{engine_persists}
-use Rattle.core_model.proofs.ShapeCalls.{shape_started}
 use Rattle.core_model.proofs.injects_are_steps.Goals as goal
 
 pub returns : goal.returns
