@@ -1,0 +1,7 @@
+pub mod Stands
+pub mod PlainReads
+pub mod PlainWorks
+pub mod PlainCopies
+pub mod PlainCheckpoints
+pub mod PlainCommits
+pub mod PlainReached
