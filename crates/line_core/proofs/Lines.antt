@@ -1,5 +1,5 @@
 -- An engine that runs a line has committed a beginning.
-use Rattle.std.proofs.Common.{◌≡◌, ◌<◌, Option, Some, None, Ok, Err, Result, slice_get, length, map, take, ℕ, ℤ, zero, suc, Bool, List, [], ◌∷◌, refl, sym, ap, ◌∙◌, arith}
+use Rattle.std.proofs.Common.{◌≡◌, ◌<◌, Option, Some, None, Ok, Err, Result, slice_get, length, map, take, ℕ, ℤ, zero, suc, List, [], ◌∷◌, refl, sym, ap, ◌∙◌, arith}
 use Rattle.std.proofs.lemmas.Option.{none-some, slice_get_within}
 use Rattle.abs_codec.specs.Reading.{whole_of}
 use Rattle.checkpoint_model.specs.Durable as durable
@@ -24,7 +24,6 @@ use Rattle.operators.specs.declared.row_op.RowOp.TheVariants.{Add}
 use Rattle.snapshot_store.specs.Store.{part_of}
 use Rattle.source_log.specs.Partitions.{records_at}
 use Rattle.task_part.specs.declared.part.Part.TheVariants as part
-use Rattle.core_model.specs.CallLaws.{Passes, IsGoodBy}
 use Rattle.core_model.specs.Goes.{Goes}
 use Rattle.core_model.specs.Keeps.{Keeps}
 use Rattle.core_model.specs.Language.{Language}
@@ -40,7 +39,7 @@ empty_of : {A : Type 0} (xs : List A) → length xs ≡ 0 → xs ≡ []
 empty_of [] e = refl
 empty_of (x ∷ xs) e = absurd (omega (arith, e))
 
-module _ {R K S O : Type 0} (lang : Language R K S O) (fits : R → Bool) (state_fits : S → Bool) (suits : O → S → Bool) (s : State O R K S) (operator : O) (runs : RunsLine lang fits state_fits suits operator s) where
+module _ {R K S O : Type 0} (lang : Language R K S O) (RecordFits : R → Type 0) (IsGood : O → S → Type 0) (s : State O R K S) (operator : O) (runs : RunsLine lang RecordFits IsGood operator s) where
   -- the model's job is a line
   is_line : model.IsLine (job_of lang s) 0 operator
   is_line = record {
@@ -71,7 +70,7 @@ module _ {R K S O : Type 0} (lang : Language R K S O) (fits : R → Bool) (state
   -- there is a complete checkpoint for each
   complete_at : (j : ℕ) → length committed ≡ suc j → j < length (complete_numbers s.stored)
   complete_at j e =
-      let exact = keeps_exact lang (Passes fits) (IsGoodBy state_fits suits) s runs.keeps runs.fresh in
+      let exact = keeps_exact lang RecordFits IsGood s runs.keeps runs.fresh in
       let at = exact.exactly 2 j (is_sink_of lang s 2 0 sink_at) e in
       let within = slice_get_within exact.moments j at.0 at.2 in
       omega (arith, within, exact.one_each)
@@ -127,9 +126,9 @@ module _ {R K S O : Type 0} (lang : Language R K S O) (fits : R → Bool) (state
   pub commits_each : (f : R → R) → ((state : S) (r : R) → on_first_port (lang.meaning.apply operator state r).sent ≡ f r ∷ []) → CommitsABeginning lang s (λ rows. map f rows)
   commits_each f one = commits_so (λ rows. map f rows) (λ rows. one_for_each lang.meaning operator f no_states rows one)
 
-module _ (lang : Language Row (List ℕ) RowState RowOp) (fits : Row → Bool) (state_fits : RowState → Bool) (suits : RowOp → RowState → Bool) (s : State RowOp Row (List ℕ) RowState) (n : ℤ) (meaning : lang.meaning ≡ row_meaning) where
-  pub commits_sums : RunsLine lang fits state_fits suits (Add n) s → CommitsABeginning lang s (λ rows. map (added n) rows)
-  commits_sums runs = commits_each lang fits state_fits suits s (Add n) runs (added n) (λ state r. ap (λ m. on_first_port (m.apply (Add n) state r).sent) meaning)
+module _ (lang : Language Row (List ℕ) RowState RowOp) (RecordFits : Row → Type 0) (IsGood : RowOp → RowState → Type 0) (s : State RowOp Row (List ℕ) RowState) (n : ℤ) (meaning : lang.meaning ≡ row_meaning) where
+  pub commits_sums : RunsLine lang RecordFits IsGood (Add n) s → CommitsABeginning lang s (λ rows. map (added n) rows)
+  commits_sums runs = commits_each lang RecordFits IsGood s (Add n) runs (added n) (λ state r. ap (λ m. on_first_port (m.apply (Add n) state r).sent) meaning)
 
 module _ {R K S O : Type 0} (lang : Language R K S O) (RecordFits : R → Type 0) (IsGood : O → S → Type 0) where
   pub withdraws_none : (s new : State O R K S) → Keeps lang RecordFits IsGood s → Keeps lang RecordFits IsGood new → IsLine s.graph → new.graph ≡ s.graph → Goes lang s new → Begins (committed_rows s.ledger 0) (committed_rows new.ledger 0)

@@ -1,19 +1,28 @@
 -- A line of tasks, the engine that runs it, and what its sink has committed.
-use Rattle.std.specs.Prelude.{◌≡◌, ℕ, ◌≤◌, Bool, true, List, [], ◌∷◌, length, map, take, slice_get, Some, None, Ok}
+use Rattle.std.specs.Prelude.{◌≡◌, ℕ, ◌+◌, ◌≤◌, true, false, List, [], ◌∷◌, length, map, take, slice_get, Some, None, Ok}
 use Rattle.abs_codec.specs.Reading.{whole_of}
 use Rattle.commit_sink.specs.Ledger.{committed_rows}
 use Rattle.dataflow_model.specs.Graph.{Route}
 use Rattle.job_graph.specs.Expanded.{Expanded}
 use Rattle.job_graph.specs.declared.role.Role.TheVariants.{Source, Operator, Sink}
+use Rattle.job_spec.specs.Job.{Kind, source, sink, Vertex, Job, is_operator}
+use Rattle.job_spec.specs.declared.edge.EdgeRoute.{EdgeRoute}
+use Rattle.job_spec.specs.declared.edge.EdgeSpec.{EdgeSpec}
 use Rattle.line_model.specs.Line.{line_channel, TakesAll}
 use Rattle.snapshot_store.specs.Store.{part_of}
 use Rattle.source_log.specs.Partitions.{records_at}
 use Rattle.task_part.specs.declared.part.Part.TheVariants as part
-use Rattle.core_model.specs.CallLaws.{Passes, IsGoodBy}
 use Rattle.core_model.specs.Keeps.{Keeps}
 use Rattle.core_model.specs.Language.{Language}
 use Rattle.core_model.specs.LastCommitted.{last_committed}
 use Rattle.core_model.specs.State.{State}
+
+-- a vertex of one subtask, and an edge from a vertex to the next
+abbrev pub only_subtask : List ℕ → Kind → Vertex
+only_subtask name kind = record { name = name; kind = kind; parallelism = 1 }
+
+abbrev pub edge_on : ℕ → EdgeRoute → EdgeSpec
+edge_on from route = record { from = from; to = from + 1; port = 0; route = route; back = false }
 
 -- a source, an operator and a sink, with a channel from each to the next that takes every record
 pub record IsLine (graph : Expanded) : Type 0 where
@@ -24,10 +33,22 @@ pub record IsLine (graph : Expanded) : Type 0 where
   pub first_takes : TakesAll first
   pub second_takes : TakesAll second
 
+-- A job of three vertices, a source, an operator and a sink, each of one subtask, and of two edges that join them, by whatever routes.
+pub record IsLineJob (job : Job) : Type 0 where
+  pub source_name : List ℕ
+  pub operator_name : List ℕ
+  pub sink_name : List ℕ
+  pub kind : Kind
+  pub is_operator_kind : is_operator kind ≡ true
+  pub vertices : job.vertices ≡ only_subtask source_name source ∷ only_subtask operator_name kind ∷ only_subtask sink_name sink ∷ []
+  pub first : EdgeRoute
+  pub second : EdgeRoute
+  pub edges : job.edges ≡ edge_on 0 first ∷ edge_on 1 second ∷ []
+
 module _ {R K S O : Type 0} where
   -- An engine that runs a line of this operator, over devices that were new when it was opened.
-  pub record RunsLine (lang : Language R K S O) (fits : R → Bool) (state_fits : S → Bool) (suits : O → S → Bool) (operator : O) (s : State O R K S) : Type 0 where
-    pub keeps : Keeps lang (Passes fits) (IsGoodBy state_fits suits) s
+  pub record RunsLine (lang : Language R K S O) (RecordFits : R → Type 0) (IsGood : O → S → Type 0) (operator : O) (s : State O R K S) : Type 0 where
+    pub keeps : Keeps lang RecordFits IsGood s
     pub fresh : s.is_fresh ≡ true
     pub line : IsLine s.graph
     pub operator_is : slice_get s.operators 0 ≡ Some operator

@@ -7,7 +7,7 @@
 #![tactic(auto)]
 
 ghost use Rattle.core_model.specs.Language.{Language};
-ghost use Rattle.line_core.specs.Laws.{LinesCommitWhatOperatorsMake, LinesCommitEachRow, AddingLinesCommitSums, LinesWithdrawNoRow};
+ghost use Rattle.line_core.specs.Laws.{LinesCommitWhatOperatorsMake, LinesCommitEachRow, AddingLinesCommitSums, LinesWithdrawNoRow, LineJobsExpandToLines};
 
 /// The committed rows are what the operator, from its beginning, makes of the partition's first so many rows. Those are none where nothing was
 /// committed, and as many as the source's part of the last committed checkpoint spells, where the store still has it.
@@ -28,4 +28,9 @@ pub fn adding_lines_commit_sums()
 /// No step withdraws a committed row.
 pub fn lines_withdraw_no_row<R, K, S, O>()
     ensures { (lang : Language R K S O) → LinesWithdrawNoRow lang }
+{}
+
+/// A job of a source, an operator and a sink, each of one subtask and joined by two edges, expands to a line.
+pub fn line_jobs_expand_to_lines()
+    ensures { LineJobsExpandToLines }
 {}
