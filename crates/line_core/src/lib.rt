@@ -1,7 +1,7 @@
 //! What an engine that runs a line has committed: in rows, and without the checkpoint model.
 //!
-//! A line is a source, an operator and a sink, each sending to the next. Whatever the engine went through, failures and restarts too, its committed
-//! rows are what the operator makes of a beginning of the partition, each row once and in order.
+//! A line is a source, an operator and a sink, each sending to the next. Whatever an engine over new devices went through, failures and restarts too,
+//! its committed rows are what the operator makes of a beginning of the partition, each row once and in order.
 //!
 //! Nothing here runs. Each public function has an empty body, and its contract is the law.
 #![tactic(auto)]
