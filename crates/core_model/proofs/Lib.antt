@@ -48,3 +48,6 @@ pub mod CallOpens
 pub mod CallLasts
 pub mod CallFails
 pub mod CallExact
+pub mod Turns
+pub mod RestartRows
+pub mod Starts

@@ -9,3 +9,4 @@ pub mod Goes
 pub mod CallLaws
 pub mod Commits
 pub mod CheckpointLaws
+pub mod Restart

@@ -1,10 +1,11 @@
-//! What an engine holds, as data, and what its calls do to it, in terms of the checkpoint model. The only code that runs here is [`CoreFault`].
+//! What an engine holds, as data, and what its calls do to it, in terms of the checkpoint model. The only code here is that of [`CoreFault`] and [`Start`].
 //!
 //! `State` is all that an engine holds; `engine_of` is what it stands for in the model, as a function of numbers; `Keeps` is what every engine
 //! keeps; the relations `Ends..` say how each call on a running job ends. The laws below say that those calls are the model's steps.
 #![tactic(auto)]
 
 mod fault;
+mod start;
 
 ghost use Rattle.core_model.specs.Language.{Language};
 ghost use Rattle.core_model.specs.CallLaws.{ReadsKeepEngines, InjectsKeepEngines, OperatesKeepEngines, OperatorCopiesKeepEngines, PutsOutKeepEngines, SinkCopiesKeepEngines};
@@ -12,6 +13,7 @@ ghost use Rattle.core_model.specs.CheckpointLaws.{TriggersKeepEngines, PersistsK
 ghost use Rattle.core_model.specs.Laws.{ReadsAreSteps, OperatesAreSteps, InjectsAreSteps, CommittedAreRows, AppendsKeepSinks, CopiesKeepSinks, CommitsKeepSinks};
 
 pub use fault::CoreFault;
+pub use start::Start;
 
 /// A source that sends its next record makes a step of the model.
 pub fn reads_are_steps<R, K, S, O>()

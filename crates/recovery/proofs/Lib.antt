@@ -1,0 +1,5 @@
+pub mod Settling
+pub mod Taking
+pub mod Readable
+pub mod Entries
+pub mod Starting

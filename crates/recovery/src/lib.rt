@@ -1,0 +1,16 @@
+//! A job restarts: the parts of its last complete checkpoint say what its tasks start from, and the transactions are settled.
+//!
+//! All parts are read and judged before any transaction is touched. Then each sink's transactions are settled: those that its part names are
+//! committed, the oldest first; every other that is neither committed nor aborted is aborted; and a new one is opened.
+#![tactic(auto)]
+
+mod fault;
+mod parts;
+mod restart;
+mod settle;
+mod starts;
+
+pub use fault::RecoveryFault;
+pub use parts::{Restored, restore};
+pub use restart::restarted;
+pub use settle::settle_transactions;

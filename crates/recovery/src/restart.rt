@@ -1,0 +1,43 @@
+//! A job restarts.
+
+ghost use Rattle.std.specs.Prelude.{◌≡◌, ◌<◌, ◌≤◌, ◌+◌, ℕ, Err, Some, slice_get};
+ghost use Rattle.abs_codec.specs.Spelling.{Fits};
+ghost use Rattle.job_graph.specs.declared.role.Role.TheVariants as Role;
+ghost use Rattle.operators.specs.Operator.{IsGoodState};
+ghost use Rattle.core_model.specs.declared.fault.CoreFault.TheVariants as CoreFault;
+ghost use Rattle.core_model.specs.Language.{language};
+ghost use Rattle.core_model.specs.Restart.{EndsRestart};
+
+use crate::parts::{Restored, restore};
+use crate::settle::settle_transactions;
+use commit_sink::Transactions;
+use core_model::CoreFault;
+use job_graph::Graph;
+use job_state::Attempt;
+use operators::Operator;
+use snapshot_store::SnapshotStore;
+use source_log::Partitions;
+use std::alloc::Global;
+
+/// An attempt that starts from the last complete checkpoint, or anew where there is none, and that checkpoint's number. The transactions are
+/// settled. Where it is refused, they may be settled in part; the next restart does the rest.
+pub fn restarted<O: Operator, S: SnapshotStore, X: Transactions, P: Partitions<Record = O::Record>>(
+    alloc: Global,
+    graph: &Graph,
+    operators: &[O],
+    log: &P,
+    store: &mut S,
+    transactions: &mut X,
+) -> Result<(Option<u64>, Attempt<O>), CoreFault>
+    requires sinks { (task subtask : ℕ) → slice_get graph.now.tasks task ≡ Some (Role.Sink subtask) → subtask < (X.state transactions.old).subtasks }
+    ensures ends { EndsRestart (language O.meaning O.Key.cmp O.Record.spelling O.Record.reading O.Key.reading O.State.reading) (Fits O.Key.HasSpelling O.Key.spelling) (IsGoodState (Fits O.State.HasSpelling O.State.spelling) O.Suits) operators.now (P.records log.now) (S.state store.old) graph.now (X.state transactions.old) (X.state transactions.new) result }
+    ensures same { S.state store.new ≡ S.state store.old }
+    ensures counted { result ≡ Err CoreFault.Device → S.fault_count store.old + X.fault_count transactions.old < S.fault_count store.new + X.fault_count transactions.new }
+    ensures grows { (S.fault_count store.old ≤ S.fault_count store.new) × (X.fault_count transactions.old ≤ X.fault_count transactions.new) }
+{
+    let _ = graph.tasks();
+    let Restored { number, starts } = restore(alloc, graph, operators, store, log)?;
+    let tasks = settle_transactions(alloc, starts, transactions)?;
+    let attempt = Attempt::new(alloc, tasks, graph.channels(), number)?;
+    Ok((number, attempt))
+}

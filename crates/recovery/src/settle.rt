@@ -1,0 +1,142 @@
+//! The transactions are settled.
+
+ghost use Rattle.std.specs.Prelude.{◌≡◌, ◌<◌, ◌≤◌, ◌^◌, ℕ, length, All, Err, MatchResult};
+ghost use Rattle.commit_sink.specs.Ledger.{unsettled_of};
+ghost use Rattle.recovery.specs.declared.fault.RecoveryFault.TheVariants as RecoveryFault;
+ghost use Rattle.recovery.specs.Ends as faults;
+ghost use Rattle.recovery.specs.Ends.{EndsCommits, EndsAborts, EndsSettle, EndsTake, TakeAll, StopTaking, IsBelow};
+
+use crate::fault::RecoveryFault;
+use abs_codec::CodecFault;
+use commit_sink::{Sink, TransactionFault, Transactions};
+use core_model::Start;
+use job_state::Holding;
+use std::alloc::Global;
+
+/// Why a restart is refused where a transaction that is named was not committed.
+fn commit_fault(task: u32, fault: TransactionFault) -> RecoveryFault
+    ensures { result ≡ faults.commit_fault task fault }
+{
+    match fault {
+        TransactionFault::Fault => RecoveryFault::Fault,
+        _ => RecoveryFault::Damaged(task, CodecFault::BadTag),
+    }
+}
+
+/// Why it is refused where another call was.
+fn call_fault(fault: TransactionFault) -> RecoveryFault
+    ensures { result ≡ faults.call_fault fault }
+{
+    match fault {
+        TransactionFault::Memory => RecoveryFault::Memory,
+        _ => RecoveryFault::Fault,
+    }
+}
+
+/// Commits the transactions that a sink's part names, the oldest first.
+fn commit_named<X: Transactions>(
+    task: u32,
+    names: &[u64],
+    transactions: &mut X,
+) -> Result<(), RecoveryFault>
+    ensures ends { EndsCommits (X.state transactions.old) (X.state transactions.new) names.now result }
+    ensures same { (X.state transactions.new).subtasks ≡ (X.state transactions.old).subtasks }
+    ensures counted { result ≡ Err RecoveryFault.Fault → X.fault_count transactions.old < X.fault_count transactions.new }
+    ensures grows { X.fault_count transactions.old ≤ X.fault_count transactions.new }
+{
+    for name in names {
+        if let Err(fault) = transactions.commit(*name) {
+            return Err(commit_fault(task, fault));
+        }
+    }
+    Ok(())
+}
+
+/// Aborts a sink's transactions that are neither committed nor aborted.
+fn abort_all<X: Transactions>(
+    subtask: u32,
+    unsettled: &[(u64, Option<u64>)],
+    transactions: &mut X,
+) -> Result<(), RecoveryFault>
+    requires { unsettled.now ≡ unsettled_of (X.state transactions.old) subtask }
+    ensures ends { EndsAborts (X.state transactions.old) (X.state transactions.new) unsettled.now result }
+    ensures same { (X.state transactions.new).subtasks ≡ (X.state transactions.old).subtasks }
+    ensures counted { result ≡ Err RecoveryFault.Fault → X.fault_count transactions.old < X.fault_count transactions.new }
+    ensures grows { X.fault_count transactions.old ≤ X.fault_count transactions.new }
+{
+    for transaction in unsettled {
+        if let Err(fault) = transactions.abort(transaction.0) {
+            return Err(call_fault(fault));
+        }
+    }
+    Ok(())
+}
+
+/// Settles a sink's transactions, and answers the one that is open then.
+fn settle_sink<X: Transactions>(
+    task: u32,
+    subtask: u32,
+    names: &[u64],
+    transactions: &mut X,
+) -> Result<u64, RecoveryFault>
+    requires { subtask < (X.state transactions.old).subtasks }
+    ensures ends { EndsSettle (X.state transactions.old) (X.state transactions.new) names.now subtask result }
+    ensures same { (X.state transactions.new).subtasks ≡ (X.state transactions.old).subtasks }
+    ensures counted { result ≡ Err RecoveryFault.Fault → X.fault_count transactions.old < X.fault_count transactions.new }
+    ensures grows { X.fault_count transactions.old ≤ X.fault_count transactions.new }
+{
+    commit_named(task, names, transactions)?;
+    let unsettled = match transactions.unsettled(subtask) {
+        Ok(unsettled) => unsettled,
+        Err(fault) => return Err(call_fault(fault)),
+    };
+    abort_all(subtask, &unsettled, transactions)?;
+    match transactions.begin(subtask) {
+        Ok(opened) => Ok(opened),
+        Err(fault) => Err(call_fault(fault)),
+    }
+}
+
+/// What a task holds when it starts; a sink settles its transactions.
+fn take<K: Ord + Drop, S: Drop, X: Transactions>(
+    alloc: Global,
+    task: u32,
+    start: Start<K, S>,
+    transactions: &mut X,
+) -> Result<Holding<K, S>, RecoveryFault>
+    requires { IsBelow (X.state transactions.old).subtasks start }
+    ensures ends { EndsTake (X.state transactions.old) (X.state transactions.new) start result }
+    ensures same { (X.state transactions.new).subtasks ≡ (X.state transactions.old).subtasks }
+    ensures counted { result ≡ Err RecoveryFault.Fault → X.fault_count transactions.old < X.fault_count transactions.new }
+    ensures grows { X.fault_count transactions.old ≤ X.fault_count transactions.new }
+{
+    match start {
+        Start::Source(offset) => Ok(Holding::Source(offset)),
+        Start::Operator(states) => Ok(Holding::Operator(states)),
+        Start::Sink(subtask, names) => {
+            let opened = settle_sink(task, subtask, names.as_slice(), transactions)?;
+            Ok(Holding::Sink(Sink::new(alloc, opened)))
+        }
+    }
+}
+
+/// Each task takes what it starts from, and each sink settles its transactions.
+pub fn settle_transactions<K: Ord + Drop, S: Drop, X: Transactions>(
+    alloc: Global,
+    starts: Vec<Start<K, S>>,
+    transactions: &mut X,
+) -> Result<Vec<Holding<K, S>>, RecoveryFault>
+    requires few { length starts.items < 2 ^ 32 }
+    requires below { All (IsBelow (X.state transactions.old).subtasks) starts.items }
+    ensures ends { MatchResult result (λ tasks. TakeAll (X.state transactions.old) (X.state transactions.new) starts.items tasks.items) (StopTaking (X.state transactions.old) (X.state transactions.new) starts.items) }
+    ensures counted { result ≡ Err RecoveryFault.Fault → X.fault_count transactions.old < X.fault_count transactions.new }
+    ensures grows { X.fault_count transactions.old ≤ X.fault_count transactions.new }
+{
+    let mut tasks = Vec::new(alloc);
+    for start in starts {
+        let task = tasks.len() as u32;
+        let holding = take(alloc, task, start, transactions)?;
+        tasks.push(holding)?;
+    }
+    Ok(tasks)
+}
