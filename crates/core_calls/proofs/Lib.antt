@@ -1,1 +1,4 @@
 pub mod Holdings
+pub mod Numbers
+pub mod Readable
+pub mod Rounds

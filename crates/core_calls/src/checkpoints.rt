@@ -1,12 +1,15 @@
 //! A checkpoint begins, its parts are put, it is complete, and its transactions are committed.
 
-ghost use Rattle.std.specs.Prelude.{◌≡◌, ◌≢◌, ◌<◌, ◌≤◌, ℕ, List, Err, Some, None, length, slice_get, false};
+ghost use Rattle.std.specs.Prelude.{◌≡◌, ◌≢◌, ◌<◌, ◌≤◌, ℕ, List, Ok, Err, Some, None, length, slice_get, false, OnOk, IfOk, IfErr};
 ghost use Rattle.coordinator.specs.Coordinator.{IsReady, has_acked, ack_refusal};
 ghost use Rattle.coordinator.specs.Coordinator as coordination;
 ghost use Rattle.snapshot_store.specs.Store.{put_refusal, complete_refusal};
-ghost use Rattle.task_part.specs.Spelling.{part_spelling};
+ghost use Rattle.abs_codec.specs.Reading.{whole_of};
+ghost use Rattle.job_state.specs.Held.{copy_at};
+ghost use Rattle.task_part.specs.declared.part.Part.{Part};
+ghost use Rattle.task_part.specs.Spelling.{part_spelling, part_at};
 ghost use Rattle.core_model.specs.declared.fault.CoreFault.TheVariants as CoreFault;
-ghost use Rattle.core_model.specs.Calls.{EndsTrigger, EndsPersist, EndsComplete};
+ghost use Rattle.core_model.specs.Calls.{EndsTrigger, EndsPersist, EndsComplete, WhereReached};
 
 use abs_codec::{Codec, CodecFault};
 use commit_sink::Transactions;
@@ -44,6 +47,19 @@ pub fn trigger<O: Operator, S: SnapshotStore>(
     }
 }
 
+/// The spelling of a value, from which the value is read again.
+fn spelled<T: Codec>(alloc: Global, value: &T) -> Result<Vec<u8>, CoreFault>
+    ensures ok { IfOk result (λ bytes. bytes.items ≡ T.spelling value.now) }
+    ensures readable { OnOk result (whole_of T.reading (T.spelling value.now) ≡ Ok value.now) }
+    ensures err { IfErr result (λ fault. fault ≡ CoreFault.Memory) }
+{
+    let mut bytes = Vec::new(alloc);
+    match value.encode(&mut bytes) {
+        Ok(()) => Ok(bytes),
+        Err(_) => Err(CoreFault::Memory),
+    }
+}
+
 /// Puts the part of a task that has copied.
 pub fn persist<O: Operator, S: SnapshotStore>(
     alloc: Global,
@@ -57,6 +73,7 @@ pub fn persist<O: Operator, S: SnapshotStore>(
     ensures ends { EndsPersist graph.now task attempt.old attempt.new (S.state store.old) (S.state store.new) (part_spelling O.Record.spelling O.Key.spelling O.State.spelling) result }
     ensures counted { result ≡ Err CoreFault.Device → S.fault_count store.old < S.fault_count store.new }
     ensures grows { S.fault_count store.old ≤ S.fault_count store.new }
+    ensures readable { WhereReached result ((p : Part O.Record O.Key O.State) → copy_at attempt.old task ≡ Some p → whole_of (part_at O.Record.reading O.Key.cmp O.Key.reading O.State.reading) (part_spelling O.Record.spelling O.Key.spelling O.State.spelling p) ≡ Ok p) }
 {
     if graph.role(task).is_none() {
         return Err(CoreFault::NoSuchTask);
@@ -70,10 +87,7 @@ pub fn persist<O: Operator, S: SnapshotStore>(
     if attempt.has_acked(task) {
         return Err(CoreFault::NotReady);
     }
-    let mut bytes = Vec::new(alloc);
-    if part.encode(&mut bytes).is_err() {
-        return Err(CoreFault::Memory);
-    }
+    let bytes = spelled(alloc, part)?;
     match store.put(checkpoint, task, &bytes) {
         Ok(()) => {
             attempt.acknowledge(checkpoint, task);

@@ -1,6 +1,6 @@
 //! Records move: sources read, operators and sinks work.
 
-ghost use Rattle.std.specs.Prelude.{◌≡◌, ◌≢◌, ◌<◌, ◌≤◌, ◌+◌, ◌^◌, ℕ, List, Err, Some, None, length, slice_get, OnErr, IfOk, IfSome, IfNone};
+ghost use Rattle.std.specs.Prelude.{◌≡◌, ◌≢◌, ◌<◌, ◌≤◌, ◌+◌, ◌^◌, ℕ, List, Err, Some, None, length, slice_get, OnOk, OnErr, IfOk, IfSome, IfNone};
 ghost use Rattle.std.specs.Option.{option_copied};
 ghost use Rattle.abs_codec.specs.Entries.{value_at};
 ghost use Rattle.abs_codec.specs.Spelling.{Fits};
@@ -14,6 +14,7 @@ ghost use Rattle.core_model.specs.declared.fault.CoreFault.TheVariants as CoreFa
 ghost use Rattle.core_model.specs.Language.{language};
 ghost use Rattle.core_model.specs.Calls.{input_at, state_of, EndsRead, EndsOperate, EndsPutOut};
 ghost use Rattle.core_model.specs.Keeps.{AreHeld, AllFit};
+ghost use Rattle.source_log.specs.Partitions.{records_at};
 
 use abs_codec::{Codec, NoMemory};
 use channels::Item;
@@ -59,6 +60,7 @@ pub fn read_next<O: Operator, P: Partitions<Record = O::Record>>(
     ensures same { P.records log.new ≡ P.records log.old }
     ensures kept { OnErr result (attempt.new ≡ attempt.old) }
     ensures counted { result ≡ Err CoreFault.Device → P.fault_count log.old < P.fault_count log.new }
+    ensures fits { OnOk result ((p o : ℕ) (row : O.Record) → slice_get graph.now.tasks task ≡ Some (Role.Source p) → slice_get attempt.old.tasks task ≡ Some (Holding.Source o) → slice_get (records_at (P.records log.old) p) o ≡ Some row → Fits O.Record.HasSpelling O.Record.spelling row) }
 {
     let Some(Role::Source(partition)) = graph.role(task) else {
         return Err(CoreFault::NoSuchTask);

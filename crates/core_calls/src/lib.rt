@@ -6,8 +6,10 @@
 
 mod barriers;
 mod checkpoints;
+mod commits;
 mod dataflow;
 
 pub use barriers::{copy_operator, copy_sink, inject};
 pub use checkpoints::{complete, persist, trigger};
+pub use commits::commit;
 pub use dataflow::{input_of, operate, put_out, read_next};

@@ -10,7 +10,7 @@ use Rattle.core_model.specs.Language.{Language}
 use Rattle.core_model.specs.State.{State}
 use Rattle.core_model.specs.View.{run_of, transactions_at}
 use Rattle.core_model.specs.Keeps.{CopyAs, Keeps}
-use Rattle.core_model.specs.Calls.{EndsPersist, left_by}
+use Rattle.core_model.specs.Calls.{EndsPersist, WhereReached, left_by}
 use Rattle.core_model.specs.Goes.{Goes}
 use Rattle.core_model.specs.declared.fault.CoreFault.{CoreFault}
 use Rattle.core_model.specs.declared.fault.CoreFault.TheVariants.{NoSuchTask, NotReady, NoCheckpoint, Memory, Device}
@@ -57,18 +57,22 @@ module _ {R K S O : Type 0} (lang : Language R K S O) (RecordFits : R → Type 0
         (runs_put lang s h (runs_of lang RecordFits IsGood s keeps h was) checkpoint task bytes p pending (subst (λ m. task < m) (sym (shape_of lang RecordFits IsGood s keeps h was).acked) within) copied reads))
         (goes_put n)
 
-  module _ (task : ℕ) (k : Held R K S) (stored : Stored) (n : ℕ) (spelling : Part R K S → List ℕ) (spells : (p : Part R K S) → copy_at h task ≡ Some p → whole_of lang.read_part (spelling p) ≡ Ok p) (numbered : IsNumbered stored) where
-    pub keeps_persist : (result : Result Unit CoreFault) → EndsPersist s.graph task h k s.stored stored spelling result
+  module _ (task : ℕ) (k : Held R K S) (stored : Stored) (n : ℕ) (spelling : Part R K S → List ℕ) (numbered : IsNumbered stored) where
+    -- what spells the copy is read again
+    abbrev pub IsReadable : Type 0
+    IsReadable = (p : Part R K S) → copy_at h task ≡ Some p → whole_of lang.read_part (spelling p) ≡ Ok p
+
+    pub keeps_persist : (result : Result Unit CoreFault) → WhereReached result IsReadable → EndsPersist s.graph task h k s.stored stored spelling result
         → Keeps lang RecordFits IsGood (record s { held = left_by result (Some k); stored = stored; faults = n }) × Goes lang s (record s { held = left_by result (Some k); stored = stored; faults = n })
-    keeps_persist (Ok u) e =
+    keeps_persist (Ok u) spells e =
         let made = keeps_put task e.0 e.1 (spelling e.1) e.2 e.3 (spells e.1 e.3) n (subst IsNumbered e.5 numbered) in
         subst (λ (x : Held R K S). KeepsAndGoes lang RecordFits IsGood s (after s (Some x) stored s.ledger n)) (sym e.6)
         (subst (λ (x : Stored). KeepsAndGoes lang RecordFits IsGood s (after s (Some (with_acknowledged task h)) x s.ledger n)) (sym e.5) made)
-    keeps_persist (Err NoSuchTask) e = keeps_refused lang RecordFits IsGood s keeps h k stored s.ledger n was e.1 e.2 refl
-    keeps_persist (Err NoCheckpoint) e = keeps_refused lang RecordFits IsGood s keeps h k stored s.ledger n was e.2 e.3 refl
-    keeps_persist (Err NotReady) e = keeps_refused lang RecordFits IsGood s keeps h k stored s.ledger n was e.2 e.3 refl
-    keeps_persist (Err Memory) e = keeps_refused lang RecordFits IsGood s keeps h k stored s.ledger n was e.0 e.1 refl
-    keeps_persist (Err Device) e =
+    keeps_persist (Err NoSuchTask) spells e = keeps_refused lang RecordFits IsGood s keeps h k stored s.ledger n was e.1 e.2 refl
+    keeps_persist (Err NoCheckpoint) spells e = keeps_refused lang RecordFits IsGood s keeps h k stored s.ledger n was e.2 e.3 refl
+    keeps_persist (Err NotReady) spells e = keeps_refused lang RecordFits IsGood s keeps h k stored s.ledger n was e.2 e.3 refl
+    keeps_persist (Err Memory) spells e = keeps_refused lang RecordFits IsGood s keeps h k stored s.ledger n was e.0 e.1 refl
+    keeps_persist (Err Device) spells e =
         elim e.5 [
           | inl same ↦ keeps_down lang RecordFits IsGood s keeps stored s.ledger n (ap (λ (x : Stored). x.tasks) same) numbered refl keeps.ordered (goes_down lang s stored s.ledger n same refl)
           | inr done ↦
@@ -76,4 +80,10 @@ module _ {R K S O : Type 0} (lang : Language R K S O) (RecordFits : R → Type 0
               keeps_down lang RecordFits IsGood s keeps stored s.ledger n (ap (λ (x : Stored). x.tasks) done) numbered refl keeps.ordered
               (subst (λ (x : Stored). Goes lang s (after s None x s.ledger n)) (sym done) goes)
         ]
-    keeps_persist (Err other) e = absurd e
+    keeps_persist (Err other) spells e = absurd e
+
+-- what holds anyhow holds where the device is reached
+pub when_reached : {T : Type 0} (P : Type 0) (result : Result T CoreFault) → P → WhereReached result P
+when_reached P (Ok v) p = p
+when_reached P (Err Device) p = p
+when_reached P (Err other) p = tt

@@ -186,3 +186,9 @@ abbrev pub left_by : {T A : Type 0} → Result T CoreFault → Option A → Opti
 left_by (Ok v) a = a
 left_by (Err Device) a = None
 left_by (Err other) a = a
+
+-- what holds where a call has come to its device: where it is done, or where the device failed
+abbrev pub WhereReached : {T : Type 0} → Result T CoreFault → Type 0 → Type 0
+WhereReached (Ok v) P = P
+WhereReached (Err Device) P = P
+WhereReached (Err other) P = Unit {0}

@@ -1,0 +1,2 @@
+pub mod Alone
+pub mod Serving

@@ -1,0 +1,29 @@
+-- How a call ends that wants a running job: `Ends` says it of what the job holds before and after. A failed device takes the job down.
+use Rattle.std.specs.Prelude.{◌≡◌, ℕ, Option, Some, None, Result, Ok, Err, MatchOption}
+use Rattle.job_state.specs.Held.{Held}
+use Rattle.core_model.specs.Calls.{left_by}
+use Rattle.core_model.specs.State.{State}
+use Rattle.core_model.specs.declared.fault.CoreFault.{CoreFault}
+use Rattle.core_model.specs.declared.fault.CoreFault.TheVariants.{NotRunning}
+
+module _ {O R K S T : Type 0} (old new : State O R K S) (Ends : Held R K S → Held R K S → Result T CoreFault → Type 0) (result : Result T CoreFault) where
+  -- the call is refused where the job is down
+  abbrev pub WhileRunning : (Held R K S → State O R K S) → Type 0
+  WhileRunning leaves = MatchOption old.held ((result ≡ Err NotRunning) × (new ≡ old)) (λ h. (k : Held R K S) × Ends h k result × (new ≡ leaves k))
+
+  -- it leaves the store and the transactions,
+  abbrev pub OnAttempt : Type 0
+  OnAttempt = WhileRunning (λ k. record old { held = left_by result (Some k); faults = new.faults })
+
+  -- or changes the store alone,
+  abbrev pub OnStore : Type 0
+  OnStore = WhileRunning (λ k. record old { held = left_by result (Some k); stored = new.stored; faults = new.faults })
+
+  -- or the transactions alone
+  abbrev pub OnTransactions : Type 0
+  OnTransactions = WhileRunning (λ k. record old { held = left_by result (Some k); ledger = new.ledger; faults = new.faults })
+
+-- the result without its value
+abbrev pub done_by : {T : Type 0} → Result T CoreFault → Result Unit CoreFault
+done_by (Ok v) = Ok tt
+done_by (Err fault) = Err fault

@@ -1,0 +1,58 @@
+-- How the calls end in which a task takes what stands at the head of its input.
+use Rattle.std.specs.Prelude.{◌≡◌, ℕ, List, Option, Some, None, Result, Err, count_by, slice_get}
+use Rattle.std.specs.declared.cmp.Ordering.{Ordering}
+use Rattle.commit_sink.specs.Ledger.{Ledger}
+use Rattle.commit_sink.specs.Sink.{Sinking}
+use Rattle.job_graph.specs.Expanded.{Expanded, IsExpanded, is_sink}
+use Rattle.job_graph.specs.PlainGraph.{HaveOperators}
+use Rattle.job_graph.specs.declared.role.Role.{Role}
+use Rattle.job_graph.specs.declared.role.Role.TheVariants as role
+use Rattle.job_state.specs.Held.{Held}
+use Rattle.job_state.specs.declared.holding.Holding.TheVariants as holds
+use Rattle.core_model.specs.Calls.{input_at, EndsOperate, EndsPutOut, EndsCopyOperator, EndsCopySink}
+use Rattle.core_model.specs.Keeps.{Shape, SinkIn}
+use Rattle.core_model.specs.Language.{Language}
+use Rattle.core_model.specs.declared.fault.CoreFault.{CoreFault}
+use Rattle.core_model.specs.declared.fault.CoreFault.TheVariants.{NoSuchTask}
+
+-- what a running job holds, by its graph, its operators and its transactions
+pub record Serves {R K S O : Type 0} (cmp : K → K → Ordering) (RecordFits : R → Type 0) (IsGood : O → S → Type 0) (graph : Expanded) (operators : List O) (ledger : Ledger) (held : Held R K S) : Type 0 where
+  pub expanded : IsExpanded graph
+  pub operators : HaveOperators graph operators
+  pub subtasks : ledger.subtasks ≡ count_by is_sink graph.tasks
+  pub shape : Shape cmp RecordFits IsGood graph operators held
+  pub sinks : (task subtask : ℕ) (sink : Sinking) → slice_get graph.tasks task ≡ Some (role.Sink subtask) → slice_get held.tasks task ≡ Some (holds.Sink sink) → SinkIn ledger subtask sink
+
+module _ {R K S : Type 0} (graph : Expanded) (task input : ℕ) (h k : Held R K S) (old new : Ledger) (result : Result Unit CoreFault) where
+  -- the task has no input of that number
+  abbrev pub NoSuchInput : Type 0
+  NoSuchInput = (result ≡ Err NoSuchTask) × (k ≡ h) × (new ≡ old)
+
+  -- an operator works, or a sink puts a record out
+  module _ {O : Type 0} (lang : Language R K S O) (operators : List O) where
+    abbrev pub WorksAs : Option Role → Option ℕ → Type 0
+    WorksAs (Some (role.Operator number)) (Some channel) = (operator : O) × (slice_get operators number ≡ Some operator) × EndsOperate graph task h k channel lang operator result × (new ≡ old)
+    WorksAs (Some (role.Operator number)) None = NoSuchInput
+    WorksAs (Some (role.Sink subtask)) (Some channel) = EndsPutOut task h k channel old new lang.spelling result
+    WorksAs (Some (role.Sink subtask)) None = NoSuchInput
+    WorksAs (Some (role.Source partition)) channel = NoSuchInput
+    WorksAs None channel = NoSuchInput
+
+  -- an operator or a sink takes the barrier and copies
+  abbrev pub CopiesAs : Option Role → Option ℕ → Type 0
+  CopiesAs (Some (role.Operator number)) (Some channel) = EndsCopyOperator graph task h k channel result × (new ≡ old)
+  CopiesAs (Some (role.Operator number)) None = NoSuchInput
+  CopiesAs (Some (role.Sink subtask)) (Some channel) = EndsCopySink task h k channel subtask old new result
+  CopiesAs (Some (role.Sink subtask)) None = NoSuchInput
+  CopiesAs (Some (role.Source partition)) channel = NoSuchInput
+  CopiesAs None channel = NoSuchInput
+
+module _ {R K S O : Type 0} where
+  -- a task works the first record of its input
+  abbrev pub EndsWork : Language R K S O → Expanded → List O → ℕ → ℕ → Held R K S → Held R K S → Ledger → Ledger → Result Unit CoreFault → Type 0
+  EndsWork lang graph operators task input h k old new result = WorksAs graph task input h k old new result lang operators (slice_get graph.tasks task) (input_at graph task input)
+
+module _ {R K S : Type 0} where
+  -- a task takes the barrier at the head of its input, and copies
+  abbrev pub EndsBarrier : Expanded → ℕ → ℕ → Held R K S → Held R K S → Ledger → Ledger → Result Unit CoreFault → Type 0
+  EndsBarrier graph task input h k old new result = CopiesAs graph task input h k old new result (slice_get graph.tasks task) (input_at graph task input)

@@ -1,0 +1,341 @@
+//! The engine.
+
+ghost use Rattle.std.specs.Prelude.{◌≡◌, ◌≢◌, ◌⊎◌, ◌↔◌, ◌<◌, ◌≤◌, ◌+◌, ◌×◌, ℕ, List, None, Some, Ok, Err, [], length, count_by, slice_get, true, OnOk, OnErr, IfOk, IfErr, IsTrue};
+ghost use Rattle.std.specs.Option.{option_map};
+ghost use Rattle.abs_codec.specs.Spelling.{Fits};
+ghost use Rattle.operators.specs.Operator.{IsGoodState};
+ghost use Rattle.alignment.specs.declared.gate.Effect.TheVariants as Effect;
+ghost use Rattle.commit_sink.specs.Ledger as ledgers;
+ghost use Rattle.commit_sink.specs.Ledger.{committed_rows};
+ghost use Rattle.job_graph.specs.Expanded.{is_source, is_sink};
+ghost use Rattle.job_graph.specs.PlainGraph.{HaveOperators};
+ghost use Rattle.snapshot_store.specs.Store as stores;
+ghost use Rattle.source_log.specs.Partitions as partitions;
+ghost use Rattle.task_part.specs.Spelling.{part_spelling};
+ghost use Rattle.core_model.specs.declared.fault.CoreFault.TheVariants as CoreFault;
+ghost use Rattle.core_model.specs.Calls.{left_by, EndsRead, EndsInject, EndsPersist, EndsTrigger, EndsComplete};
+ghost use Rattle.core_model.specs.Commits.{EndsCommit};
+ghost use Rattle.core_model.specs.Goes.{Goes};
+ghost use Rattle.core_model.specs.Keeps.{IsSimple};
+ghost use Rattle.core_model.specs.Language.{language};
+ghost use Rattle.dataflow_core.specs.Tasks.{EndsWork, EndsBarrier};
+ghost use Rattle.dataflow_core.specs.Running.{done_by, OnAttempt, OnStore, OnTransactions};
+
+use crate::tasks::{take_barrier, work_task};
+use alignment::Effect;
+use commit_sink::Transactions;
+use core_calls::{commit, complete, inject, persist, read_next, trigger};
+use core_model::CoreFault;
+use job_graph::Graph;
+use job_state::Attempt;
+use operators::Operator;
+use snapshot_store::SnapshotStore;
+use source_log::{Partitions, SourceFault};
+use std::alloc::Global;
+use std::marker::Model;
+
+/// A job with its devices: the partitions that its sources read, the snapshot store, and the transactions of its sinks. While the job runs, it
+/// has an attempt.
+#[derive(Drop)]
+pub struct Core<O: Operator, S: SnapshotStore, X: Transactions, P: Partitions<Record = O::Record>> {
+    alloc: Global,
+    graph: Graph,
+    operators: Vec<O>,
+    log: P,
+    store: S,
+    transactions: X,
+    attempt: Option<Attempt<O>>,
+    is_fresh: bool,
+}
+
+impl<O: Operator, S: SnapshotStore, X: Transactions, P: Partitions<Record = O::Record>> Model
+    for Core<O, S, X, P> {
+    ghost use Rattle.std.specs.Prelude.{◌+◌};
+    ghost use Rattle.std.specs.Coded.{codes};
+    ghost use Rattle.snapshot_store.specs.Store.{stored_code};
+    ghost use Rattle.core_model.specs.State.{State};
+    ghost use Rattle.core_model.specs.Keeps.{Keeps};
+
+    ghost Value = { State O O.Record O.Key O.State };
+
+    ghost coded = { Prim.hlevel (codes, stored_code) };
+
+    ghost view = { λ c. record {
+      graph = c.graph;
+      operators = c.operators.items;
+      partitions = P.records c.log;
+      stored = S.state c.store;
+      ledger = X.state c.transactions;
+      held = c.attempt;
+      is_fresh = c.is_fresh;
+      faults = P.fault_count c.log + S.fault_count c.store + X.fault_count c.transactions;
+    } };
+
+    ghost invariant = { λ c. Keeps (language O.meaning O.Key.cmp O.Record.spelling O.Record.reading O.Key.reading O.State.reading) (Fits O.Record.HasSpelling O.Record.spelling) (IsGoodState (Fits O.State.HasSpelling O.State.spelling) O.Suits) (record {
+      graph = c.graph;
+      operators = c.operators.items;
+      partitions = P.records c.log;
+      stored = S.state c.store;
+      ledger = X.state c.transactions;
+      held = c.attempt;
+      is_fresh = c.is_fresh;
+      faults = P.fault_count c.log + S.fault_count c.store + X.fault_count c.transactions;
+    }) };
+}
+
+/// Takes the job down where a device has failed.
+fn leave<A: Drop, T: Drop>(
+    attempt: &mut Option<A>,
+    outcome: Result<T, CoreFault>,
+) -> Result<T, CoreFault>
+    ensures answer { result ≡ outcome }
+    ensures left { attempt.new ≡ left_by outcome attempt.old }
+{
+    match outcome {
+        Err(CoreFault::Device) => {
+            *attempt = None;
+            Err(CoreFault::Device)
+        }
+        other => other,
+    }
+}
+
+/// Whether both devices are new.
+fn are_new<S: SnapshotStore, X: Transactions>(store: &S, transactions: &X) -> bool
+    ensures { IsTrue result ↔ ((S.state store.now ≡ stores.blank (S.state store.now).tasks) × (X.state transactions.now ≡ ledgers.blank (X.state transactions.now).subtasks)) }
+{
+    store.is_new() && transactions.is_new()
+}
+
+impl<O: Operator, S: SnapshotStore, X: Transactions, P: Partitions<Record = O::Record>> Core<O, S, X, P> {
+    /// A job that is down, over these devices. Each operator and sink has one input, and no channel is a back-edge's.
+    pub fn open(
+        alloc: Global,
+        graph: Graph,
+        operators: Vec<O>,
+        log: P,
+        store: S,
+        transactions: X,
+    ) -> Self
+        requires simple { IsSimple graph }
+        requires operators { HaveOperators graph operators.items }
+        requires partitions { length (P.records log) ≡ count_by is_source graph.tasks }
+        requires tasks { (S.state store).tasks ≡ length graph.tasks }
+        requires subtasks { (X.state transactions).subtasks ≡ count_by is_sink graph.tasks }
+        ensures down { result ≡ record {
+          graph = graph;
+          operators = operators.items;
+          partitions = P.records log;
+          stored = S.state store;
+          ledger = X.state transactions;
+          held = None;
+          is_fresh = result.is_fresh;
+          faults = P.fault_count log + S.fault_count store + X.fault_count transactions;
+        } }
+        ensures fresh { IsTrue result.is_fresh ↔ ((S.state store ≡ stores.blank (length graph.tasks)) × (X.state transactions ≡ ledgers.blank (count_by is_sink graph.tasks))) }
+    {
+        let _ = graph.tasks();
+        let is_fresh = are_new(&store, &transactions);
+        Core {
+            alloc,
+            graph,
+            operators,
+            log,
+            store,
+            transactions,
+            attempt: None,
+            is_fresh,
+        }
+    }
+
+    /// Whether both devices were new when the core was opened. No call changes it.
+    pub fn is_fresh(&self) -> bool
+        ensures { result ≡ self.now.is_fresh }
+    {
+        self.is_fresh
+    }
+
+    /// The job is down, and what it held is lost.
+    pub fn fail(&mut self) -> Result<(), CoreFault>
+        ensures ok { OnOk result ((self.old.held ≢ None) × (self.new ≡ record self.old { held = None })) }
+        ensures err { IfErr result (λ fault. (fault ≡ CoreFault.NotRunning) × (self.old.held ≡ None) × (self.new ≡ self.old)) }
+        ensures goes { Goes (language O.meaning O.Key.cmp O.Record.spelling O.Record.reading O.Key.reading O.State.reading) self.old self.new }
+    {
+        if self.attempt.is_none() {
+            return Err(CoreFault::NotRunning);
+        }
+        self.attempt = None;
+        Ok(())
+    }
+
+    /// Source `task` sends its next record.
+    pub fn read(&mut self, task: u32) -> Result<(), CoreFault>
+        ensures ends { OnAttempt self.old self.new (λ h k. EndsRead self.old.graph task h k (language O.meaning O.Key.cmp O.Record.spelling O.Record.reading O.Key.reading O.State.reading) self.old.partitions) result }
+        ensures goes { Goes (language O.meaning O.Key.cmp O.Record.spelling O.Record.reading O.Key.reading O.State.reading) self.old self.new }
+        ensures counted { result ≡ Err CoreFault.Device → self.old.faults < self.new.faults }
+    {
+        let Some(attempt) = &mut self.attempt else {
+            return Err(CoreFault::NotRunning);
+        };
+        let outcome = read_next(attempt, &self.graph, &mut self.log, task);
+        leave(&mut self.attempt, outcome)
+    }
+
+    /// An operator works the record at the head of its input, or a sink appends it to its open transaction.
+    pub fn work(&mut self, task: u32, input: u32) -> Result<(), CoreFault>
+        ensures ends { OnTransactions self.old self.new (λ h k. EndsWork (language O.meaning O.Key.cmp O.Record.spelling O.Record.reading O.Key.reading O.State.reading) self.old.graph self.old.operators task input h k self.old.ledger self.new.ledger) result }
+        ensures goes { Goes (language O.meaning O.Key.cmp O.Record.spelling O.Record.reading O.Key.reading O.State.reading) self.old self.new }
+        ensures counted { result ≡ Err CoreFault.Device → self.old.faults < self.new.faults }
+    {
+        let Some(attempt) = &mut self.attempt else {
+            return Err(CoreFault::NotRunning);
+        };
+        let outcome = work_task(
+            self.alloc,
+            attempt,
+            &self.graph,
+            &self.operators,
+            &mut self.transactions,
+            task,
+            input,
+        );
+        leave(&mut self.attempt, outcome)
+    }
+
+    /// A task takes the barrier at the head of its input and copies what it holds; a sink begins a transaction and pre-commits the old one.
+    pub fn take_barrier(&mut self, task: u32, input: u32) -> Result<Effect, CoreFault>
+        ensures ends { OnTransactions self.old self.new (λ h k r. EndsBarrier self.old.graph task input h k self.old.ledger self.new.ledger (done_by r)) result }
+        ensures effect { IfOk result (λ effect. effect ≡ Effect.CopyAndDone) }
+        ensures goes { Goes (language O.meaning O.Key.cmp O.Record.spelling O.Record.reading O.Key.reading O.State.reading) self.old self.new }
+        ensures counted { result ≡ Err CoreFault.Device → self.old.faults < self.new.faults }
+    {
+        let Some(attempt) = &mut self.attempt else {
+            return Err(CoreFault::NotRunning);
+        };
+        let outcome = take_barrier(
+            attempt,
+            &self.graph,
+            &self.operators,
+            &mut self.transactions,
+            task,
+            input,
+        );
+        leave(&mut self.attempt, copied(outcome))
+    }
+
+    /// Source `task` copies its offset for the pending checkpoint, and sends the barrier.
+    pub fn inject(&mut self, task: u32) -> Result<(), CoreFault>
+        ensures ends { OnAttempt self.old self.new (λ h k. EndsInject self.old.graph task h k) result }
+        ensures goes { Goes (language O.meaning O.Key.cmp O.Record.spelling O.Record.reading O.Key.reading O.State.reading) self.old self.new }
+    {
+        let Some(attempt) = &mut self.attempt else {
+            return Err(CoreFault::NotRunning);
+        };
+        let outcome = inject(attempt, &self.graph, task);
+        leave(&mut self.attempt, outcome)
+    }
+
+    /// A checkpoint begins, under a number that was never used. The parts below the last complete number are discarded. It takes no memory.
+    pub fn trigger(&mut self) -> Result<u64, CoreFault>
+        ensures ends { OnStore self.old self.new (λ h k. EndsTrigger h k self.old.stored self.new.stored) result }
+        ensures goes { Goes (language O.meaning O.Key.cmp O.Record.spelling O.Record.reading O.Key.reading O.State.reading) self.old self.new }
+        ensures counted { result ≡ Err CoreFault.Device → self.old.faults < self.new.faults }
+    {
+        let Some(attempt) = &mut self.attempt else {
+            return Err(CoreFault::NotRunning);
+        };
+        let outcome = trigger(attempt, &mut self.store);
+        leave(&mut self.attempt, outcome)
+    }
+
+    /// The part of a task that has copied is put in the store and acknowledged.
+    pub fn persist(&mut self, task: u32) -> Result<(), CoreFault>
+        ensures ends { OnStore self.old self.new (λ h k. EndsPersist self.old.graph task h k self.old.stored self.new.stored (part_spelling O.Record.spelling O.Key.spelling O.State.spelling)) result }
+        ensures goes { Goes (language O.meaning O.Key.cmp O.Record.spelling O.Record.reading O.Key.reading O.State.reading) self.old self.new }
+        ensures counted { result ≡ Err CoreFault.Device → self.old.faults < self.new.faults }
+    {
+        let Some(attempt) = &mut self.attempt else {
+            return Err(CoreFault::NotRunning);
+        };
+        let outcome = persist(self.alloc, attempt, &self.graph, &mut self.store, task);
+        leave(&mut self.attempt, outcome)
+    }
+
+    /// The pending checkpoint, of which the store has every task's part, becomes complete. It takes no memory.
+    pub fn complete(&mut self) -> Result<u64, CoreFault>
+        ensures ends { OnStore self.old self.new (λ h k. EndsComplete h k self.old.stored self.new.stored) result }
+        ensures goes { Goes (language O.meaning O.Key.cmp O.Record.spelling O.Record.reading O.Key.reading O.State.reading) self.old self.new }
+        ensures counted { result ≡ Err CoreFault.Device → self.old.faults < self.new.faults }
+    {
+        let Some(attempt) = &mut self.attempt else {
+            return Err(CoreFault::NotRunning);
+        };
+        let outcome = complete(attempt, &mut self.store);
+        leave(&mut self.attempt, outcome)
+    }
+
+    /// The pending transactions of a sink subtask up to the last complete checkpoint are committed, the oldest first. It takes no memory.
+    pub fn commit(&mut self, sink: u32) -> Result<(), CoreFault>
+        ensures ends { OnTransactions self.old self.new (λ h k. EndsCommit self.old.graph sink h k self.old.ledger self.new.ledger) result }
+        ensures goes { Goes (language O.meaning O.Key.cmp O.Record.spelling O.Record.reading O.Key.reading O.State.reading) self.old self.new }
+        ensures counted { result ≡ Err CoreFault.CommitFault → self.old.faults < self.new.faults }
+    {
+        let Some(attempt) = &mut self.attempt else {
+            return Err(CoreFault::NotRunning);
+        };
+        let outcome = commit(attempt, &self.graph, &mut self.transactions, sink);
+        leave(&mut self.attempt, outcome)
+    }
+
+    /// Puts a record last in a partition. It is served whether the job runs or not, and does not take it down.
+    pub fn append(&mut self, partition: u32, row: O::Record) -> Result<(), SourceFault>
+        requires { Fits O.Record.HasSpelling O.Record.spelling row }
+        ensures ends { partitions.Ends (self.old.partitions, self.old.faults) (self.new.partitions, self.new.faults) (partitions.append_refusal self.old.partitions partition) (partitions.appended self.old.partitions partition row) result }
+        ensures same { self.new ≡ record self.old { partitions = self.new.partitions; faults = self.new.faults } }
+    {
+        self.log.append(partition, row)
+    }
+
+    /// How many sink subtasks there are.
+    pub fn sinks(&self) -> u32
+        ensures { result ≡ count_by is_sink self.now.graph.tasks }
+    {
+        self.graph.sinks()
+    }
+
+    /// How many records of a sink subtask are committed.
+    pub fn committed_len(&self, subtask: u32) -> Result<u64, CoreFault>
+        ensures ok { IfOk result (λ len. (subtask < count_by is_sink self.now.graph.tasks) × (len ≡ length (committed_rows self.now.ledger subtask))) }
+        ensures err { IfErr result (λ fault. (fault ≡ CoreFault.NoSuchTask) × (count_by is_sink self.now.graph.tasks ≤ subtask)) }
+    {
+        if subtask >= self.graph.sinks() {
+            return Err(CoreFault::NoSuchTask);
+        }
+        Ok(self.transactions.committed_len(subtask))
+    }
+
+    /// A copy of a committed record of a sink subtask, or `None` past the last. Records are numbered from 0, in the order of commit.
+    pub fn committed(&self, subtask: u32, number: u64) -> Result<Option<Vec<u8>>, CoreFault>
+        ensures ok { IfOk result (λ row. (subtask < count_by is_sink self.now.graph.tasks) × (option_map (λ bytes. bytes.items) row ≡ slice_get (committed_rows self.now.ledger subtask) number)) }
+        ensures err { IfErr result (λ fault. ((fault ≡ CoreFault.NoSuchTask) × (count_by is_sink self.now.graph.tasks ≤ subtask)) ⊎ ((fault ≡ CoreFault.Memory) × (subtask < count_by is_sink self.now.graph.tasks))) }
+    {
+        if subtask >= self.graph.sinks() {
+            return Err(CoreFault::NoSuchTask);
+        }
+        match self.transactions.committed(subtask, number) {
+            Ok(row) => Ok(row),
+            Err(_) => Err(CoreFault::Memory),
+        }
+    }
+}
+
+/// A task that has one input has copied and is done with the barrier at once.
+fn copied(outcome: Result<(), CoreFault>) -> Result<Effect, CoreFault>
+    ensures same { done_by result ≡ outcome }
+    ensures effect { IfOk result (λ effect. effect ≡ Effect.CopyAndDone) }
+{
+    match outcome {
+        Ok(()) => Ok(Effect::CopyAndDone),
+        Err(fault) => Err(fault),
+    }
+}

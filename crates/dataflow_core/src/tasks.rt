@@ -1,0 +1,82 @@
+//! A task works, or takes a barrier, as what it is: an operator or a sink.
+
+ghost use Rattle.std.specs.Prelude.{◌≡◌, ◌<◌, ◌≤◌, Err, Some};
+ghost use Rattle.abs_codec.specs.Spelling.{Fits};
+ghost use Rattle.operators.specs.Operator.{IsGoodState};
+ghost use Rattle.core_model.specs.declared.fault.CoreFault.TheVariants as CoreFault;
+ghost use Rattle.core_model.specs.Language.{language};
+ghost use Rattle.dataflow_core.specs.Tasks.{Serves, EndsWork, EndsBarrier};
+
+use commit_sink::Transactions;
+use core_calls::{copy_operator, copy_sink, input_of, operate, put_out};
+use core_model::CoreFault;
+use job_graph::{Graph, Role};
+use job_state::Attempt;
+use operators::Operator;
+use std::alloc::Global;
+
+/// A task works the record at the head of its input.
+pub(crate) fn work_task<O: Operator, X: Transactions>(
+    alloc: Global,
+    attempt: &mut Attempt<O>,
+    graph: &Graph,
+    operators: &[O],
+    transactions: &mut X,
+    task: u32,
+    input: u32,
+) -> Result<(), CoreFault>
+    requires serves { Serves O.Key.cmp (Fits O.Record.HasSpelling O.Record.spelling) (IsGoodState (Fits O.State.HasSpelling O.State.spelling) O.Suits) graph.now operators.now (X.state transactions.old) attempt.old }
+    ensures ends { EndsWork (language O.meaning O.Key.cmp O.Record.spelling O.Record.reading O.Key.reading O.State.reading) graph.now operators.now task input attempt.old attempt.new (X.state transactions.old) (X.state transactions.new) result }
+    ensures counted { result ≡ Err CoreFault.Device → X.fault_count transactions.old < X.fault_count transactions.new }
+{
+    match graph.role(task) {
+        Some(Role::Operator(number)) => {
+            let Some(channel) = input_of(graph, task, input) else {
+                return Err(CoreFault::NoSuchTask);
+            };
+            let Some(operator) = operators.get(number as usize) else {
+                return Err(CoreFault::NoSuchTask);
+            };
+            operate(alloc, attempt, graph, operator, task, channel)
+        }
+        Some(Role::Sink(_)) => {
+            let Some(channel) = input_of(graph, task, input) else {
+                return Err(CoreFault::NoSuchTask);
+            };
+            put_out(alloc, attempt, transactions, task, channel)
+        }
+        Some(Role::Source(_)) => Err(CoreFault::NoSuchTask),
+        None => Err(CoreFault::NoSuchTask),
+    }
+}
+
+/// A task takes the barrier at the head of its input, its only one, and copies what it holds.
+pub(crate) fn take_barrier<O: Operator, X: Transactions>(
+    attempt: &mut Attempt<O>,
+    graph: &Graph,
+    operators: &[O],
+    transactions: &mut X,
+    task: u32,
+    input: u32,
+) -> Result<(), CoreFault>
+    requires serves { Serves O.Key.cmp (Fits O.Record.HasSpelling O.Record.spelling) (IsGoodState (Fits O.State.HasSpelling O.State.spelling) O.Suits) graph.now operators.now (X.state transactions.old) attempt.old }
+    ensures ends { EndsBarrier graph.now task input attempt.old attempt.new (X.state transactions.old) (X.state transactions.new) result }
+    ensures counted { result ≡ Err CoreFault.Device → X.fault_count transactions.old < X.fault_count transactions.new }
+{
+    match graph.role(task) {
+        Some(Role::Operator(_)) => {
+            let Some(channel) = input_of(graph, task, input) else {
+                return Err(CoreFault::NoSuchTask);
+            };
+            copy_operator(attempt, graph, task, channel)
+        }
+        Some(Role::Sink(subtask)) => {
+            let Some(channel) = input_of(graph, task, input) else {
+                return Err(CoreFault::NoSuchTask);
+            };
+            copy_sink(attempt, transactions, subtask, task, channel)
+        }
+        Some(Role::Source(_)) => Err(CoreFault::NoSuchTask),
+        None => Err(CoreFault::NoSuchTask),
+    }
+}
