@@ -1,5 +1,5 @@
 -- How a call ends that wants a running job: `Ends` says it of what the job holds before and after. A failed device takes the job down.
-use Rattle.std.specs.Prelude.{◌≡◌, ℕ, Option, Some, None, Result, Ok, Err, MatchOption}
+use Rattle.std.specs.Prelude.{◌≡◌, Some, Result, Ok, Err, MatchOption}
 use Rattle.job_state.specs.Held.{Held}
 use Rattle.core_model.specs.Calls.{left_by}
 use Rattle.core_model.specs.State.{State}

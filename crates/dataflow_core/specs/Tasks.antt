@@ -18,7 +18,7 @@ use Rattle.core_model.specs.declared.fault.CoreFault.TheVariants.{NoSuchTask}
 -- what a running job holds, by its graph, its operators and its transactions
 pub record Serves {R K S O : Type 0} (cmp : K → K → Ordering) (RecordFits : R → Type 0) (IsGood : O → S → Type 0) (graph : Expanded) (operators : List O) (ledger : Ledger) (held : Held R K S) : Type 0 where
   pub expanded : IsExpanded graph
-  pub operators : HaveOperators graph operators
+  pub given : HaveOperators graph operators
   pub subtasks : ledger.subtasks ≡ count_by is_sink graph.tasks
   pub shape : Shape cmp RecordFits IsGood graph operators held
   pub sinks : (task subtask : ℕ) (sink : Sinking) → slice_get graph.tasks task ≡ Some (role.Sink subtask) → slice_get held.tasks task ≡ Some (holds.Sink sink) → SinkIn ledger subtask sink

@@ -1,10 +1,10 @@
 //! The engine.
 
-ghost use Rattle.std.specs.Prelude.{◌≡◌, ◌≢◌, ◌⊎◌, ◌↔◌, ◌<◌, ◌≤◌, ◌+◌, ◌×◌, ℕ, List, None, Some, Ok, Err, [], length, count_by, slice_get, true, OnOk, OnErr, IfOk, IfErr, IsTrue};
+ghost use Rattle.std.specs.Prelude.{◌≡◌, ◌≢◌, ◌⊎◌, ◌↔◌, ◌<◌, ◌≤◌, ◌+◌, ℕ, List, None, Some, Ok, Err, [], length, count_by, slice_get, true, OnOk, OnErr, IfOk, IfErr, MatchOption, IsTrue};
 ghost use Rattle.std.specs.Option.{option_map};
 ghost use Rattle.abs_codec.specs.Spelling.{Fits};
 ghost use Rattle.operators.specs.Operator.{IsGoodState};
-ghost use Rattle.alignment.specs.declared.gate.Effect.TheVariants as Effect;
+ghost use Rattle.alignment.specs.declared.input.Effect.TheVariants as Effect;
 ghost use Rattle.commit_sink.specs.Ledger as ledgers;
 ghost use Rattle.commit_sink.specs.Ledger.{committed_rows};
 ghost use Rattle.job_graph.specs.Expanded.{is_source, is_sink};
@@ -13,11 +13,13 @@ ghost use Rattle.snapshot_store.specs.Store as stores;
 ghost use Rattle.source_log.specs.Partitions as partitions;
 ghost use Rattle.task_part.specs.Spelling.{part_spelling};
 ghost use Rattle.core_model.specs.declared.fault.CoreFault.TheVariants as CoreFault;
-ghost use Rattle.core_model.specs.Calls.{left_by, EndsRead, EndsInject, EndsPersist, EndsTrigger, EndsComplete};
+ghost use Rattle.core_model.specs.Calls.{input_at, left_by, EndsRead, EndsInject, EndsPersist, EndsTrigger, EndsComplete};
 ghost use Rattle.core_model.specs.Commits.{EndsCommit};
 ghost use Rattle.core_model.specs.Goes.{Goes};
 ghost use Rattle.core_model.specs.Keeps.{IsSimple};
 ghost use Rattle.core_model.specs.Language.{language};
+ghost use Rattle.core_plain.specs.Plain.{StepsIfOk, Stays};
+ghost use Rattle.dataflow_model.specs.Machine as machine;
 ghost use Rattle.dataflow_core.specs.Tasks.{EndsWork, EndsBarrier};
 ghost use Rattle.dataflow_core.specs.Running.{done_by, OnAttempt, OnStore, OnTransactions};
 
@@ -52,7 +54,10 @@ impl<O: Operator, S: SnapshotStore, X: Transactions, P: Partitions<Record = O::R
     for Core<O, S, X, P> {
     ghost use Rattle.std.specs.Prelude.{◌+◌};
     ghost use Rattle.std.specs.Coded.{codes};
+    ghost use Rattle.abs_codec.specs.Spelling.{Fits};
+    ghost use Rattle.operators.specs.Operator.{IsGoodState};
     ghost use Rattle.snapshot_store.specs.Store.{stored_code};
+    ghost use Rattle.core_model.specs.Language.{language};
     ghost use Rattle.core_model.specs.State.{State};
     ghost use Rattle.core_model.specs.Keeps.{Keeps};
 
@@ -107,7 +112,12 @@ fn are_new<S: SnapshotStore, X: Transactions>(store: &S, transactions: &X) -> bo
     store.is_new() && transactions.is_new()
 }
 
-impl<O: Operator, S: SnapshotStore, X: Transactions, P: Partitions<Record = O::Record>> Core<O, S, X, P> {
+impl<O: Operator, S: SnapshotStore, X: Transactions, P: Partitions<Record = O::Record>> Core<
+    O,
+    S,
+    X,
+    P,
+> {
     /// A job that is down, over these devices. Each operator and sink has one input, and no channel is a back-edge's.
     pub fn open(
         alloc: Global,
@@ -160,6 +170,7 @@ impl<O: Operator, S: SnapshotStore, X: Transactions, P: Partitions<Record = O::R
         ensures ok { OnOk result ((self.old.held ≢ None) × (self.new ≡ record self.old { held = None })) }
         ensures err { IfErr result (λ fault. (fault ≡ CoreFault.NotRunning) × (self.old.held ≡ None) × (self.new ≡ self.old)) }
         ensures goes { Goes (language O.meaning O.Key.cmp O.Record.spelling O.Record.reading O.Key.reading O.State.reading) self.old self.new }
+        ensures stays { Stays (language O.meaning O.Key.cmp O.Record.spelling O.Record.reading O.Key.reading O.State.reading) self.old self.new }
     {
         if self.attempt.is_none() {
             return Err(CoreFault::NotRunning);
@@ -172,6 +183,7 @@ impl<O: Operator, S: SnapshotStore, X: Transactions, P: Partitions<Record = O::R
     pub fn read(&mut self, task: u32) -> Result<(), CoreFault>
         ensures ends { OnAttempt self.old self.new (λ h k. EndsRead self.old.graph task h k (language O.meaning O.Key.cmp O.Record.spelling O.Record.reading O.Key.reading O.State.reading) self.old.partitions) result }
         ensures goes { Goes (language O.meaning O.Key.cmp O.Record.spelling O.Record.reading O.Key.reading O.State.reading) self.old self.new }
+        ensures plain { StepsIfOk result (language O.meaning O.Key.cmp O.Record.spelling O.Record.reading O.Key.reading O.State.reading) (machine.Read task) self.old self.new }
         ensures counted { result ≡ Err CoreFault.Device → self.old.faults < self.new.faults }
     {
         let Some(attempt) = &mut self.attempt else {
@@ -185,6 +197,7 @@ impl<O: Operator, S: SnapshotStore, X: Transactions, P: Partitions<Record = O::R
     pub fn work(&mut self, task: u32, input: u32) -> Result<(), CoreFault>
         ensures ends { OnTransactions self.old self.new (λ h k. EndsWork (language O.meaning O.Key.cmp O.Record.spelling O.Record.reading O.Key.reading O.State.reading) self.old.graph self.old.operators task input h k self.old.ledger self.new.ledger) result }
         ensures goes { Goes (language O.meaning O.Key.cmp O.Record.spelling O.Record.reading O.Key.reading O.State.reading) self.old self.new }
+        ensures plain { MatchOption (input_at self.old.graph task input) (Stays (language O.meaning O.Key.cmp O.Record.spelling O.Record.reading O.Key.reading O.State.reading) self.old self.new) (λ channel. StepsIfOk result (language O.meaning O.Key.cmp O.Record.spelling O.Record.reading O.Key.reading O.State.reading) (machine.Work task channel) self.old self.new) }
         ensures counted { result ≡ Err CoreFault.Device → self.old.faults < self.new.faults }
     {
         let Some(attempt) = &mut self.attempt else {
@@ -207,6 +220,7 @@ impl<O: Operator, S: SnapshotStore, X: Transactions, P: Partitions<Record = O::R
         ensures ends { OnTransactions self.old self.new (λ h k r. EndsBarrier self.old.graph task input h k self.old.ledger self.new.ledger (done_by r)) result }
         ensures effect { IfOk result (λ effect. effect ≡ Effect.CopyAndDone) }
         ensures goes { Goes (language O.meaning O.Key.cmp O.Record.spelling O.Record.reading O.Key.reading O.State.reading) self.old self.new }
+        ensures stays { Stays (language O.meaning O.Key.cmp O.Record.spelling O.Record.reading O.Key.reading O.State.reading) self.old self.new }
         ensures counted { result ≡ Err CoreFault.Device → self.old.faults < self.new.faults }
     {
         let Some(attempt) = &mut self.attempt else {
@@ -227,6 +241,7 @@ impl<O: Operator, S: SnapshotStore, X: Transactions, P: Partitions<Record = O::R
     pub fn inject(&mut self, task: u32) -> Result<(), CoreFault>
         ensures ends { OnAttempt self.old self.new (λ h k. EndsInject self.old.graph task h k) result }
         ensures goes { Goes (language O.meaning O.Key.cmp O.Record.spelling O.Record.reading O.Key.reading O.State.reading) self.old self.new }
+        ensures stays { Stays (language O.meaning O.Key.cmp O.Record.spelling O.Record.reading O.Key.reading O.State.reading) self.old self.new }
     {
         let Some(attempt) = &mut self.attempt else {
             return Err(CoreFault::NotRunning);
@@ -239,6 +254,7 @@ impl<O: Operator, S: SnapshotStore, X: Transactions, P: Partitions<Record = O::R
     pub fn trigger(&mut self) -> Result<u64, CoreFault>
         ensures ends { OnStore self.old self.new (λ h k. EndsTrigger h k self.old.stored self.new.stored) result }
         ensures goes { Goes (language O.meaning O.Key.cmp O.Record.spelling O.Record.reading O.Key.reading O.State.reading) self.old self.new }
+        ensures stays { Stays (language O.meaning O.Key.cmp O.Record.spelling O.Record.reading O.Key.reading O.State.reading) self.old self.new }
         ensures counted { result ≡ Err CoreFault.Device → self.old.faults < self.new.faults }
     {
         let Some(attempt) = &mut self.attempt else {
@@ -252,6 +268,7 @@ impl<O: Operator, S: SnapshotStore, X: Transactions, P: Partitions<Record = O::R
     pub fn persist(&mut self, task: u32) -> Result<(), CoreFault>
         ensures ends { OnStore self.old self.new (λ h k. EndsPersist self.old.graph task h k self.old.stored self.new.stored (part_spelling O.Record.spelling O.Key.spelling O.State.spelling)) result }
         ensures goes { Goes (language O.meaning O.Key.cmp O.Record.spelling O.Record.reading O.Key.reading O.State.reading) self.old self.new }
+        ensures stays { Stays (language O.meaning O.Key.cmp O.Record.spelling O.Record.reading O.Key.reading O.State.reading) self.old self.new }
         ensures counted { result ≡ Err CoreFault.Device → self.old.faults < self.new.faults }
     {
         let Some(attempt) = &mut self.attempt else {
@@ -265,6 +282,7 @@ impl<O: Operator, S: SnapshotStore, X: Transactions, P: Partitions<Record = O::R
     pub fn complete(&mut self) -> Result<u64, CoreFault>
         ensures ends { OnStore self.old self.new (λ h k. EndsComplete h k self.old.stored self.new.stored) result }
         ensures goes { Goes (language O.meaning O.Key.cmp O.Record.spelling O.Record.reading O.Key.reading O.State.reading) self.old self.new }
+        ensures stays { Stays (language O.meaning O.Key.cmp O.Record.spelling O.Record.reading O.Key.reading O.State.reading) self.old self.new }
         ensures counted { result ≡ Err CoreFault.Device → self.old.faults < self.new.faults }
     {
         let Some(attempt) = &mut self.attempt else {
@@ -278,6 +296,7 @@ impl<O: Operator, S: SnapshotStore, X: Transactions, P: Partitions<Record = O::R
     pub fn commit(&mut self, sink: u32) -> Result<(), CoreFault>
         ensures ends { OnTransactions self.old self.new (λ h k. EndsCommit self.old.graph sink h k self.old.ledger self.new.ledger) result }
         ensures goes { Goes (language O.meaning O.Key.cmp O.Record.spelling O.Record.reading O.Key.reading O.State.reading) self.old self.new }
+        ensures stays { Stays (language O.meaning O.Key.cmp O.Record.spelling O.Record.reading O.Key.reading O.State.reading) self.old self.new }
         ensures counted { result ≡ Err CoreFault.CommitFault → self.old.faults < self.new.faults }
     {
         let Some(attempt) = &mut self.attempt else {
@@ -292,6 +311,7 @@ impl<O: Operator, S: SnapshotStore, X: Transactions, P: Partitions<Record = O::R
         requires { Fits O.Record.HasSpelling O.Record.spelling row }
         ensures ends { partitions.Ends (self.old.partitions, self.old.faults) (self.new.partitions, self.new.faults) (partitions.append_refusal self.old.partitions partition) (partitions.appended self.old.partitions partition row) result }
         ensures same { self.new ≡ record self.old { partitions = self.new.partitions; faults = self.new.faults } }
+        ensures stays { Stays (language O.meaning O.Key.cmp O.Record.spelling O.Record.reading O.Key.reading O.State.reading) self.old self.new }
     {
         self.log.append(partition, row)
     }

@@ -20,5 +20,10 @@ fn is_lone_channel(graph: &Graph, number: u32) -> bool
 pub fn is_served(graph: &Graph) -> bool
     ensures { IsTrue result → IsSimple graph.now }
 {
-    (0..graph.channels()).all(|number| is_lone_channel(graph, number))
+    for number in 0..graph.channels() {
+        if !is_lone_channel(graph, number) {
+            return false;
+        }
+    }
+    true
 }

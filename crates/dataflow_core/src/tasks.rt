@@ -1,6 +1,7 @@
 //! A task works, or takes a barrier, as what it is: an operator or a sink.
 
-ghost use Rattle.std.specs.Prelude.{◌≡◌, ◌<◌, ◌≤◌, Err, Some};
+ghost use Rattle.std.specs.Prelude.{◌≡◌, ◌<◌, ◌≤◌, Err, Some, slice_get};
+ghost use Rattle.std.specs.Option.{option_copied};
 ghost use Rattle.abs_codec.specs.Spelling.{Fits};
 ghost use Rattle.operators.specs.Operator.{IsGoodState};
 ghost use Rattle.core_model.specs.declared.fault.CoreFault.TheVariants as CoreFault;
@@ -14,6 +15,13 @@ use job_graph::{Graph, Role};
 use job_state::Attempt;
 use operators::Operator;
 use std::alloc::Global;
+
+/// The operator of a number.
+fn operator_of<O: Operator>(operators: &[O], number: u32) -> Option<&O>
+    ensures { option_copied result ≡ slice_get operators.now number }
+{
+    operators.get(number as usize)
+}
 
 /// A task works the record at the head of its input.
 pub(crate) fn work_task<O: Operator, X: Transactions>(
@@ -34,7 +42,7 @@ pub(crate) fn work_task<O: Operator, X: Transactions>(
             let Some(channel) = input_of(graph, task, input) else {
                 return Err(CoreFault::NoSuchTask);
             };
-            let Some(operator) = operators.get(number as usize) else {
+            let Some(operator) = operator_of(operators, number) else {
                 return Err(CoreFault::NoSuchTask);
             };
             operate(alloc, attempt, graph, operator, task, channel)

@@ -1,0 +1,18 @@
+use Rattle.core_model.proofs.CallCommits.{keeps_commit}
+use Rattle.core_plain.proofs.PlainCommits.{plain_commit}
+use Rattle.dataflow_core.proofs.engine.Core.commit.Goals as goal
+
+pub invariant_of-self-2 : goal.invariant_of-self-2
+invariant_of-self-2 g c =
+    rw c.leave.ensures.left
+    (keeps_commit _ _ _ _ c.self.invariant c.in-Some.attempt c.in-Some.is c.args.sink c.commit-outcome.new.attempt (g.X.Transactions.state c.commit-outcome.new.transactions) _ c.commit-outcome.result c.commit-outcome.ensures.ends).0
+
+pub returns-clause-goes : goal.returns-clause-goes
+returns-clause-goes g c =
+    rw (← c.self.view_is, c.leave.ensures.left)
+    (keeps_commit _ _ _ _ c.self.invariant c.in-Some.attempt c.in-Some.is c.args.sink c.commit-outcome.new.attempt (g.X.Transactions.state c.commit-outcome.new.transactions) 0 c.commit-outcome.result c.commit-outcome.ensures.ends).1
+
+pub returns-clause-stays : goal.returns-clause-stays
+returns-clause-stays g c =
+    rw (← c.self.view_is, c.leave.ensures.left)
+    (plain_commit _ _ _ _ c.in-Some.attempt c.commit-outcome.new.attempt 0 c.args.sink (g.X.Transactions.state c.commit-outcome.new.transactions) c.self.invariant c.in-Some.is c.commit-outcome.result c.commit-outcome.ensures.ends)

@@ -1,0 +1,26 @@
+use Rattle.core_model.proofs.CallCompletes.{keeps_complete}
+use Rattle.core_model.proofs.StoreComplete.{coordinator_completes}
+use Rattle.dataflow_core.proofs.Plain.{complete_stays}
+use Rattle.dataflow_core.proofs.Serving.{completes}
+use Rattle.dataflow_core.proofs.engine.Core.complete.Goals as goal
+
+pub complete-outcome-requires-clause-may : goal.complete-outcome-requires-clause-may
+complete-outcome-requires-clause-may g c = completes _ _ _ _ c.self.invariant c.in-Some.attempt c.in-Some.is
+
+pub complete-outcome-requires-clause-ready : goal.complete-outcome-requires-clause-ready
+complete-outcome-requires-clause-ready g c = λ n pending ready. coordinator_completes (c.in-Some.attempt).coordination n pending ready
+
+pub invariant_of-self-2 : goal.invariant_of-self-2
+invariant_of-self-2 g c =
+    rw c.leave.ensures.left
+    (keeps_complete _ _ _ _ c.self.invariant c.in-Some.attempt c.in-Some.is c.complete-outcome.new.attempt (g.S.SnapshotStore.state c.complete-outcome.new.store) _ (g.met.S.SnapshotStore.numbered c.complete-outcome.new.store) c.complete-outcome.result c.complete-outcome.ensures.ends).0
+
+pub returns-clause-goes : goal.returns-clause-goes
+returns-clause-goes g c =
+    rw (← c.self.view_is, c.leave.ensures.left)
+    (keeps_complete _ _ _ _ c.self.invariant c.in-Some.attempt c.in-Some.is c.complete-outcome.new.attempt (g.S.SnapshotStore.state c.complete-outcome.new.store) 0 (g.met.S.SnapshotStore.numbered c.complete-outcome.new.store) c.complete-outcome.result c.complete-outcome.ensures.ends).1
+
+pub returns-clause-stays : goal.returns-clause-stays
+returns-clause-stays g c =
+    rw (← c.self.view_is, c.leave.ensures.left)
+    (complete_stays _ _ _ _ c.self.invariant c.in-Some.attempt c.complete-outcome.new.attempt c.in-Some.is (g.S.SnapshotStore.state c.complete-outcome.new.store) c.complete-outcome.result c.complete-outcome.ensures.ends)

@@ -1,0 +1,28 @@
+use Rattle.std.proofs.Common.{refl}
+use Rattle.core_model.proofs.CallReads.{keeps_read}
+use Rattle.dataflow_core.proofs.Plain.{read_is_plain}
+use Rattle.dataflow_core.proofs.Serving.{partitions_there}
+use Rattle.dataflow_core.proofs.engine.Core.read.Goals as goal
+
+pub read_next-outcome-requires-clause-partitions : goal.read_next-outcome-requires-clause-partitions
+read_next-outcome-requires-clause-partitions g c = partitions_there _ _ _ _ c.self.invariant c.in-Some.attempt c.in-Some.is
+
+pub invariant_of-self-2 : goal.invariant_of-self-2
+invariant_of-self-2 g c =
+    rw (c.read_next-outcome.ensures.same, c.leave.ensures.left)
+    (keeps_read _ _ _ _ c.in-Some.attempt c.read_next-outcome.new.attempt _ c.args.task c.self.invariant c.in-Some.is c.read_next-outcome.result c.read_next-outcome.ensures.fits c.read_next-outcome.ensures.ends).0
+
+pub returns-clause-goes : goal.returns-clause-goes
+returns-clause-goes g c =
+    rw (← c.self.view_is, c.leave.ensures.left)
+    (keeps_read _ _ _ _ c.in-Some.attempt c.read_next-outcome.new.attempt 0 c.args.task c.self.invariant c.in-Some.is c.read_next-outcome.result c.read_next-outcome.ensures.fits c.read_next-outcome.ensures.ends).1
+
+pub returns-clause-plain : goal.returns-clause-plain
+returns-clause-plain g c =
+    rw (← c.self.view_is, c.read_next-outcome.ensures.same, c.leave.ensures.left, c.leave.ensures.answer)
+    (read_is_plain _ _ _ _ c.self.invariant c.in-Some.attempt c.read_next-outcome.new.attempt c.in-Some.is _ c.args.task c.read_next-outcome.result c.read_next-outcome.ensures.ends)
+
+pub returns-clause-ends : goal.returns-clause-ends
+returns-clause-ends g c =
+    rw (← c.self.view_is, c.in-Some.is, c.read_next-outcome.ensures.same, c.leave.ensures.left, c.leave.ensures.answer)
+    (c.read_next-outcome.new.attempt, c.read_next-outcome.ensures.ends, refl)

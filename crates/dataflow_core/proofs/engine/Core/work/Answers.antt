@@ -1,0 +1,18 @@
+use Rattle.core_model.proofs.CallOperates.{goes_on_of}
+use Rattle.dataflow_core.proofs.TaskCalls.{work_kept, work_is_plain}
+use Rattle.dataflow_core.proofs.engine.Core.work.Goals as goal
+
+pub invariant_of-self-2 : goal.invariant_of-self-2
+invariant_of-self-2 g c =
+    rw c.leave.ensures.left
+    (work_kept _ _ _ _ c.self.invariant c.in-Some.attempt c.work_task-outcome.new.attempt c.in-Some.is c.args.task c.args.input (g.X.Transactions.state c.work_task-outcome.new.transactions) c.work_task-outcome.result (rw (← c.deref.ensures.value) c.work_task-outcome.ensures.ends) _ (λ operator. goes_on_of _ _ _ _ g.met.O.Operator.fresh_is_good g.met.O.Operator.state_stays_good g.met.O.Operator.sent_fits operator) (g.met.X.Transactions.ordered c.work_task-outcome.new.transactions)).0
+
+pub returns-clause-goes : goal.returns-clause-goes
+returns-clause-goes g c =
+    rw (← c.self.view_is, c.leave.ensures.left)
+    (work_kept _ _ _ _ c.self.invariant c.in-Some.attempt c.work_task-outcome.new.attempt c.in-Some.is c.args.task c.args.input (g.X.Transactions.state c.work_task-outcome.new.transactions) c.work_task-outcome.result (rw (← c.deref.ensures.value) c.work_task-outcome.ensures.ends) 0 (λ operator. goes_on_of _ _ _ _ g.met.O.Operator.fresh_is_good g.met.O.Operator.state_stays_good g.met.O.Operator.sent_fits operator) (g.met.X.Transactions.ordered c.work_task-outcome.new.transactions)).1
+
+pub returns-clause-plain : goal.returns-clause-plain
+returns-clause-plain g c =
+    rw (← c.self.view_is, c.leave.ensures.left, c.leave.ensures.answer)
+    (work_is_plain _ _ _ _ c.self.invariant c.in-Some.attempt c.work_task-outcome.new.attempt c.in-Some.is c.args.task c.args.input (g.X.Transactions.state c.work_task-outcome.new.transactions) c.work_task-outcome.result (rw (← c.deref.ensures.value) c.work_task-outcome.ensures.ends) _)
