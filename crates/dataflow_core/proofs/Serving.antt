@@ -1,5 +1,5 @@
 -- What a running job gives its calls.
-use Rattle.std.proofs.Common.{◌≡◌, ◌<◌, Some, None, slice_get, length, ℕ, List, sym, subst, ◌∙◌, arith}
+use Rattle.std.proofs.Common.{◌≡◌, ◌<◌, Some, None, Result, Ok, Err, OnOk, slice_get, length, ℕ, true, List, sym, subst, ◌∙◌, arith}
 use Rattle.std.specs.declared.cmp.Ordering.{Ordering}
 use Rattle.std.proofs.lemmas.Option.{slice_get_within}
 use Rattle.commit_sink.specs.Ledger.{Ledger, open_refusal}
@@ -13,9 +13,13 @@ use Rattle.job_state.specs.declared.holding.Holding.TheVariants as holds
 use Rattle.snapshot_store.specs.Store.{complete_refusal}
 use Rattle.core_calls.proofs.Holdings.{none_past}
 use Rattle.core_calls.proofs.Numbers.{source_within, operator_within, sink_within}
+use Rattle.core_model.specs.Commits.{EndsCommit}
 use Rattle.core_model.specs.Keeps.{Keeps}
+use Rattle.core_model.specs.LastCommitted.{committed_of, complete_numbers}
+use Rattle.core_model.specs.declared.fault.CoreFault.{CoreFault}
 use Rattle.core_model.specs.Language.{Language}
 use Rattle.core_model.specs.State.{State}
+use Rattle.core_model.proofs.CallLasts.{commits_reach}
 use Rattle.core_model.proofs.CallSteps.{shape_at, runs_at}
 use Rattle.core_model.proofs.LedgerSinks.{open_not_refused}
 use Rattle.core_model.proofs.StoreComplete.{may_complete}
@@ -40,6 +44,12 @@ module _ {R K S O : Type 0} (lang : Language R K S O) (RecordFits : R → Type 0
   pub completes : (n : ℕ) → h.coordination.pending ≡ Some n → IsReady h.coordination → complete_refusal s.stored n ≡ None
   completes n pending ready =
       may_complete lang s.stored h n (runs_pending lang s h (runs_at lang RecordFits IsGood s keeps h is) n pending) ready ((shape_at lang RecordFits IsGood s keeps h is).acked ∙ sym keeps.stored_tasks)
+
+  -- a commit at Ok leaves as many committed transactions as there are complete checkpoints
+  module _ (fresh : s.is_fresh ≡ true) (subtask : ℕ) (k : Held R K S) (ledger : Ledger) where
+    pub reaches : (result : Result Unit CoreFault) → EndsCommit s.graph subtask h k s.ledger ledger result → OnOk result (length (committed_of ledger subtask) ≡ length (complete_numbers s.stored))
+    reaches (Ok u) ends = commits_reach lang RecordFits IsGood s keeps fresh h is subtask k ledger u ends
+    reaches (Err fault) ends = tt
 
 module _ {R K S O : Type 0} (cmp : K → K → Ordering) (RecordFits : R → Type 0) (IsGood : O → S → Type 0) (graph : Expanded) (operators : List O) (ledger : Ledger) (h : Held R K S) (serves : Serves cmp RecordFits IsGood graph operators ledger h) (task : ℕ) where
   -- a task has its place among the copies

@@ -1,4 +1,5 @@
 use Rattle.core_model.proofs.CallCommits.{keeps_commit}
+use Rattle.dataflow_core.proofs.Serving.{reaches}
 use Rattle.core_plain.proofs.PlainCommits.{plain_commit}
 use Rattle.dataflow_core.proofs.engine.Core.commit.Goals as goal
 
@@ -16,3 +17,7 @@ pub returns-clause-stays : goal.returns-clause-stays
 returns-clause-stays g c =
     rw (← c.self.view_is, c.leave.ensures.left)
     (plain_commit _ _ _ _ c.in-Some.attempt c.commit-outcome.new.attempt 0 c.args.sink (g.X.Transactions.state c.commit-outcome.new.transactions) c.self.invariant c.in-Some.is c.commit-outcome.result c.commit-outcome.ensures.ends)
+
+pub returns-clause-reaches : goal.returns-clause-reaches
+returns-clause-reaches g c = λ fresh.
+    rw c.leave.ensures.answer (reaches _ _ _ _ c.self.invariant c.in-Some.attempt c.in-Some.is fresh c.args.sink c.commit-outcome.new.attempt (g.X.Transactions.state c.commit-outcome.new.transactions) c.commit-outcome.result c.commit-outcome.ensures.ends)
