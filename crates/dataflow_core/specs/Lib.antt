@@ -1,3 +1,4 @@
 pub mod Tasks
 pub mod Running
+pub mod Rows
 pub mod Simple

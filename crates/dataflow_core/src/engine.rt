@@ -52,7 +52,7 @@ pub struct Core<O: Operator, S: SnapshotStore, X: Transactions, P: Partitions<Re
     store: S,
     transactions: X,
     attempt: Option<Attempt<O>>,
-    is_fresh: bool,
+    pub(crate) is_fresh: bool,
 }
 
 impl<O: Operator, S: SnapshotStore, X: Transactions, P: Partitions<Record = O::Record>> Model

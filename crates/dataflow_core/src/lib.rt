@@ -6,6 +6,7 @@
 #![tactic(auto)]
 
 mod engine;
+mod rows;
 mod simple;
 mod tasks;
 
