@@ -323,3 +323,7 @@ module _ (old : Ledger) (subtask : ℕ) (ordered : IsOrdered old) (unsettled : u
 
 pub begin_settled : (old new : Ledger) (subtask : ℕ) → IsOrdered old → unsettled_of old subtask ≡ [] → new ≡ begun old subtask → BeginsSettled subtask old new
 begin_settled old new subtask ordered unsettled e = subst (BeginsSettled subtask old) (sym e) (begins_now old subtask ordered unsettled)
+
+-- the first of those that are not settled is there
+pub first_there : (l : Ledger) (subtask : ℕ) (e : ℕ × Option ℕ) (more : List (ℕ × Option ℕ)) → unsettled_of l subtask ≡ e ∷ more → (t : Transaction) × (transaction_at l e.0 ≡ Some t)
+first_there l subtask e more unsettled = ((first l subtask [] e more unsettled).was, at_first l subtask [] e more unsettled)

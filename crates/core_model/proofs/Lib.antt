@@ -51,3 +51,9 @@ pub mod CallExact
 pub mod Turns
 pub mod RestartRows
 pub mod Starts
+pub mod RestartSinks
+pub mod RestartHeld
+pub mod CallRestarts
+pub mod RestartGoes
+pub mod RestartBase
+pub mod RestartSteps

@@ -1,16 +1,16 @@
 -- A commit on any ledger: it adds to the committed rows, and leaves the other subtasks' shares.
-use Rattle.std.proofs.Common.{◌≡◌, ◌⊎◌, ◌<◌, ◌+◌, ◌-◌, ◌==◌, inl, inr, if◌then◌else◌, All, Option, Some, None, slice_get, slice_set, length, map, flat_map, ℕ, suc, pred, Bool, false, List, [], ◌∷◌, ◌++◌, refl, sym, ap, ap₂, ◌∙◌, subst, append-nil, arith}
+use Rattle.std.proofs.Common.{◌≡◌, ◌⊎◌, ◌+◌, ◌==◌, inl, inr, if◌then◌else◌, All, Option, Some, None, slice_get, length, map, flat_map, ℕ, suc, pred, Bool, false, List, [], ◌∷◌, ◌++◌, refl, sym, ap, ap₂, ◌∙◌, subst, append-nil, arith}
 use Rattle.std.proofs.lemmas.Bool.{ne_eqb}
 use Rattle.std.proofs.lemmas.Bool.Decides.{eqb_tells}
 use Rattle.std.proofs.lemmas.List.{length-map, length-append, nil_from_length}
 use Rattle.std.proofs.lemmas.List.Concat.{flat_map-append}
 use Rattle.std.proofs.lemmas.List.Elements.{All-head, All-tail}
-use Rattle.std.proofs.lemmas.Option.{none-some, same_Some}
+use Rattle.std.proofs.lemmas.Option.{none-some}
 use Rattle.checkpoint_model.specs.Book as book
 use Rattle.checkpoint_model.specs.Book.{Entry, numbered, pre_at, open_at, committed_at}
 use Rattle.checkpoint_model.specs.Durable as durable
 use Rattle.checkpoint_model.specs.Durable.{joined, numbers_of, transactions_of}
-use Rattle.commit_sink.specs.Ledger.{Ledger, Transaction, IsOrdered, transaction_at, after_commit, commit_refusal, if_pre_committed, committed_rows}
+use Rattle.commit_sink.specs.Ledger.{Ledger, Transaction, IsOrdered, transaction_at, after_commit, commit_refusal, if_pre_committed}
 use Rattle.commit_sink.specs.Sink.{Sinking}
 use Rattle.commit_sink.specs.declared.transactions.Progress.{Progress}
 use Rattle.commit_sink.specs.declared.transactions.Progress.TheVariants.{Open, PreCommitted, Committed, Aborted}
@@ -21,9 +21,8 @@ use Rattle.core_model.specs.Keeps.{SinkIn}
 use Rattle.core_model.specs.View.{entry_of, book_of}
 use Rattle.core_model.proofs.LedgerLists.{numbered_split}
 use Rattle.core_model.proofs.LedgerPlaces.{Writes, writes, ordered_at, entry_at, same_at}
-use Rattle.core_model.proofs.LedgerShares.{share, InBook, in_book, as_is, as_pre, pre_found, pre_not_committed}
+use Rattle.core_model.proofs.LedgerShares.{share, InBook, in_book, as_is, pre_found, pre_not_committed}
 use Rattle.core_model.proofs.LedgerCalls.{committed_one, with_committed, commit_refused, commit_now, commit_stays}
-use Rattle.core_model.proofs.LedgerRows.{rows_in}
 use Rattle.core_model.proofs.LedgerSinks.{others_keep}
 
 -- ---- what may be committed

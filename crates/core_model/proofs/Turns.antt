@@ -1,5 +1,5 @@
 -- Steps that are made one after another.
-use Rattle.std.proofs.Common.{◌≡◌, ◌+◌, Some, slice_get, take, drop, length, ℕ, zero, suc, List, [], ◌∷◌, ◌++◌, refl, sym, ap, ◌∙◌, subst, append-nil, append_assoc, arith}
+use Rattle.std.proofs.Common.{◌≡◌, ◌+◌, Some, slice_get, take, drop, ℕ, zero, suc, List, [], ◌∷◌, ◌++◌, refl, sym, ap, ◌∙◌, subst, append-nil, arith}
 use Rattle.std.proofs.lemmas.Option.{none-some, same_Some}
 use Rattle.core_model.specs.Restart.{InTurn, UpTo}
 

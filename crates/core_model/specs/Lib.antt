@@ -10,3 +10,4 @@ pub mod CallLaws
 pub mod Commits
 pub mod CheckpointLaws
 pub mod Restart
+pub mod RestartLaws

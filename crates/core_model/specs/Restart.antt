@@ -3,7 +3,6 @@ use Rattle.std.specs.Prelude.{◌≡◌, ◌≢◌, ◌⊎◌, ◌+◌, ◌<◌,
 use Rattle.abs_codec.specs.Entries.{value_at}
 use Rattle.abs_codec.specs.Reading.{whole_of}
 use Rattle.commit_sink.specs.Ledger.{Ledger, IsOrdered, after_commit, commit_refusal, aborted, abort_refusal, begun, unsettled_of}
-use Rattle.commit_sink.specs.Sink.{Sinking}
 use Rattle.job_graph.specs.Expanded.{Expanded}
 use Rattle.job_graph.specs.declared.role.Role.{Role}
 use Rattle.job_graph.specs.declared.role.Role.TheVariants as role

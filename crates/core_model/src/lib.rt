@@ -10,6 +10,7 @@ mod start;
 ghost use Rattle.core_model.specs.Language.{Language};
 ghost use Rattle.core_model.specs.CallLaws.{ReadsKeepEngines, InjectsKeepEngines, OperatesKeepEngines, OperatorCopiesKeepEngines, PutsOutKeepEngines, SinkCopiesKeepEngines};
 ghost use Rattle.core_model.specs.CheckpointLaws.{TriggersKeepEngines, PersistsKeepEngines, CompletesKeepEngines, CommitsKeepEngines, CommitsReachEveryCheckpoint, FailuresKeepEngines, FreshEnginesAreExact, FreshEnginesCommitOutputs, StepsWithdrawNoRow};
+ghost use Rattle.core_model.specs.RestartLaws.{RestartsKeepEngines, RestartsWithdrawNoRow, FreshRestartsAreSteps};
 ghost use Rattle.core_model.specs.Laws.{ReadsAreSteps, OperatesAreSteps, InjectsAreSteps, CommittedAreRows, AppendsKeepSinks, CopiesKeepSinks, CommitsKeepSinks};
 
 pub use fault::CoreFault;
@@ -123,4 +124,19 @@ pub fn fresh_engines_commit_outputs<R, K, S, O>()
 /// No step withdraws a committed row.
 pub fn steps_withdraw_no_row<R, K, S, O>()
     ensures { (lang : Language R K S O) → StepsWithdrawNoRow lang }
+{}
+
+/// A restart keeps what every engine keeps, however it ends.
+pub fn restarts_keep_engines<R, K, S, O>()
+    ensures { (lang : Language R K S O) → RestartsKeepEngines lang }
+{}
+
+/// It withdraws no committed row, on any engine.
+pub fn restarts_withdraw_no_row<R, K, S, O>()
+    ensures { (lang : Language R K S O) → RestartsWithdrawNoRow lang }
+{}
+
+/// On a fresh engine it is steps of the model.
+pub fn fresh_restarts_are_steps<R, K, S, O>()
+    ensures { (lang : Language R K S O) → FreshRestartsAreSteps lang }
 {}

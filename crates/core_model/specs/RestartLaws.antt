@@ -1,0 +1,44 @@
+-- A restart keeps what every engine keeps, withdraws no committed row, and on a fresh engine is steps of the checkpoint model's engine.
+use Rattle.std.specs.Prelude.{◌≡◌, ℕ, Bool, true, Option, Some, None, Result, Ok, Err}
+use Rattle.commit_sink.specs.Ledger.{Ledger, committed_rows}
+use Rattle.dataflow_model.specs.Graph.{Begins}
+use Rattle.job_state.specs.Held.{Held}
+use Rattle.core_model.specs.declared.fault.CoreFault.{CoreFault}
+use Rattle.core_model.specs.CallLaws.{Passes, IsGoodBy}
+use Rattle.core_model.specs.Goes.{Goes}
+use Rattle.core_model.specs.Keeps.{Keeps}
+use Rattle.core_model.specs.Language.{Language}
+use Rattle.core_model.specs.Restart.{EndsRestart}
+use Rattle.core_model.specs.State.{State}
+
+module _ {R K S : Type 0} where
+  -- what a job that was down holds after a restart
+  abbrev pub held_by : Result (Option ℕ × Held R K S) CoreFault → Option (Held R K S)
+  held_by (Ok x) = Some x.1
+  held_by (Err f) = None
+
+module _ {R K S O : Type 0} where
+  -- the engine after a restart
+  abbrev pub restarted : State O R K S → Ledger → ℕ → Result (Option ℕ × Held R K S) CoreFault → State O R K S
+  restarted s ledger faults result = record s { held = held_by result; ledger = ledger; faults = faults }
+
+  -- a restart, of an engine that keeps what every engine keeps and is down
+  pub record IsRestart (lang : Language R K S O) (KeyFits : K → Type 0) (RecordFits : R → Type 0) (IsGood : O → S → Type 0) (s : State O R K S) (ledger : Ledger) (result : Result (Option ℕ × Held R K S) CoreFault) : Type 0 where
+    pub keeps : Keeps lang RecordFits IsGood s
+    pub down : s.held ≡ None
+    pub ends : EndsRestart lang KeyFits IsGood s.operators s.partitions s.stored s.graph s.ledger ledger result
+
+  abbrev pub RestartsKeepEngines : Language R K S O → Type 0
+  RestartsKeepEngines lang =
+      (fits : R → Bool) (key_fits : K → Bool) (state_fits : S → Bool) (suits : O → S → Bool) (s : State O R K S) (ledger : Ledger) (faults : ℕ) (result : Result (Option ℕ × Held R K S) CoreFault) →
+      IsRestart lang (Passes key_fits) (Passes fits) (IsGoodBy state_fits suits) s ledger result → Keeps lang (Passes fits) (IsGoodBy state_fits suits) (restarted s ledger faults result)
+
+  abbrev pub RestartsWithdrawNoRow : Language R K S O → Type 0
+  RestartsWithdrawNoRow lang =
+      (fits : R → Bool) (key_fits : K → Bool) (state_fits : S → Bool) (suits : O → S → Bool) (s : State O R K S) (ledger : Ledger) (result : Result (Option ℕ × Held R K S) CoreFault) (subtask : ℕ) →
+      IsRestart lang (Passes key_fits) (Passes fits) (IsGoodBy state_fits suits) s ledger result → Begins (committed_rows s.ledger subtask) (committed_rows ledger subtask)
+
+  abbrev pub FreshRestartsAreSteps : Language R K S O → Type 0
+  FreshRestartsAreSteps lang =
+      (fits : R → Bool) (key_fits : K → Bool) (state_fits : S → Bool) (suits : O → S → Bool) (s : State O R K S) (ledger : Ledger) (faults : ℕ) (result : Result (Option ℕ × Held R K S) CoreFault) →
+      IsRestart lang (Passes key_fits) (Passes fits) (IsGoodBy state_fits suits) s ledger result → s.is_fresh ≡ true → Goes lang s (restarted s ledger faults result)
