@@ -57,3 +57,4 @@ pub mod CallRestarts
 pub mod RestartGoes
 pub mod RestartBase
 pub mod RestartSteps
+pub mod RestartCut

@@ -1,15 +1,22 @@
 -- A restart keeps what every engine keeps, withdraws no committed row, and on a fresh engine is steps of the checkpoint model's engine.
-use Rattle.std.specs.Prelude.{◌≡◌, ℕ, Bool, true, Option, Some, None, Result, Ok, Err}
+use Rattle.std.specs.Prelude.{◌≡◌, ℕ, Bool, true, length, slice_get, Option, Some, None, Result, Ok, Err}
+use Rattle.checkpoint_model.specs.Held.{held_run, held_start}
+use Rattle.checkpoint_model.specs.Seen.{IsSeenRestored}
 use Rattle.commit_sink.specs.Ledger.{Ledger, committed_rows}
 use Rattle.dataflow_model.specs.Graph.{Begins}
+use Rattle.dataflow_model.specs.Machine.{Configuration}
+use Rattle.job_graph.specs.declared.role.Role.TheVariants as role
 use Rattle.job_state.specs.Held.{Held}
+use Rattle.snapshot_store.specs.Store.{IsLatest}
 use Rattle.core_model.specs.declared.fault.CoreFault.{CoreFault}
 use Rattle.core_model.specs.CallLaws.{Passes, IsGoodBy}
 use Rattle.core_model.specs.Goes.{Goes}
 use Rattle.core_model.specs.Keeps.{Keeps}
 use Rattle.core_model.specs.Language.{Language}
+use Rattle.core_model.specs.LastCommitted.{committed_of, complete_numbers}
 use Rattle.core_model.specs.Restart.{EndsRestart}
 use Rattle.core_model.specs.State.{State}
+use Rattle.core_model.specs.View.{run_of, job_of, devices_of}
 
 module _ {R K S : Type 0} where
   -- what a job that was down holds after a restart
@@ -42,3 +49,18 @@ module _ {R K S O : Type 0} where
   FreshRestartsAreSteps lang =
       (fits : R → Bool) (key_fits : K → Bool) (state_fits : S → Bool) (suits : O → S → Bool) (s : State O R K S) (ledger : Ledger) (faults : ℕ) (result : Result (Option ℕ × Held R K S) CoreFault) →
       IsRestart lang (Passes key_fits) (Passes fits) (IsGoodBy state_fits suits) s ledger result → s.is_fresh ≡ true → Goes lang s (restarted s ledger faults result)
+
+module _ {R K S O : Type 0} where
+  -- A job that restarted goes on from the configuration that the parts of the last complete checkpoint say, or from the start where there is
+  -- none; its channels are empty, no checkpoint is pending, and each sink has committed once for each complete checkpoint.
+  pub record GoesOnFromCut (lang : Language R K S O) (s : State O R K S) (last : Option ℕ) (k : Held R K S) : Type 0 where
+    pub base : Configuration R K S
+    pub restored : IsSeenRestored (job_of lang s) (devices_of lang s) base
+    pub holds : held_run (run_of lang.cmp s.graph k) ≡ held_start base
+    pub latest : IsLatest s.stored last
+    pub committed : (task subtask : ℕ) → slice_get s.graph.tasks task ≡ Some (role.Sink subtask) → length (committed_of s.ledger subtask) ≡ length (complete_numbers s.stored)
+
+  abbrev pub FreshRestartsGiveTheCut : Language R K S O → Type 0
+  FreshRestartsGiveTheCut lang =
+      (fits : R → Bool) (key_fits : K → Bool) (state_fits : S → Bool) (suits : O → S → Bool) (s : State O R K S) (ledger : Ledger) (faults : ℕ) (last : Option ℕ) (k : Held R K S) →
+      IsRestart lang (Passes key_fits) (Passes fits) (IsGoodBy state_fits suits) s ledger (Ok (last, k)) → s.is_fresh ≡ true → GoesOnFromCut lang (restarted s ledger faults (Ok (last, k))) last k

@@ -1,0 +1,45 @@
+-- A fresh engine goes on from the cut of its last complete checkpoint.
+use Rattle.std.proofs.Common.{◌≡◌, Option, Some, None, Ok, slice_get, ℕ, true, [], refl, sym, ◌∙◌}
+use Rattle.commit_sink.specs.Ledger.{Ledger}
+use Rattle.commit_sink.specs.Sink.{Sinking}
+use Rattle.job_graph.specs.declared.role.Role.TheVariants as role
+use Rattle.job_state.specs.Held.{Held}
+use Rattle.job_state.specs.declared.holding.Holding.TheVariants as holds
+use Rattle.core_model.specs.Keeps.{Keeps}
+use Rattle.core_model.specs.Language.{Language}
+use Rattle.core_model.specs.Restart.{EndsRestart}
+use Rattle.core_model.specs.RestartLaws.{restarted, GoesOnFromCut}
+use Rattle.core_model.specs.State.{State}
+use Rattle.core_model.proofs.CallGoes.{shape_of}
+use Rattle.core_model.proofs.CallLasts.{committed_all}
+use Rattle.core_model.proofs.CallRestarts.{keeps_restart}
+use Rattle.core_model.proofs.LedgerRows.{count_in}
+use Rattle.core_model.proofs.RestartBase.{base, seen_restored}
+use Rattle.core_model.proofs.RestartHeld.{leaves}
+use Rattle.core_model.proofs.RestartSteps.{restart_goes, now_runs}
+
+module _ {R K S O : Type 0} (lang : Language R K S O) (KeyFits : K → Type 0) (RecordFits : R → Type 0) (IsGood : O → S → Type 0) (s : State O R K S) (keeps : Keeps lang RecordFits IsGood s) (down : s.held ≡ None) (fresh : s.is_fresh ≡ true)
+    (ledger : Ledger) (n : ℕ) (last : Option ℕ) (k : Held R K S) (ends : EndsRestart lang KeyFits IsGood s.operators s.partitions s.stored s.graph s.ledger ledger (Ok (last, k))) where
+  abbrev new : State O R K S
+  new = restarted s ledger n (Ok (last, k))
+
+  kept : Keeps lang RecordFits IsGood new
+  kept = keeps_restart lang KeyFits RecordFits IsGood s keeps ledger n (Ok (last, k)) ends (λ f. restart_goes lang KeyFits RecordFits IsGood s keeps down f ledger n (Ok (last, k)) ends)
+
+  -- each sink holds its new transaction, and nothing is pending
+  sink_there : (task subtask : ℕ) → slice_get s.graph.tasks task ≡ Some (role.Sink subtask) → (sink : Sinking) × (slice_get k.tasks task ≡ Some (holds.Sink sink)) × (sink.pending ≡ [])
+  sink_there task subtask is =
+      let there = (shape_of lang RecordFits IsGood new kept k refl).forms task (role.Sink subtask) is in
+      let settled = (leaves lang KeyFits IsGood s.operators s.partitions s.stored s.graph s.ledger ledger last ends.starts ends.are k.tasks ends.take keeps.expanded keeps.ordered).settled in
+      (there.0, there.1, (settled task subtask there.0 is there.1).1)
+
+  pub gives_cut : GoesOnFromCut lang new last k
+  gives_cut = record {
+    base = base lang KeyFits IsGood s keeps.expanded keeps.operators keeps.numbered s.ledger ledger last ends.starts ends.are k.tasks ends.take;
+    restored = seen_restored lang KeyFits IsGood s keeps.expanded keeps.operators keeps.numbered s.ledger ledger last ends.starts ends.are k.tasks ends.take;
+    holds = now_runs lang KeyFits RecordFits IsGood s keeps down fresh ledger n last k ends;
+    latest = ends.are.latest;
+    committed = λ task subtask is.
+        let sink = sink_there task subtask is in
+        sym (count_in ledger subtask kept.ordered) ∙ committed_all lang RecordFits IsGood new kept fresh k refl task subtask is sink.0 sink.1 sink.2;
+  }
