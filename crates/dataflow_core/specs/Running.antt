@@ -4,7 +4,7 @@ use Rattle.job_state.specs.Held.{Held}
 use Rattle.core_model.specs.Calls.{left_by}
 use Rattle.core_model.specs.State.{State}
 use Rattle.core_model.specs.declared.fault.CoreFault.{CoreFault}
-use Rattle.core_model.specs.declared.fault.CoreFault.TheVariants.{NotRunning}
+use Rattle.core_model.specs.declared.fault.CoreFault.TheVariants.{NotRunning, NotReady}
 
 module _ {O R K S T : Type 0} (old new : State O R K S) (Ends : Held R K S → Held R K S → Result T CoreFault → Type 0) (result : Result T CoreFault) where
   -- the call is refused where the job is down
@@ -27,3 +27,15 @@ module _ {O R K S T : Type 0} (old new : State O R K S) (Ends : Held R K S → H
 abbrev pub done_by : {T : Type 0} → Result T CoreFault → Result Unit CoreFault
 done_by (Ok v) = Ok tt
 done_by (Err fault) = Err fault
+
+module _ {O R K S : Type 0} where
+  -- the number alone of what a restart made
+  abbrev pub number_of : Result (Option ℕ × Held R K S) CoreFault → Result (Option ℕ) CoreFault
+  number_of (Ok made) = Ok made.0
+  number_of (Err fault) = Err fault
+
+  -- How a restart ends: it is refused while the job runs, and it leaves all but the attempt and the transactions.
+  abbrev pub OnDown : State O R K S → State O R K S → (Result (Option ℕ × Held R K S) CoreFault → Type 0) → Result (Option ℕ) CoreFault → Type 0
+  OnDown old new Ends result =
+      MatchOption old.held ((made : Result (Option ℕ × Held R K S) CoreFault) × Ends made × (result ≡ number_of made) × (new ≡ record old { held = held_by made; ledger = new.ledger; faults = new.faults }))
+      (λ h. (result ≡ Err NotReady) × (new ≡ old))

@@ -24,9 +24,11 @@ ghost use Rattle.core_model.specs.View.{job_of, devices_of};
 ghost use Rattle.line_core.specs.Lines.{IsLine, CommitsABeginning};
 ghost use Rattle.line_model.specs.Line.{applied};
 ghost use Rattle.core_plain.specs.Plain.{StepsIfOk, Stays};
+ghost use Rattle.core_model.specs.Restart.{EndsRestart};
+ghost use Rattle.dataflow_model.specs.Graph.{Begins};
 ghost use Rattle.dataflow_model.specs.Machine as machine;
 ghost use Rattle.dataflow_core.specs.Tasks.{EndsWork, EndsBarrier};
-ghost use Rattle.dataflow_core.specs.Running.{done_by, OnAttempt, OnStore, OnTransactions};
+ghost use Rattle.dataflow_core.specs.Running.{done_by, OnDown, OnAttempt, OnStore, OnTransactions};
 
 use crate::tasks::{take_barrier, work_task};
 use alignment::Effect;
@@ -36,6 +38,7 @@ use core_model::CoreFault;
 use job_graph::Graph;
 use job_state::Attempt;
 use operators::Operator;
+use recovery::restarted;
 use snapshot_store::SnapshotStore;
 use source_log::{Partitions, SourceFault};
 use std::alloc::Global;
@@ -186,6 +189,36 @@ impl<O: Operator, S: SnapshotStore, X: Transactions, P: Partitions<Record = O::R
         }
         self.attempt = None;
         Ok(())
+    }
+
+    /// The next attempt runs from the last complete checkpoint, whose number is answered, or anew where there is none. Each sink has committed the transactions
+    /// that its part names, all others that were open or pre-committed are aborted, and a new one is open. A refused restart leaves the job down; transactions
+    /// may be settled in part, and the next one does the rest.
+    pub fn restart(&mut self) -> Result<Option<u64>, CoreFault>
+        ensures ends { OnDown self.old self.new (EndsRestart (language O.meaning O.Key.cmp O.Record.spelling O.Record.reading O.Key.reading O.State.reading) (Fits O.Key.HasSpelling O.Key.spelling) (IsGoodState (Fits O.State.HasSpelling O.State.spelling) O.Suits) self.old.operators self.old.partitions self.old.stored self.old.graph self.old.ledger self.new.ledger) result }
+        ensures goes { self.old.is_fresh ≡ true → Goes (language O.meaning O.Key.cmp O.Record.spelling O.Record.reading O.Key.reading O.State.reading) self.old self.new }
+        ensures begins { (subtask : ℕ) → Begins (committed_rows self.old.ledger subtask) (committed_rows self.new.ledger subtask) }
+        ensures good { self.old.is_fresh ≡ true → result ≢ Err CoreFault.BadSnapshot }
+        ensures counted { result ≡ Err CoreFault.Device → self.old.faults < self.new.faults }
+    {
+        if self.attempt.is_some() {
+            return Err(CoreFault::NotReady);
+        }
+        let outcome = restarted(
+            self.alloc,
+            &self.graph,
+            &self.operators,
+            &self.log,
+            &mut self.store,
+            &mut self.transactions,
+        );
+        match outcome {
+            Ok((last, attempt)) => {
+                self.attempt = Some(attempt);
+                Ok(last)
+            }
+            Err(fault) => Err(fault),
+        }
     }
 
     /// Source `task` sends its next record.
