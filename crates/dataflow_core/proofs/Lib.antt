@@ -2,5 +2,6 @@ pub mod Alone
 pub mod Appending
 pub mod Opening
 pub mod Plain
+pub mod Raising
 pub mod Serving
 pub mod TaskCalls

@@ -1,7 +1,8 @@
 -- How a call ends that wants a running job: `Ends` says it of what the job holds before and after. A failed device takes the job down.
-use Rattle.std.specs.Prelude.{◌≡◌, Some, Result, Ok, Err, MatchOption}
+use Rattle.std.specs.Prelude.{◌≡◌, ℕ, Option, Some, Result, Ok, Err, MatchOption}
 use Rattle.job_state.specs.Held.{Held}
 use Rattle.core_model.specs.Calls.{left_by}
+use Rattle.core_model.specs.RestartLaws.{held_by}
 use Rattle.core_model.specs.State.{State}
 use Rattle.core_model.specs.declared.fault.CoreFault.{CoreFault}
 use Rattle.core_model.specs.declared.fault.CoreFault.TheVariants.{NotRunning, NotReady}
@@ -28,14 +29,18 @@ abbrev pub done_by : {T : Type 0} → Result T CoreFault → Result Unit CoreFau
 done_by (Ok v) = Ok tt
 done_by (Err fault) = Err fault
 
-module _ {O R K S : Type 0} where
-  -- the number alone of what a restart made
-  abbrev pub number_of : Result (Option ℕ × Held R K S) CoreFault → Result (Option ℕ) CoreFault
-  number_of (Ok made) = Ok made.0
-  number_of (Err fault) = Err fault
+-- the number alone of what a restart made
+abbrev pub number_of : {A : Type 0} → Result (Option ℕ × A) CoreFault → Result (Option ℕ) CoreFault
+number_of (Ok made) = Ok made.0
+number_of (Err fault) = Err fault
 
-  -- How a restart ends: it is refused while the job runs, and it leaves all but the attempt and the transactions.
-  abbrev pub OnDown : State O R K S → State O R K S → (Result (Option ℕ × Held R K S) CoreFault → Type 0) → Result (Option ℕ) CoreFault → Type 0
-  OnDown old new Ends result =
-      MatchOption old.held ((made : Result (Option ℕ × Held R K S) CoreFault) × Ends made × (result ≡ number_of made) × (new ≡ record old { held = held_by made; ledger = new.ledger; faults = new.faults }))
-      (λ h. (result ≡ Err NotReady) × (new ≡ old))
+-- what is held after a restart: what it made, or else what was held before
+abbrev pub raised : {A : Type 0} → Result (Option ℕ × A) CoreFault → Option A → Option A
+raised (Ok made) held = Some made.1
+raised (Err fault) held = held
+
+-- How a restart ends: it is refused while the job runs, and it leaves all but the attempt and the transactions.
+abbrev pub OnDown : {O R K S : Type 0} → State O R K S → State O R K S → (Result (Option ℕ × Held R K S) CoreFault → Type 0) → Result (Option ℕ) CoreFault → Type 0
+OnDown {O} {R} {K} {S} old new Ends result =
+    MatchOption old.held ((made : Result (Option ℕ × Held R K S) CoreFault) × Ends made × (result ≡ number_of made) × (new ≡ record old { held = held_by made; ledger = new.ledger; faults = new.faults }))
+    (λ h. (result ≡ Err NotReady) × (new ≡ old))

@@ -28,7 +28,7 @@ ghost use Rattle.core_model.specs.Restart.{EndsRestart};
 ghost use Rattle.dataflow_model.specs.Graph.{Begins};
 ghost use Rattle.dataflow_model.specs.Machine as machine;
 ghost use Rattle.dataflow_core.specs.Tasks.{EndsWork, EndsBarrier};
-ghost use Rattle.dataflow_core.specs.Running.{done_by, OnDown, OnAttempt, OnStore, OnTransactions};
+ghost use Rattle.dataflow_core.specs.Running.{done_by, number_of, raised, OnDown, OnAttempt, OnStore, OnTransactions};
 
 use crate::tasks::{take_barrier, work_task};
 use alignment::Effect;
@@ -110,6 +110,23 @@ fn leave<A: Drop, T: Drop>(
             Err(CoreFault::Device)
         }
         other => other,
+    }
+}
+
+/// Takes the job up where a restart has made an attempt.
+fn raise<A: Drop>(
+    attempt: &mut Option<A>,
+    outcome: Result<(Option<u64>, A), CoreFault>,
+) -> Result<Option<u64>, CoreFault>
+    ensures number { result ≡ number_of outcome }
+    ensures holds { attempt.new ≡ raised outcome attempt.old }
+{
+    match outcome {
+        Ok((last, made)) => {
+            *attempt = Some(made);
+            Ok(last)
+        }
+        Err(fault) => Err(fault),
     }
 }
 
@@ -198,7 +215,6 @@ impl<O: Operator, S: SnapshotStore, X: Transactions, P: Partitions<Record = O::R
         ensures ends { OnDown self.old self.new (EndsRestart (language O.meaning O.Key.cmp O.Record.spelling O.Record.reading O.Key.reading O.State.reading) (Fits O.Key.HasSpelling O.Key.spelling) (IsGoodState (Fits O.State.HasSpelling O.State.spelling) O.Suits) self.old.operators self.old.partitions self.old.stored self.old.graph self.old.ledger self.new.ledger) result }
         ensures goes { self.old.is_fresh ≡ true → Goes (language O.meaning O.Key.cmp O.Record.spelling O.Record.reading O.Key.reading O.State.reading) self.old self.new }
         ensures begins { (subtask : ℕ) → Begins (committed_rows self.old.ledger subtask) (committed_rows self.new.ledger subtask) }
-        ensures good { self.old.is_fresh ≡ true → result ≢ Err CoreFault.BadSnapshot }
         ensures counted { result ≡ Err CoreFault.Device → self.old.faults < self.new.faults }
     {
         if self.attempt.is_some() {
@@ -212,13 +228,7 @@ impl<O: Operator, S: SnapshotStore, X: Transactions, P: Partitions<Record = O::R
             &mut self.store,
             &mut self.transactions,
         );
-        match outcome {
-            Ok((last, attempt)) => {
-                self.attempt = Some(attempt);
-                Ok(last)
-            }
-            Err(fault) => Err(fault),
-        }
+        raise(&mut self.attempt, outcome)
     }
 
     /// Source `task` sends its next record.

@@ -1,0 +1,32 @@
+use Rattle.std.proofs.Common.{◌<◌, sym, subst, ◌∙◌}
+use Rattle.abs_codec.specs.Spelling.{Fits}
+use Rattle.core_calls.proofs.Numbers.{sink_within}
+use Rattle.core_model.proofs.CallRestarts.{keeps_restart, restart_withdraws}
+use Rattle.core_model.proofs.RestartSteps.{restart_goes}
+use Rattle.dataflow_core.proofs.Raising.{none_is, raised_by}
+use Rattle.dataflow_core.proofs.engine.Core.restart.Goals as goal
+
+pub restarted-outcome-requires : goal.restarted-outcome-requires
+restarted-outcome-requires g c = record {
+  sinks = λ task subtask at. subst (λ n. subtask < n) (sym c.self.invariant.subtasks) (sink_within c.self.inside.graph c.self.invariant.expanded task subtask at);
+}
+
+pub invariant_of-self : goal.invariant_of-self
+invariant_of-self g c =
+    let down = none_is c.self.inside.attempt (sym c.is_some.ensures ∙ c.if-is_some.false) in
+    let ledger = g.X.Transactions.state c.restarted-outcome.new.transactions in
+    rw (c.restarted-outcome.ensures.same, c.raise.ensures.holds, raised_by c.restarted-outcome.result c.self.inside.attempt down)
+    (keeps_restart _ (Fits g.O.Key.Codec.HasSpelling g.O.Key.Codec.spelling) _ _ _ c.self.invariant ledger _ c.restarted-outcome.result (rw (← c.deref.ensures.value) c.restarted-outcome.ensures.ends)
+    (λ fresh. restart_goes _ (Fits g.O.Key.Codec.HasSpelling g.O.Key.Codec.spelling) _ _ _ c.self.invariant down fresh ledger 0 c.restarted-outcome.result (rw (← c.deref.ensures.value) c.restarted-outcome.ensures.ends)))
+
+pub returns-clause-goes : goal.returns-clause-goes
+returns-clause-goes g c =
+    let down = none_is c.self.inside.attempt (sym c.is_some.ensures ∙ c.if-is_some.false) in
+    let ledger = g.X.Transactions.state c.restarted-outcome.new.transactions in
+    rw (← c.self.view_is, c.restarted-outcome.ensures.same, c.raise.ensures.holds, raised_by c.restarted-outcome.result c.self.inside.attempt down)
+    (λ fresh. restart_goes _ (Fits g.O.Key.Codec.HasSpelling g.O.Key.Codec.spelling) _ _ _ c.self.invariant down fresh ledger 0 c.restarted-outcome.result (rw (← c.deref.ensures.value) c.restarted-outcome.ensures.ends))
+
+pub returns-clause-begins : goal.returns-clause-begins
+returns-clause-begins g c = λ subtask.
+    rw (← c.self.view_is)
+    (restart_withdraws _ (Fits g.O.Key.Codec.HasSpelling g.O.Key.Codec.spelling) _ _ _ c.self.invariant (g.X.Transactions.state c.restarted-outcome.new.transactions) c.restarted-outcome.result subtask (rw (← c.deref.ensures.value) c.restarted-outcome.ensures.ends))
