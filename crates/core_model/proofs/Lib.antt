@@ -58,3 +58,5 @@ pub mod RestartGoes
 pub mod RestartBase
 pub mod RestartSteps
 pub mod RestartCut
+pub mod PlainGood
+pub mod RestartParts

@@ -37,7 +37,7 @@ module _ {R K S O : Type 0} (lang : Language R K S O) (KeyFits : K → Type 0) (
   abbrev AreAll : Option ℕ → List (Start K S) → Type 0
   AreAll last starts = AreStarts lang KeyFits IsGood s.operators s.partitions s.stored s.graph last starts
 
-  sound : IsHeldSound (job_of lang s) (is_logged_in s) lang.spelling (devices_of lang s) None
+  pub sound : IsHeldSound (job_of lang s) (is_logged_in s) lang.spelling (devices_of lang s) None
   sound = subst (λ (o : Option (Held R K S)). IsHeldSound (job_of lang s) (is_logged_in s) lang.spelling (devices_of lang s) (held_running (option_map (run_of lang.cmp s.graph) o))) down (keeps.fresh fresh)
 
   -- what a sink's start names may be committed
@@ -87,7 +87,7 @@ module _ {R K S O : Type 0} (lang : Language R K S O) (KeyFits : K → Type 0) (
       ]
 
   -- what is named may be committed
-  never_until : (last : Option ℕ) (starts : List (Start K S)) (ledger : Ledger) → AreAll last starts → TakeUntilRefused starts s.ledger ledger → ⊥
+  pub never_until : (last : Option ℕ) (starts : List (Start K S)) (ledger : Ledger) → AreAll last starts → TakeUntilRefused starts s.ledger ledger → ⊥
   never_until last starts ledger are t =
       let first = takes_go lang s keeps.expanded t.taken.done t.taken.rest (before_tasks s.ledger) t.middle (subst (λ (l : List (Start K S)). AreReady lang s keeps.expanded 0 l s.ledger) t.taken.are (ready last starts are)) t.taken.turns in
       let here = subst (λ (l : List (Start K S)). AreReady lang s keeps.expanded (length t.middle.tasks) l t.middle.ledger) t.next first.ready in

@@ -10,7 +10,7 @@ mod start;
 ghost use Rattle.core_model.specs.Language.{Language};
 ghost use Rattle.core_model.specs.CallLaws.{ReadsKeepEngines, InjectsKeepEngines, OperatesKeepEngines, OperatorCopiesKeepEngines, PutsOutKeepEngines, SinkCopiesKeepEngines};
 ghost use Rattle.core_model.specs.CheckpointLaws.{TriggersKeepEngines, PersistsKeepEngines, CompletesKeepEngines, CommitsKeepEngines, CommitsReachEveryCheckpoint, FailuresKeepEngines, FreshEnginesAreExact, FreshEnginesCommitOutputs, StepsWithdrawNoRow};
-ghost use Rattle.core_model.specs.RestartLaws.{RestartsKeepEngines, RestartsWithdrawNoRow, FreshRestartsAreSteps, FreshRestartsGiveTheCut};
+ghost use Rattle.core_model.specs.RestartLaws.{RestartsKeepEngines, RestartsWithdrawNoRow, FreshRestartsAreSteps, FreshRestartsGiveTheCut, FreshRestartsAreNotBad};
 ghost use Rattle.core_model.specs.Laws.{ReadsAreSteps, OperatesAreSteps, InjectsAreSteps, CommittedAreRows, AppendsKeepSinks, CopiesKeepSinks, CommitsKeepSinks};
 
 pub use fault::CoreFault;
@@ -144,4 +144,9 @@ pub fn fresh_restarts_are_steps<R, K, S, O>()
 /// A fresh engine goes on from the cut of its last complete checkpoint, and has committed up to it.
 pub fn fresh_restarts_give_the_cut<R, K, S, O>()
     ensures { (lang : Language R K S O) → FreshRestartsGiveTheCut lang }
+{}
+
+/// A restart of a fresh engine is never refused for what the devices hold.
+pub fn fresh_restarts_are_not_bad<R, K, S, O>()
+    ensures { (lang : Language R K S O) → FreshRestartsAreNotBad lang }
 {}
