@@ -182,7 +182,7 @@ module _ {R K S O : Type 0} (lang : Language R K S O) (RecordFits : R → Type 0
 
       keeps_committed : Shape lang.cmp RecordFits IsGood s.graph s.operators k → KeepsAndGoes lang RecordFits IsGood s (after s (Some k) s.stored ledger n)
       keeps_committed shape =
-          goes_keeps lang RecordFits IsGood s keeps (Some k) s.stored ledger n refl keeps.numbered (subtasks_stay s.ledger subtask sink p sink_in next.oldest) (stays_ordered s.ledger subtask sink p sink_in next.oldest keeps.ordered)
+          goes_keeps lang RecordFits IsGood s keeps (Some k) s.stored ledger n refl keeps.numbered keeps.formed (subtasks_stay s.ledger subtask sink p sink_in next.oldest) (stays_ordered s.ledger subtask sink p sink_in next.oldest keeps.ordered)
           shape runs_committed goes_committed
 
     -- it is committed, and forgotten

@@ -9,7 +9,7 @@ use Rattle.snapshot_store.specs.Store.{Stored, IsNumbered, completed}
 use Rattle.core_model.specs.Language.{Language}
 use Rattle.core_model.specs.State.{State}
 use Rattle.core_model.specs.View.{run_of, transactions_at}
-use Rattle.core_model.specs.Keeps.{Keeps}
+use Rattle.core_model.specs.Keeps.{PartsAreFormed, Keeps}
 use Rattle.core_model.specs.Calls.{EndsComplete, left_by}
 use Rattle.core_model.specs.Goes.{Goes}
 use Rattle.core_model.specs.declared.fault.CoreFault.{CoreFault}
@@ -31,7 +31,7 @@ module _ {R K S O : Type 0} (lang : Language R K S O) (RecordFits : R → Type 0
 
     keeps_completed : IsReady h.coordination → IsNumbered (completed s.stored checkpoint) → KeepsAndGoes lang RecordFits IsGood s (after s (Some (with_completed checkpoint h)) (completed s.stored checkpoint) s.ledger n)
     keeps_completed ready numbered =
-        goes_keeps lang RecordFits IsGood s keeps (Some (with_completed checkpoint h)) (completed s.stored checkpoint) s.ledger n refl numbered refl keeps.ordered
+        goes_keeps lang RecordFits IsGood s keeps (Some (with_completed checkpoint h)) (completed s.stored checkpoint) s.ledger n refl numbered keeps.formed refl keeps.ordered
         (shape_completed lang.cmp RecordFits IsGood s.graph s.operators h (shape_of lang RecordFits IsGood s keeps h was) checkpoint)
         (runs_same lang (record s { stored = completed s.stored checkpoint }) (after s (Some (with_completed checkpoint h)) (completed s.stored checkpoint) s.ledger n) (with_completed checkpoint h) refl refl refl
         (runs_completed lang s h (runs_of lang RecordFits IsGood s keeps h was) checkpoint pending))
@@ -48,10 +48,10 @@ module _ {R K S O : Type 0} (lang : Language R K S O) (RecordFits : R → Type 0
     keeps_complete (Err NotAllAcked) e = keeps_refused lang RecordFits IsGood s keeps h k stored s.ledger n was e.2 e.3 refl
     keeps_complete (Err Device) e =
         elim e.3 [
-          | inl same ↦ keeps_down lang RecordFits IsGood s keeps stored s.ledger n (ap (λ (x : Stored). x.tasks) same) numbered refl keeps.ordered (goes_down lang s stored s.ledger n same refl)
+          | inl same ↦ keeps_down lang RecordFits IsGood s keeps stored s.ledger n (ap (λ (x : Stored). x.tasks) same) numbered (λ fresh. subst (PartsAreFormed lang s.graph) (sym same) (keeps.formed fresh)) refl keeps.ordered (goes_down lang s stored s.ledger n same refl)
           | inr done ↦
               let goes = goes_then_down lang s (Some (with_completed e.0 h)) (completed s.stored e.0) s.ledger n (goes_completed e.0 n e.1 e.2) in
-              keeps_down lang RecordFits IsGood s keeps stored s.ledger n (ap (λ (x : Stored). x.tasks) done) numbered refl keeps.ordered
+              keeps_down lang RecordFits IsGood s keeps stored s.ledger n (ap (λ (x : Stored). x.tasks) done) numbered (λ fresh. subst (PartsAreFormed lang s.graph) (sym done) (keeps.formed fresh)) refl keeps.ordered
               (subst (λ (x : Stored). Goes lang s (after s None x s.ledger n)) (sym done) goes)
         ]
     keeps_complete (Err other) e = absurd e

@@ -34,7 +34,7 @@ appended_begins {R} partitions partition row p =
 
 module _ {R K S O : Type 0} (lang : Language R K S O) (RecordFits : R → Type 0) (IsGood : O → S → Type 0) (s : State O R K S) (keeps : Keeps lang RecordFits IsGood s) (n : ℕ) where
   pub keeps_fail : Keeps lang RecordFits IsGood (record s { held = None; faults = n }) × Goes lang s (record s { held = None; faults = n })
-  keeps_fail = keeps_down lang RecordFits IsGood s keeps s.stored s.ledger n refl keeps.numbered refl keeps.ordered (goes_down lang s s.stored s.ledger n refl refl)
+  keeps_fail = keeps_down lang RecordFits IsGood s keeps s.stored s.ledger n refl keeps.numbered keeps.formed refl keeps.ordered (goes_down lang s s.stored s.ledger n refl refl)
 
   -- partitions that have grown
   pub keeps_grown : (partitions : List (List R)) → length partitions ≡ length s.partitions → ((p : ℕ) → Begins (records_at s.partitions p) (records_at partitions p)) → Keeps lang RecordFits IsGood (record s { partitions = partitions; faults = n })
@@ -51,6 +51,7 @@ module _ {R K S O : Type 0} (lang : Language R K S O) (RecordFits : R → Type 0
     runs = still s.held keeps.runs;
     fresh = λ fresh. held_growth (job_of lang s) lang.spelling (is_logged_in s) (λ p. records_at partitions p) (held_engine (engine_of lang s)) grown (keeps.fresh fresh);
     whole = keeps.whole;
+    formed = keeps.formed;
   }
     where
       still : (held : Option (Held R K S)) → MatchOption held (Unit {0}) (RunsIn lang s) → MatchOption held (Unit {0}) (RunsIn lang (record s { partitions = partitions; faults = n }))

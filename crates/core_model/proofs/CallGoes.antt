@@ -19,7 +19,7 @@ use Rattle.task_part.specs.declared.part.Part.{Part}
 use Rattle.core_model.specs.Language.{Language}
 use Rattle.core_model.specs.State.{State}
 use Rattle.core_model.specs.View.{named_by, run_of, job_of, is_logged_in, devices_of, running_of, engine_of}
-use Rattle.core_model.specs.Keeps.{Shape, RunsIn, Keeps}
+use Rattle.core_model.specs.Keeps.{Shape, RunsIn, Keeps, PartsAreFormed}
 use Rattle.core_model.specs.Goes.{Goes}
 use Rattle.core_model.proofs.StoreWhole.{steps_whole}
 
@@ -97,10 +97,10 @@ module _ {R K S O : Type 0} (lang : Language R K S O) where
         (receiver-graph_of s.graph s.operators keeps.expanded) goes.1 (keeps.fresh fresh)
 
     -- what an engine keeps, by its steps and what the devices and the job keep
-    pub goes_keeps : stored.tasks ≡ s.stored.tasks → IsNumbered stored → ledger.subtasks ≡ s.ledger.subtasks → IsOrdered ledger
+    pub goes_keeps : stored.tasks ≡ s.stored.tasks → IsNumbered stored → (s.is_fresh ≡ true → PartsAreFormed lang s.graph stored) → ledger.subtasks ≡ s.ledger.subtasks → IsOrdered ledger
         → MatchOption held (Unit {0}) (Shape lang.cmp RecordFits IsGood s.graph s.operators) → MatchOption held (Unit {0}) (RunsIn lang (after s held stored ledger n)) → Goes lang s (after s held stored ledger n)
         → Keeps lang RecordFits IsGood (after s held stored ledger n) × Goes lang s (after s held stored ledger n)
-    goes_keeps tasks numbered subtasks ordered shape runs goes = (
+    goes_keeps tasks numbered formed subtasks ordered shape runs goes = (
       record {
         expanded = keeps.expanded;
         simple = keeps.simple;
@@ -116,6 +116,7 @@ module _ {R K S O : Type 0} (lang : Language R K S O) where
         whole = λ fresh.
             steps_whole (job_of lang s) (is_logged_in s) lang.spelling goes.0 (held_engine (engine_of lang s)) (held_engine (engine_of lang (after s held stored ledger n)))
             (receiver-graph_of s.graph s.operators keeps.expanded) goes.1 (keeps.fresh fresh) (keeps.whole fresh);
+        formed = formed;
       },
       goes,
     )
@@ -153,12 +154,13 @@ module _ {R K S O : Type 0} (lang : Language R K S O) where
       keeps_refused h k stored ledger n was same same_stored same_ledger =
           let is : Some k ≡ s.held = ap (λ (x : Held R K S). Some x) same ∙ sym was in
           goes_keeps RecordFits IsGood s keeps (Some k) stored ledger n (ap (λ (x : Stored). x.tasks) same_stored) (subst IsNumbered (sym same_stored) keeps.numbered)
+          (λ fresh. subst (PartsAreFormed lang s.graph) (sym same_stored) (keeps.formed fresh))
           (ap (λ (x : Ledger). x.subtasks) same_ledger) (subst IsOrdered (sym same_ledger) keeps.ordered)
           (subst (Shape lang.cmp RecordFits IsGood s.graph s.operators) (sym same) (shape_of h was))
           (runs_same s (after s (Some k) stored ledger n) k refl same_stored same_ledger (subst (RunsIn lang s) (sym same) (runs_of h was)))
           (goes_nowhere s (after s (Some k) stored ledger n) (λ i. engine_of lang (record s { held = is i; stored = same_stored i; ledger = same_ledger i })))
 
       -- a call that took the job down
-      pub keeps_down : (stored : Stored) (ledger : Ledger) (n : ℕ) → stored.tasks ≡ s.stored.tasks → IsNumbered stored → ledger.subtasks ≡ s.ledger.subtasks → IsOrdered ledger → Goes lang s (after s None stored ledger n)
+      pub keeps_down : (stored : Stored) (ledger : Ledger) (n : ℕ) → stored.tasks ≡ s.stored.tasks → IsNumbered stored → (s.is_fresh ≡ true → PartsAreFormed lang s.graph stored) → ledger.subtasks ≡ s.ledger.subtasks → IsOrdered ledger → Goes lang s (after s None stored ledger n)
           → KeepsAndGoes s (after s None stored ledger n)
-      keeps_down stored ledger n tasks numbered subtasks ordered goes = goes_keeps RecordFits IsGood s keeps None stored ledger n tasks numbered subtasks ordered tt tt goes
+      keeps_down stored ledger n tasks numbered formed subtasks ordered goes = goes_keeps RecordFits IsGood s keeps None stored ledger n tasks numbered formed subtasks ordered tt tt goes

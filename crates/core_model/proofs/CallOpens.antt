@@ -16,7 +16,8 @@ use Rattle.snapshot_store.specs.Store.{Stored, IsNumbered}
 use Rattle.core_model.specs.Language.{Language}
 use Rattle.core_model.specs.State.{State}
 use Rattle.core_model.specs.View.{store_of, transactions_at, run_of, job_of, is_logged_in, devices_of}
-use Rattle.core_model.specs.Keeps.{IsSimple, Shape, RunsIn, AllOrNone, Keeps}
+use Rattle.core_model.specs.Keeps.{IsSimple, Shape, RunsIn, AllOrNone, Keeps, PartsAreFormed}
+use Rattle.core_model.proofs.StoreFormed.{formed_blank}
 use Rattle.core_model.proofs.StoreTrigger.{store_blank}
 use Rattle.core_model.proofs.StoreWhole.{whole_new}
 
@@ -58,4 +59,5 @@ module _ {R K S O : Type 0} (lang : Language R K S O) (s : State O R K S) where
       whole = λ fresh.
           let blank : store_of lang s.stored ≡ (new_devices {R = R} {K = K} {S = S} {B = List ℕ}).store = ap (store_of lang) (new fresh).0 ∙ store_blank lang (List ℕ) (length s.graph.tasks) in
           subst (AllOrNone (job_of lang s)) (sym blank) (whole_new (List ℕ) (job_of lang s));
+      formed = λ fresh. subst (PartsAreFormed lang s.graph) (sym (new fresh).0) (formed_blank lang s.graph (length s.graph.tasks));
     }

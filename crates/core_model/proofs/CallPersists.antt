@@ -1,5 +1,5 @@
 -- A task's part is put, as a call of the engine.
-use Rattle.std.proofs.Common.{◌≡◌, ◌<◌, inl, inr, Option, Some, None, Result, Ok, Err, slice_get, unwrap_or, length, ℕ, zero, suc, List, [], ◌∷◌, refl, sym, ap, subst, arith}
+use Rattle.std.proofs.Common.{◌≡◌, ◌<◌, inl, inr, Option, Some, None, Result, Ok, Err, slice_get, unwrap_or, length, ℕ, zero, suc, List, [], ◌∷◌, refl, sym, ap, subst, arith, true}
 use Rattle.std.proofs.lemmas.Option.{none-some}
 use Rattle.abs_codec.specs.Reading.{whole_of}
 use Rattle.checkpoint_model.specs.Headline.{PersistsAPart}
@@ -9,7 +9,7 @@ use Rattle.task_part.specs.declared.part.Part.{Part}
 use Rattle.core_model.specs.Language.{Language}
 use Rattle.core_model.specs.State.{State}
 use Rattle.core_model.specs.View.{run_of, transactions_at}
-use Rattle.core_model.specs.Keeps.{CopyAs, Keeps}
+use Rattle.core_model.specs.Keeps.{PartsAreFormed, CopyAs, Keeps}
 use Rattle.core_model.specs.Calls.{EndsPersist, WhereReached, left_by}
 use Rattle.core_model.specs.Goes.{Goes}
 use Rattle.core_model.specs.declared.fault.CoreFault.{CoreFault}
@@ -17,6 +17,7 @@ use Rattle.core_model.specs.declared.fault.CoreFault.TheVariants.{NoSuchTask, No
 use Rattle.core_model.proofs.ShapeCalls.{shape_acknowledged}
 use Rattle.core_model.proofs.StoreSteps.{engine_persists}
 use Rattle.core_model.proofs.StoreRuns.{runs_put}
+use Rattle.core_model.proofs.StoreFormed.{formed_put}
 use Rattle.core_model.proofs.CallGoes.{after, goes_by, goes_then_down, goes_down, goes_keeps, runs_same, shape_of, runs_of, KeepsAndGoes, keeps_refused, keeps_down}
 
 -- ---- a task that has a copy is one of the graph
@@ -42,6 +43,9 @@ module _ {R K S O : Type 0} (lang : Language R K S O) (RecordFits : R → Type 0
     within : task < length s.graph.tasks
     within = subst (λ m. task < m) (shape_of lang RecordFits IsGood s keeps h was).copies (copy_within h task p copied)
 
+    put_formed : s.is_fresh ≡ true → PartsAreFormed lang s.graph put
+    put_formed fresh = formed_put lang s.graph s.stored checkpoint task bytes p reads (λ r is. subst (CopyAs r) copied ((shape_of lang RecordFits IsGood s keeps h was).copy_forms task r is)) (keeps.formed fresh)
+
     goes_put : (n : ℕ) → Goes lang s (after s (Some (with_acknowledged task h)) put s.ledger n)
     goes_put n =
         let r = found s.graph.tasks task within in
@@ -51,7 +55,7 @@ module _ {R K S O : Type 0} (lang : Language R K S O) (RecordFits : R → Type 0
 
     keeps_put : (n : ℕ) → IsNumbered put → KeepsAndGoes lang RecordFits IsGood s (after s (Some (with_acknowledged task h)) put s.ledger n)
     keeps_put n numbered =
-        goes_keeps lang RecordFits IsGood s keeps (Some (with_acknowledged task h)) put s.ledger n refl numbered refl keeps.ordered
+        goes_keeps lang RecordFits IsGood s keeps (Some (with_acknowledged task h)) put s.ledger n refl numbered put_formed refl keeps.ordered
         (shape_acknowledged lang.cmp RecordFits IsGood s.graph s.operators h (shape_of lang RecordFits IsGood s keeps h was) task)
         (runs_same lang (record s { stored = put }) (after s (Some (with_acknowledged task h)) put s.ledger n) (with_acknowledged task h) refl refl refl
         (runs_put lang s h (runs_of lang RecordFits IsGood s keeps h was) checkpoint task bytes p pending (subst (λ m. task < m) (sym (shape_of lang RecordFits IsGood s keeps h was).acked) within) copied reads))
@@ -74,10 +78,10 @@ module _ {R K S O : Type 0} (lang : Language R K S O) (RecordFits : R → Type 0
     keeps_persist (Err Memory) spells e = keeps_refused lang RecordFits IsGood s keeps h k stored s.ledger n was e.0 e.1 refl
     keeps_persist (Err Device) spells e =
         elim e.5 [
-          | inl same ↦ keeps_down lang RecordFits IsGood s keeps stored s.ledger n (ap (λ (x : Stored). x.tasks) same) numbered refl keeps.ordered (goes_down lang s stored s.ledger n same refl)
+          | inl same ↦ keeps_down lang RecordFits IsGood s keeps stored s.ledger n (ap (λ (x : Stored). x.tasks) same) numbered (λ fresh. subst (PartsAreFormed lang s.graph) (sym same) (keeps.formed fresh)) refl keeps.ordered (goes_down lang s stored s.ledger n same refl)
           | inr done ↦
               let goes = goes_then_down lang s (Some (with_acknowledged task h)) (with_part s.stored e.0 task (spelling e.1)) s.ledger n (goes_put task e.0 e.1 (spelling e.1) e.2 e.3 (spells e.1 e.3) n) in
-              keeps_down lang RecordFits IsGood s keeps stored s.ledger n (ap (λ (x : Stored). x.tasks) done) numbered refl keeps.ordered
+              keeps_down lang RecordFits IsGood s keeps stored s.ledger n (ap (λ (x : Stored). x.tasks) done) numbered (λ fresh. subst (PartsAreFormed lang s.graph) (sym done) (put_formed task e.0 e.1 (spelling e.1) e.2 e.3 (spells e.1 e.3) fresh)) refl keeps.ordered
               (subst (λ (x : Stored). Goes lang s (after s None x s.ledger n)) (sym done) goes)
         ]
     keeps_persist (Err other) spells e = absurd e

@@ -103,4 +103,5 @@ module _ {R K S O : Type 0} (lang : Language R K S O) (KeyFits : K → Type 0) (
         runs = held.1;
         fresh = λ fresh. goes_keeps_fresh lang RecordFits IsGood s keeps (held_by result) s.stored ledger n (goes fresh) fresh;
         whole = keeps.whole;
+        formed = keeps.formed;
       }

@@ -134,6 +134,7 @@ module _ {R K S O : Type 0} (lang : Language R K S O) (RecordFits : R → Type 0
         whole = λ fresh.
             steps_whole (job_of lang s) (is_logged_in s) lang.spelling goes.0 (held_engine (engine_of lang s)) (held_engine (engine_of lang (after lang s ledger held n)))
             (receiver-graph_of s.graph s.operators keeps.expanded) goes.1 (keeps.fresh fresh) (keeps.whole fresh);
+        formed = keeps.formed;
       },
       goes,
     )

@@ -8,7 +8,7 @@ use Rattle.snapshot_store.specs.Store.{Stored, IsNumbered, is_complete, reserved
 use Rattle.core_model.specs.Language.{Language}
 use Rattle.core_model.specs.State.{State}
 use Rattle.core_model.specs.View.{run_of, transactions_at, engine_of}
-use Rattle.core_model.specs.Keeps.{Keeps}
+use Rattle.core_model.specs.Keeps.{PartsAreFormed, Keeps}
 use Rattle.core_model.specs.Calls.{EndsTrigger, tidied, left_by}
 use Rattle.core_model.specs.Goes.{Goes}
 use Rattle.core_model.specs.declared.fault.CoreFault.{CoreFault}
@@ -17,6 +17,7 @@ use Rattle.core_model.proofs.ShapeCalls.{shape_started}
 use Rattle.core_model.proofs.StoreSteps.{run_started, held_started, engine_triggers, engine_discards}
 use Rattle.core_model.proofs.StoreTrigger.{numbered_tidied, tidied_next, tidied_tasks}
 use Rattle.core_model.proofs.StoreRuns.{runs_started, runs_tidied}
+use Rattle.core_model.proofs.StoreFormed.{formed_tidied}
 use Rattle.core_model.proofs.CallGoes.{after, goes_nowhere, goes_by, goes_on, goes_then_down, goes_down, goes_keeps, runs_same, shape_of, runs_of, KeepsAndGoes, keeps_refused, keeps_down}
 
 module _ {R K S O : Type 0} (lang : Language R K S O) (RecordFits : R → Type 0) (IsGood : O → S → Type 0) (s : State O R K S) (keeps : Keeps lang RecordFits IsGood s) (h : Held R K S) (was : s.held ≡ Some h) where
@@ -33,6 +34,9 @@ module _ {R K S O : Type 0} (lang : Language R K S O) (RecordFits : R → Type 0
   abbrev tidy : Stored
   tidy = tidied h.coordination.last_complete s.stored
 
+  tidy_formed : s.is_fresh ≡ true → PartsAreFormed lang s.graph tidy
+  tidy_formed fresh = formed_tidied lang s.graph h.coordination.last_complete s.stored (keeps.formed fresh)
+
   tidies : (n : ℕ) → Goes lang s (after s (Some h) tidy s.ledger n)
   tidies n = goes_tidied n h.coordination.last_complete (runs_of lang RecordFits IsGood s keeps h was).last_complete
 
@@ -48,7 +52,7 @@ module _ {R K S O : Type 0} (lang : Language R K S O) (RecordFits : R → Type 0
 
     keeps_started : IsNumbered (reserved tidy) → KeepsAndGoes lang RecordFits IsGood s (after s (Some (with_started s.stored.next h)) (reserved tidy) s.ledger n)
     keeps_started numbered =
-        goes_keeps lang RecordFits IsGood s keeps (Some (with_started s.stored.next h)) (reserved tidy) s.ledger n (tidied_tasks h.coordination.last_complete s.stored) numbered refl keeps.ordered
+        goes_keeps lang RecordFits IsGood s keeps (Some (with_started s.stored.next h)) (reserved tidy) s.ledger n (tidied_tasks h.coordination.last_complete s.stored) numbered (λ fresh. tidy_formed fresh) refl keeps.ordered
         (shape_started lang.cmp RecordFits IsGood s.graph s.operators h (shape_of lang RecordFits IsGood s keeps h was) s.stored.next)
         (runs_same lang (record s { stored = reserved tidy }) (after s (Some (with_started s.stored.next h)) (reserved tidy) s.ledger n) (with_started s.stored.next h) refl refl refl
         (runs_started lang s h (runs_of lang RecordFits IsGood s keeps h was) none_pending keeps.numbered))
@@ -56,7 +60,7 @@ module _ {R K S O : Type 0} (lang : Language R K S O) (RecordFits : R → Type 0
 
     keeps_tidied : IsNumbered tidy → KeepsAndGoes lang RecordFits IsGood s (after s (Some h) tidy s.ledger n)
     keeps_tidied numbered =
-        goes_keeps lang RecordFits IsGood s keeps (Some h) tidy s.ledger n (tidied_tasks h.coordination.last_complete s.stored) numbered refl keeps.ordered
+        goes_keeps lang RecordFits IsGood s keeps (Some h) tidy s.ledger n (tidied_tasks h.coordination.last_complete s.stored) numbered tidy_formed refl keeps.ordered
         (shape_of lang RecordFits IsGood s keeps h was)
         (runs_same lang (record s { stored = tidy }) (after s (Some h) tidy s.ledger n) h refl refl refl (runs_tidied lang s h (runs_of lang RecordFits IsGood s keeps h was) none_pending))
         (tidies n)
@@ -65,9 +69,9 @@ module _ {R K S O : Type 0} (lang : Language R K S O) (RecordFits : R → Type 0
     abbrev Kept : Option (Held R K S) → Stored → Type 0
     Kept held store = KeepsAndGoes lang RecordFits IsGood s (after s held store s.ledger n)
 
-    falls : (held : Option (Held R K S)) (store : Stored) → Goes lang s (after s held store s.ledger n) → store.tasks ≡ s.stored.tasks → stored ≡ store → Kept None stored
-    falls held store goes tasks is =
-        keeps_down lang RecordFits IsGood s keeps stored s.ledger n (ap (λ (x : Stored). x.tasks) is ∙ tasks) numbered refl keeps.ordered
+    falls : (held : Option (Held R K S)) (store : Stored) → Goes lang s (after s held store s.ledger n) → store.tasks ≡ s.stored.tasks → (s.is_fresh ≡ true → PartsAreFormed lang s.graph store) → stored ≡ store → Kept None stored
+    falls held store goes tasks formed is =
+        keeps_down lang RecordFits IsGood s keeps stored s.ledger n (ap (λ (x : Stored). x.tasks) is ∙ tasks) numbered (λ fresh. subst (PartsAreFormed lang s.graph) (sym is) (formed fresh)) refl keeps.ordered
         (subst (λ (x : Stored). Goes lang s (after s None x s.ledger n)) (sym is) (goes_then_down lang s held store s.ledger n goes))
 
     pub keeps_trigger : (result : Result ℕ CoreFault) → EndsTrigger h k s.stored stored result
@@ -82,9 +86,9 @@ module _ {R K S O : Type 0} (lang : Language R K S O) (RecordFits : R → Type 0
     keeps_trigger (Err Device) e =
         elim e.1 [
           | inl early ↦ elim early [
-            | inl same ↦ keeps_down lang RecordFits IsGood s keeps stored s.ledger n (ap (λ (x : Stored). x.tasks) same) numbered refl keeps.ordered (goes_down lang s stored s.ledger n same refl)
-            | inr tidies_only ↦ falls (Some h) tidy (tidies n) (tidied_tasks h.coordination.last_complete s.stored) tidies_only
+            | inl same ↦ keeps_down lang RecordFits IsGood s keeps stored s.ledger n (ap (λ (x : Stored). x.tasks) same) numbered (λ fresh. subst (PartsAreFormed lang s.graph) (sym same) (keeps.formed fresh)) refl keeps.ordered (goes_down lang s stored s.ledger n same refl)
+            | inr tidies_only ↦ falls (Some h) tidy (tidies n) (tidied_tasks h.coordination.last_complete s.stored) tidy_formed tidies_only
           ]
-          | inr done ↦ falls (Some (with_started s.stored.next h)) (reserved tidy) (goes_started n e.0) (tidied_tasks h.coordination.last_complete s.stored) done
+          | inr done ↦ falls (Some (with_started s.stored.next h)) (reserved tidy) (goes_started n e.0) (tidied_tasks h.coordination.last_complete s.stored) (λ fresh. tidy_formed fresh) done
         ]
     keeps_trigger (Err other) e = absurd e

@@ -21,6 +21,7 @@ pub mod StoreView
 pub mod StorePut
 pub mod StoreComplete
 pub mod StoreTrigger
+pub mod StoreFormed
 pub mod StorePart
 pub mod StoreWhole
 pub mod StoreSteps

@@ -26,7 +26,7 @@ use Rattle.job_state.specs.Held.{Held}
 use Rattle.core_model.specs.declared.fault.CoreFault.{CoreFault}
 use Rattle.core_model.specs.declared.fault.CoreFault.TheVariants.{BadSnapshot}
 use Rattle.core_model.specs.Restart.{IsInPart, IsBroken, EndsRestart}
-use Rattle.core_model.specs.RestartLaws.{PartsAreFormed, OperatorsAreLawful}
+use Rattle.core_model.specs.RestartLaws.{OperatorsAreLawful}
 use Rattle.core_model.specs.State.{State}
 use Rattle.core_model.specs.View.{job_of, is_logged_in, devices_of, part_view, part_in}
 use Rattle.core_model.specs.declared.start.Start.{Start}
@@ -70,7 +70,7 @@ to_last job old (cut ∷ cuts) s =
     (s.0.0 ++ rest.0, join job s.0.0 rest.0 old cut (last_from cut cuts) s.0.1 rest.1)
 
 module _ {R K S O : Type 0} (lang : Language R K S O) (RecordFits : R → Type 0) (KeyFits : K → Type 0) (StateFits : S → Type 0) (Suits : O → S → Type 0) (s : State O R K S) (keeps : Keeps lang RecordFits (IsGoodState StateFits Suits) s) (down : s.held ≡ None) (fresh : s.is_fresh ≡ true)
-    (formed : PartsAreFormed lang s.graph s.stored) (laws : OperatorsAreLawful lang.meaning lang.cmp RecordFits KeyFits StateFits Suits) (fit : (partition offset : ℕ) (r : R) → slice_get (records_at s.partitions partition) offset ≡ Some r → RecordFits r) where
+    (laws : OperatorsAreLawful lang.meaning lang.cmp RecordFits KeyFits StateFits Suits) (fit : (partition offset : ℕ) (r : R) → slice_get (records_at s.partitions partition) offset ≡ Some r → RecordFits r) where
   abbrev job : Job R K S O
   job = job_of lang s
 
@@ -117,7 +117,7 @@ module _ {R K S O : Type 0} (lang : Language R K S O) (RecordFits : R → Type 0
         by : (o : Option (List ℕ)) → part_of s.stored last task ≡ o → PartThere task r
         by None none = absurd (none-some given.0 (sym (ap (part_in lang) none) ∙ given.1))
         by (Some bytes) there =
-            let f = formed last task r bytes is there in
+            let f = keeps.formed fresh last task r bytes is there in
             record { bytes = bytes; there = there; p = f.0; reads = f.1; form = f.2; copy = part_said lang s.stored last task bytes f.0 there f.1 }
 
     -- what an operator may have is there

@@ -124,6 +124,11 @@ abbrev pub AllOrNone : {R K S O : Type 0} → Job R K S O → durable.Store R K 
 AllOrNone {R} {K} {S} {O} job store =
     (n task : ℕ) (kind : Task O) (p : durable.Part R K S) → is_on store.line n ≡ true → slice_get job.graph.tasks task ≡ Some kind → store.parts n task ≡ Some p → HasParts job store n
 
+-- Each part in the store is what its task's role asks for, with no logs: as every part that an engine has put.
+abbrev pub PartsAreFormed : {R K S O : Type 0} → Language R K S O → Expanded → Stored → Type 0
+PartsAreFormed {R} {K} {S} {O} lang graph stored =
+    (n task : ℕ) (r : Role) (bytes : List ℕ) → slice_get graph.tasks task ≡ Some r → part_of stored n task ≡ Some bytes → (p : Part R K S) × (whole_of lang.read_part bytes ≡ Ok p) × CopyAs r (Some p)
+
 -- What every engine keeps. A fresh one is sound.
 pub record Keeps {R K S O : Type 0} (lang : Language R K S O) (RecordFits : R → Type 0) (IsGood : O → S → Type 0) (s : State O R K S) : Type 0 where
   pub expanded : IsExpanded s.graph
@@ -138,3 +143,4 @@ pub record Keeps {R K S O : Type 0} (lang : Language R K S O) (RecordFits : R �
   pub runs : MatchOption s.held (Unit {0}) (RunsIn lang s)
   pub fresh : s.is_fresh ≡ true → IsHeldSound (job_of lang s) (is_logged_in s) lang.spelling (devices_of lang s) (held_running (running_of lang s))
   pub whole : s.is_fresh ≡ true → AllOrNone (job_of lang s) (store_of lang s.stored)
+  pub formed : s.is_fresh ≡ true → PartsAreFormed lang s.graph s.stored

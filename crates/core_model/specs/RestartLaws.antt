@@ -1,26 +1,22 @@
 -- A restart keeps what every engine keeps, withdraws no committed row, and on a fresh engine is steps of the checkpoint model's engine.
-use Rattle.std.specs.Prelude.{◌≡◌, ◌≢◌, ℕ, Bool, true, List, length, slice_get, Option, Some, None, Result, Ok, Err}
+use Rattle.std.specs.Prelude.{◌≡◌, ◌≢◌, ℕ, Bool, true, length, slice_get, Option, Some, None, Result, Ok, Err}
 use Rattle.std.specs.Ordering.{is_eq}
 use Rattle.std.specs.declared.cmp.Ordering.{Ordering}
-use Rattle.abs_codec.specs.Reading.{whole_of}
 use Rattle.checkpoint_model.specs.Held.{held_run, held_start}
 use Rattle.checkpoint_model.specs.Seen.{IsSeenRestored}
 use Rattle.commit_sink.specs.Ledger.{Ledger, committed_rows}
 use Rattle.dataflow_model.specs.Graph.{Begins, Meaning}
 use Rattle.dataflow_model.specs.Machine.{Configuration}
-use Rattle.job_graph.specs.Expanded.{Expanded}
-use Rattle.job_graph.specs.declared.role.Role.{Role}
 use Rattle.job_graph.specs.declared.role.Role.TheVariants as role
 use Rattle.job_state.specs.Held.{Held}
 use Rattle.operators.specs.Operator.{OrderIsExact, KeysFit, FreshIsGood, StatesStayGood, SentFits}
-use Rattle.snapshot_store.specs.Store.{Stored, IsLatest, part_of}
+use Rattle.snapshot_store.specs.Store.{IsLatest}
 use Rattle.source_log.specs.Partitions.{records_at}
-use Rattle.task_part.specs.declared.part.Part.{Part}
 use Rattle.core_model.specs.declared.fault.CoreFault.{CoreFault}
 use Rattle.core_model.specs.declared.fault.CoreFault.TheVariants.{BadSnapshot}
 use Rattle.core_model.specs.CallLaws.{Passes, IsGoodBy}
 use Rattle.core_model.specs.Goes.{Goes}
-use Rattle.core_model.specs.Keeps.{CopyAs, Keeps}
+use Rattle.core_model.specs.Keeps.{Keeps}
 use Rattle.core_model.specs.Language.{Language}
 use Rattle.core_model.specs.LastCommitted.{committed_of, complete_numbers}
 use Rattle.core_model.specs.Restart.{EndsRestart}
@@ -74,11 +70,6 @@ module _ {R K S O : Type 0} where
       (fits : R → Bool) (key_fits : K → Bool) (state_fits : S → Bool) (suits : O → S → Bool) (s : State O R K S) (ledger : Ledger) (faults : ℕ) (last : Option ℕ) (k : Held R K S) →
       IsRestart lang (Passes key_fits) (Passes fits) (IsGoodBy state_fits suits) s ledger (Ok (last, k)) → s.is_fresh ≡ true → GoesOnFromCut lang (restarted s ledger faults (Ok (last, k))) last k
 
--- Each part in the store is what its task's role asks for, with no logs: as every part that an engine has put.
-abbrev pub PartsAreFormed : {R K S O : Type 0} → Language R K S O → Expanded → Stored → Type 0
-PartsAreFormed {R} {K} {S} {O} lang graph stored =
-    (n task : ℕ) (r : Role) (bytes : List ℕ) → slice_get graph.tasks task ≡ Some r → part_of stored n task ≡ Some bytes → (p : Part R K S) × (whole_of lang.read_part bytes ≡ Ok p) × CopyAs r (Some p)
-
 -- what operators promise of records, keys and states that fit
 pub record OperatorsAreLawful {R K S O : Type 0} (meaning : Meaning R K S O) (cmp : K → K → Ordering) (RecordFits : R → Type 0) (KeyFits : K → Type 0) (StateFits : S → Type 0) (Suits : O → S → Type 0) : Type 0 where
   pub same_key : (a b : K) → meaning.same_key a b ≡ is_eq (cmp a b)
@@ -92,6 +83,6 @@ pub record OperatorsAreLawful {R K S O : Type 0} (meaning : Meaning R K S O) (cm
 abbrev pub FreshRestartsAreNotBad : {R K S O : Type 0} → Language R K S O → Type 0
 FreshRestartsAreNotBad {R} {K} {S} {O} lang =
     (fits : R → Bool) (key_fits : K → Bool) (state_fits : S → Bool) (suits : O → S → Bool) (s : State O R K S) (ledger : Ledger) (result : Result (Option ℕ × Held R K S) CoreFault) →
-    IsRestart lang (Passes key_fits) (Passes fits) (IsGoodBy state_fits suits) s ledger result → s.is_fresh ≡ true → PartsAreFormed lang s.graph s.stored →
+    IsRestart lang (Passes key_fits) (Passes fits) (IsGoodBy state_fits suits) s ledger result → s.is_fresh ≡ true →
     OperatorsAreLawful lang.meaning lang.cmp (Passes fits) (Passes key_fits) (Passes state_fits) (λ o x. suits o x ≡ true) →
     ((partition offset : ℕ) (r : R) → slice_get (records_at s.partitions partition) offset ≡ Some r → Passes fits r) → result ≢ Err BadSnapshot
