@@ -1,7 +1,8 @@
 //! What a step came to, as its answer line says it.
 
-use crate::engine::{CoreFault, Engine};
+use crate::opening::RowCore;
 use alignment::Effect;
+use dataflow_core::CoreFault;
 use script_file::Step;
 use source_log::SourceFault;
 use std::fmt;
@@ -59,6 +60,16 @@ impl From<Result<u64, CoreFault>> for Answer {
     }
 }
 
+/// The number that a restart goes on from, 0 for none.
+impl From<Result<Option<u64>, CoreFault>> for Answer {
+    fn from(outcome: Result<Option<u64>, CoreFault>) -> Answer {
+        match outcome {
+            Ok(number) => Answer::Number(number.unwrap_or(0)),
+            Err(fault) => Answer::Refused(fault),
+        }
+    }
+}
+
 impl From<Result<Effect, CoreFault>> for Answer {
     fn from(outcome: Result<Effect, CoreFault>) -> Answer {
         match outcome {
@@ -78,18 +89,18 @@ impl From<Result<(), SourceFault>> for Answer {
 }
 
 /// Makes a step.
-pub fn make_step<G: Engine>(engine: &mut G, step: Step) -> Answer {
+pub(crate) fn make_step(core: &mut RowCore, step: Step) -> Answer {
     match step {
-        Step::Read(task) => engine.read(task).into(),
-        Step::Work(task, input) => engine.work(task, input).into(),
-        Step::Barrier(task, input) => engine.take_barrier(task, input).into(),
-        Step::Trigger => engine.trigger().into(),
-        Step::Inject(task) => engine.inject(task).into(),
-        Step::Persist(task) => engine.persist(task).into(),
-        Step::Complete => engine.complete().into(),
-        Step::Commit(sink) => engine.commit(sink).into(),
-        Step::Fail => engine.fail().into(),
-        Step::Restart => engine.restart().into(),
-        Step::Append(partition, row) => engine.append(partition, row.into_row()).into(),
+        Step::Read(task) => core.read(task).into(),
+        Step::Work(task, input) => core.work(task, input).into(),
+        Step::Barrier(task, input) => core.take_barrier(task, input).into(),
+        Step::Trigger => core.trigger().into(),
+        Step::Inject(task) => core.inject(task).into(),
+        Step::Persist(task) => core.persist(task).into(),
+        Step::Complete => core.complete().into(),
+        Step::Commit(sink) => core.commit(sink).into(),
+        Step::Fail => core.fail().into(),
+        Step::Restart => core.restart().into(),
+        Step::Append(partition, row) => core.append(partition, row.into_row()).into(),
     }
 }

@@ -1,6 +1,6 @@
 //! The committed rows, as the program prints them.
 
-use crate::engine::Engine;
+use crate::opening::RowCore;
 use crate::refusal::Refusal;
 use crate::row_text::row_line;
 use abs_codec::decode_all;
@@ -8,16 +8,16 @@ use operators::Row;
 use std::alloc::Global;
 use std::io::Write;
 
-fn print_sink<G: Engine, W: Write>(
+fn print_sink<W: Write>(
     alloc: Global,
-    engine: &G,
+    core: &RowCore,
     sink: u32,
     out: &mut W,
 ) -> Result<(), Refusal> {
-    let rows = engine.committed_len(sink)?;
+    let rows = core.committed_len(sink)?;
     writeln!(out, "sink {sink} rows {rows}").map_err(|_| Refusal::Output)?;
     for number in 0..rows {
-        let Some(record) = engine.committed(alloc, sink, number)? else {
+        let Some(record) = core.committed(sink, number)? else {
             return Ok(());
         };
         let row: Row = decode_all(alloc, &record)?;
@@ -28,13 +28,13 @@ fn print_sink<G: Engine, W: Write>(
 }
 
 /// For each sink subtask in order the line `sink S rows N`, then the rows.
-pub fn print_committed<G: Engine, W: Write>(
+pub(crate) fn print_committed<W: Write>(
     alloc: Global,
-    engine: &G,
+    core: &RowCore,
     out: &mut W,
 ) -> Result<(), Refusal> {
-    for sink in 0..engine.sinks() {
-        print_sink(alloc, engine, sink, out)?;
+    for sink in 0..core.sinks() {
+        print_sink(alloc, core, sink, out)?;
     }
     Ok(())
 }

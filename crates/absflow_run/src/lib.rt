@@ -1,18 +1,19 @@
-//! What the program does with a script: it opens an engine over new devices, makes the steps and prints the committed
-//! rows. Everything is generic over the reader and the writers, so that tests run it in memory.
+//! What the program does with a script, and with a job. A script is run on a core over new devices in memory: its steps are made, and the
+//! committed rows are printed. Everything is generic over the reader and the writers, so that tests run it in memory.
 #![tactic(auto)]
 
 mod answer;
+mod checking;
 mod committed;
-mod engine;
+mod opening;
 mod refusal;
 mod row_text;
 mod rows_log;
 mod running;
+mod text;
 
-pub use answer::{Answer, make_step};
-pub use committed::print_committed;
-pub use engine::{CoreFault, Engine};
-pub use refusal::Refusal;
+pub use answer::Answer;
+pub use checking::check;
+pub use opening::RowCore;
 pub use row_text::row_line;
-pub use running::script_on;
+pub use running::script;

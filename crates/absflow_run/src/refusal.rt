@@ -1,7 +1,9 @@
 //! Why the program ended with status 1.
 
-use crate::engine::CoreFault;
+ghost use Rattle.std.specs.Prelude.{◌≤◌};
+
 use abs_codec::{CodecFault, NoMemory};
+use dataflow_core::CoreFault;
 use job_spec::JobFault;
 use script_file::ScriptFault;
 use source_log::SourceFault;
@@ -10,30 +12,69 @@ use std::io;
 use std::io::Write;
 use thiserror::Error;
 
-/// Why a script was refused or given up. Its text is the line on standard error.
+/// Why a script or a job was refused or given up. Its text is the line on standard error, without the names of G9.
 #[derive(Debug, Drop, Error)]
-pub enum Refusal {
-    #[error("cannot read the script")]
+pub(crate) enum Refusal {
+    #[error("cannot read the input")]
     Unreadable,
-    /// The text, a row or a step of it.
+    /// The script's text, a row or a step of it.
     #[error("{0}")]
-    Script(#[from] ScriptFault),
-    /// A job that is sound, and that the engine does not serve.
+    Script(ScriptFault),
+    #[error("{0}")]
+    Job(JobFault),
+    /// A job that is sound, and that the core does not serve.
     #[error("script: not served yet")]
     NotServed,
-    /// The engine was not opened, or a committed row was not given.
+    /// The core was not started, or a committed row was not given.
     #[error("{0}")]
-    Engine(#[from] CoreFault),
+    Core(CoreFault),
     /// A committed record that is no row.
     #[error("{0}")]
-    Record(#[from] CodecFault),
+    Record(CodecFault),
     /// A partition that takes no more rows.
     #[error("{0}")]
     Source(SourceFault),
     #[error("no memory")]
     Memory,
-    #[error("cannot write the answers")]
+    #[error("cannot write the output")]
     Output,
+}
+
+impl From<JobFault> for Refusal {
+    fn from(fault: JobFault) -> Refusal {
+        match fault {
+            JobFault::Memory => Refusal::Memory,
+            other => Refusal::Job(other),
+        }
+    }
+}
+
+impl From<ScriptFault> for Refusal {
+    fn from(fault: ScriptFault) -> Refusal {
+        match fault {
+            ScriptFault::Memory => Refusal::Memory,
+            ScriptFault::Job(fault) => Refusal::from(fault),
+            other => Refusal::Script(other),
+        }
+    }
+}
+
+impl From<CoreFault> for Refusal {
+    fn from(fault: CoreFault) -> Refusal {
+        match fault {
+            CoreFault::Memory => Refusal::Memory,
+            other => Refusal::Core(other),
+        }
+    }
+}
+
+impl From<CodecFault> for Refusal {
+    fn from(fault: CodecFault) -> Refusal {
+        match fault {
+            CodecFault::Memory => Refusal::Memory,
+            other => Refusal::Record(other),
+        }
+    }
 }
 
 impl From<SourceFault> for Refusal {
@@ -57,17 +98,11 @@ impl From<AllocError> for Refusal {
     }
 }
 
-impl<T: Drop> From<AllocFailed<T>> for Refusal {
-    fn from(_e: AllocFailed<T>) -> Refusal {
-        Refusal::Memory
-    }
-}
-
 impl Refusal {
-    /// Writes the line, with the names that a job's fault has.
-    pub fn complain<E: Write>(&self, err: &mut E) -> io::Result<()> {
+    /// Writes the line, with the names that a cycle has.
+    fn complain<E: Write>(&self, err: &mut E) -> io::Result<()> {
         write!(err, "{self}")?;
-        if let Refusal::Script(ScriptFault::Job(JobFault::UnmarkedCycle(names))) = self {
+        if let Refusal::Job(JobFault::UnmarkedCycle(names)) = self {
             let mut separator = ": ";
             for name in names {
                 write!(err, "{separator}{name}")?;
@@ -75,5 +110,23 @@ impl Refusal {
             }
         }
         writeln!(err)
+    }
+}
+
+/// The exit status of a command: 0, or 1 where it was refused or given up, which is then said. Output that fails is a refusal too.
+pub(crate) fn finish<W: Write, E: Write>(
+    outcome: Result<(), Refusal>,
+    out: &mut W,
+    err: &mut E,
+) -> u8
+    ensures { result ≤ 1 }
+{
+    let flushed = out.flush().map_err(|_| Refusal::Output);
+    match outcome.and(flushed) {
+        Ok(()) => 0,
+        Err(refusal) => {
+            let _ = refusal.complain(err);
+            1
+        }
     }
 }

@@ -1,0 +1,36 @@
+//! The core that a script's steps are made on.
+
+ghost use Rattle.std.specs.Prelude.{◌≡◌, length};
+ghost use Rattle.source_log.specs.Partitions as partitions;
+
+use crate::refusal::Refusal;
+use commit_sink::MemoryTransactions;
+use dataflow_core::{Core, is_served};
+use job_graph::Graph;
+use job_spec::JobSpec;
+use operators::{Row, RowOp};
+use snapshot_store::MemoryStore;
+use source_log::MemoryLog;
+use std::alloc::Global;
+
+/// A core over rows, with its devices in memory.
+pub type RowCore = Core<RowOp, MemoryStore, MemoryTransactions, MemoryLog<Row>>;
+
+/// A core of this job over new devices and this log. It is down. A job that no core serves is refused.
+pub(crate) fn open(
+    alloc: Global,
+    job: &JobSpec,
+    graph: Graph,
+    log: MemoryLog<Row>,
+) -> Result<RowCore, Refusal>
+{
+    let tasks = graph.tasks();
+    let sinks = graph.sinks();
+    let operators = job.operators(alloc)?;
+    if !is_served(&graph) || tasks == 0 || operators.len() != graph.operators() as usize {
+        return Err(Refusal::NotServed);
+    }
+    let store = MemoryStore::new(alloc, tasks);
+    let transactions = MemoryTransactions::new(alloc, sinks);
+    Ok(Core::open(alloc, graph, operators, log, store, transactions))
+}

@@ -1,0 +1,18 @@
+//! Tests of scripts and of job files, as the program runs and judges them: values worked out by hand, the texts of answers and refusals, and the
+//! order of refusals.
+#![tactic(auto)]
+
+#[cfg(test)]
+mod commands;
+
+#[cfg(test)]
+mod jobs;
+
+#[cfg(test)]
+mod refusals;
+
+#[cfg(test)]
+mod restarts;
+
+#[cfg(test)]
+mod runs;
