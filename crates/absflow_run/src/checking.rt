@@ -16,8 +16,9 @@ fn judge<R: Read + Drop, W: Write>(alloc: Global, file: R, out: &mut W) -> Resul
     let tasks = graph.tasks();
     let channels = graph.channels();
     let sinks = graph.sinks();
-    writeln!(out, "ok: {tasks} tasks, {channels} channels, {sinks} sinks")
-        .map_err(|_| Refusal::Output)
+    writeln!(out, "ok: {tasks} tasks, {channels} channels, {sinks} sinks").map_err(
+        |_| Refusal::Output,
+    )
 }
 
 /// Says how many tasks, channels and sink subtasks a job has, and answers the exit status: 0, or 1 where it was refused.

@@ -1,7 +1,7 @@
 //! The core that a script's steps are made on.
 
-ghost use Rattle.std.specs.Prelude.{◌≡◌, length};
-ghost use Rattle.source_log.specs.Partitions as partitions;
+ghost use Rattle.std.specs.Prelude.{◌≡◌, count_by, length};
+ghost use Rattle.job_graph.specs.Expanded.{is_source};
 
 use crate::refusal::Refusal;
 use commit_sink::MemoryTransactions;
@@ -10,7 +10,7 @@ use job_graph::Graph;
 use job_spec::JobSpec;
 use operators::{Row, RowOp};
 use snapshot_store::MemoryStore;
-use source_log::MemoryLog;
+use source_log::{MemoryLog, Partitions};
 use std::alloc::Global;
 
 /// A core over rows, with its devices in memory.
@@ -23,6 +23,7 @@ pub(crate) fn open(
     graph: Graph,
     log: MemoryLog<Row>,
 ) -> Result<RowCore, Refusal>
+    requires { length (⟦<MemoryLog<Row> as Partitions>⟧.records log) ≡ count_by is_source graph.tasks }
 {
     let tasks = graph.tasks();
     let sinks = graph.sinks();

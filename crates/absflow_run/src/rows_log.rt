@@ -1,16 +1,21 @@
 //! The partitions of a script as a log.
 
+ghost use Rattle.std.specs.Prelude.{◌≡◌, ◌++◌, length, OnOk, IfOk};
+
 use crate::refusal::Refusal;
 use operators::Row;
 use script_file::FittingRow;
 use source_log::{MemoryLog, Partitions, SourceFault};
 use std::alloc::Global;
 
+/// Puts the rows last in the partition.
 fn append_rows(
     log: &mut MemoryLog<Row>,
     partition: u32,
     rows: Vec<FittingRow>,
-) -> Result<(), SourceFault> {
+) -> Result<(), SourceFault>
+    ensures { OnOk result (length (⟦<MemoryLog<Row> as Partitions>⟧.records log.new) ≡ length (⟦<MemoryLog<Row> as Partitions>⟧.records log.old)) }
+{
     for row in rows {
         log.append(partition, row.into_row())?;
     }
@@ -22,7 +27,9 @@ pub(crate) fn rows_log(
     alloc: Global,
     count: u32,
     partitions: Vec<Vec<FittingRow>>,
-) -> Result<MemoryLog<Row>, Refusal> {
+) -> Result<MemoryLog<Row>, Refusal>
+    ensures { IfOk result (λ log. length (⟦<MemoryLog<Row> as Partitions>⟧.records log) ≡ count) }
+{
     let mut log = MemoryLog::new(alloc, count)?;
     for (partition, rows) in (0..count).zip(partitions) {
         append_rows(&mut log, partition, rows)?;

@@ -5,10 +5,12 @@ use std::alloc::{AllocError, Global};
 use std::process::Abort;
 
 /// A source, an operator that adds 10, and a sink: tasks 0, 1 and 2.
-pub(crate) const LINE: &str = r#"{"vertices":[{"name":"s","kind":"source"},{"name":"plus","kind":"add","n":10},{"name":"out","kind":"sink"}],"edges":[{"from":"s","to":"plus"},{"from":"plus","to":"out"}]}"#;
+pub(crate) const LINE: &str =
+    r#"{"vertices":[{"name":"s","kind":"source"},{"name":"plus","kind":"add","n":10},{"name":"out","kind":"sink"}],"edges":[{"from":"s","to":"plus"},{"from":"plus","to":"out"}]}"#;
 
 /// A source that sends each record to one of two operators and to both of two others.
-pub(crate) const FORK: &str = r#"{"vertices":[{"name":"s","kind":"source"},{"name":"f","kind":"add","n":0,"parallelism":2},{"name":"g","kind":"add","n":0,"parallelism":2},{"name":"o","kind":"sink","parallelism":2}],"edges":[{"from":"s","to":"f","route":"hash"},{"from":"s","to":"g","route":"broadcast"},{"from":"f","to":"o"}]}"#;
+pub(crate) const FORK: &str =
+    r#"{"vertices":[{"name":"s","kind":"source"},{"name":"f","kind":"add","n":0,"parallelism":2},{"name":"g","kind":"add","n":0,"parallelism":2},{"name":"o","kind":"sink","parallelism":2}],"edges":[{"from":"s","to":"f","route":"hash"},{"from":"s","to":"g","route":"broadcast"},{"from":"f","to":"o"}]}"#;
 
 /// What a command is to come to.
 #[derive(Clone, Copy)]
@@ -43,15 +45,8 @@ pub(crate) fn script_text(
     partitions: &str,
     steps: &str,
 ) -> Result<String, AllocError> {
-    let mut text = format!(in alloc; "{{\"job\":{job},\"partitions\":[{partitions}],\"steps\":[")?;
-    let mut separator = "\"";
-    for step in steps.split("; ") {
-        text.push_str(separator)?;
-        text.push_str(step)?;
-        separator = "\",\"";
-    }
-    text.push_str("\"]}")?;
-    Ok(text)
+    let steps = steps.replace(alloc, "; ", "\",\"")?;
+    format!(in alloc; "{{\"job\":{job},\"partitions\":[{partitions}],\"steps\":[\"{steps}\"]}}")
 }
 
 /// Asserts that the script comes to what is wanted.

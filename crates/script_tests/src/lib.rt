@@ -4,15 +4,11 @@
 
 #[cfg(test)]
 mod commands;
-
 #[cfg(test)]
 mod jobs;
-
 #[cfg(test)]
 mod refusals;
-
 #[cfg(test)]
 mod restarts;
-
 #[cfg(test)]
 mod runs;

@@ -10,20 +10,19 @@ use std::test::Fail;
 const MOST_BYTES: usize = 16_777_216;
 
 /// Two edges into one task.
-const JOIN: &str = r#"{"vertices":[{"name":"s","kind":"source"},{"name":"out","kind":"sink"}],"edges":[{"from":"s","to":"out"},{"from":"s","to":"out"}]}"#;
+const JOIN: &str =
+    r#"{"vertices":[{"name":"s","kind":"source"},{"name":"out","kind":"sink"}],"edges":[{"from":"s","to":"out"},{"from":"s","to":"out"}]}"#;
 
 /// A task that sends to itself.
-const LOOP: &str = r#"{"vertices":[{"name":"s","kind":"source"},{"name":"d","kind":"loop_down"}],"edges":[{"from":"s","to":"d"},{"from":"d","to":"d","port":1,"back":true}]}"#;
+const LOOP: &str =
+    r#"{"vertices":[{"name":"s","kind":"source"},{"name":"d","kind":"loop_down"}],"edges":[{"from":"s","to":"d"},{"from":"d","to":"d","port":1,"back":true}]}"#;
 
 /// Each has the faults of those after it too, where that can be.
 const REFUSED: [(&str, &str); 20] = [
     ("{", "script: not JSON\n"),
     ("\u{feff}{}", "script: not JSON\n"),
     ("[]", "script: bad field\n"),
-    (
-        r#"{"job":1,"partitions":[[1]]}"#,
-        "script: bad field\n",
-    ),
+    (r#"{"job":1,"partitions":[[1]]}"#, "script: bad field\n"),
     (
         r#"{"job":1,"partitions":[1],"steps":[""]}"#,
         "script: bad field\n",

@@ -31,7 +31,8 @@ fn goes_on_from_the_last_complete_checkpoint(rt: HostRuntime) -> Result<(), Fail
 }
 
 /// The steps of a run in which two rows are committed.
-const WHOLE: &str = "read 0; read 0; work 1 0; work 1 0; work 2 0; work 2 0; trigger; inject 0; barrier 1 0; barrier 2 0; persist 0; persist 1; persist 2; complete; commit 0";
+const WHOLE: &str =
+    "read 0; read 0; work 1 0; work 1 0; work 2 0; work 2 0; trigger; inject 0; barrier 1 0; barrier 2 0; persist 0; persist 1; persist 2; complete; commit 0";
 
 /// The whole run's first steps, a failure and a restart, and then the whole run.
 fn interrupted(alloc: Global, count: usize) -> Result<String, AllocError> {
