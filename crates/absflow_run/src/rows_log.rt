@@ -1,6 +1,7 @@
 //! The partitions of a script as a log.
 
-ghost use Rattle.std.specs.Prelude.{◌≡◌, ◌++◌, length, OnOk, IfOk};
+ghost use Rattle.std.specs.Prelude.{◌≡◌, length, OnOk, IfOk};
+ghost use Rattle.absflow_run.specs.Log.{with_rows};
 
 use crate::refusal::Refusal;
 use operators::Row;
@@ -9,12 +10,13 @@ use source_log::{MemoryLog, Partitions, SourceFault};
 use std::alloc::Global;
 
 /// Puts the rows last in the partition.
+#[tactic(auto, using(crate::proofs::Rows::with_row, crate::proofs::Rows::with_no_rows))]
 fn append_rows(
     log: &mut MemoryLog<Row>,
     partition: u32,
     rows: Vec<FittingRow>,
 ) -> Result<(), SourceFault>
-    ensures { OnOk result (length (⟦<MemoryLog<Row> as Partitions>⟧.records log.new) ≡ length (⟦<MemoryLog<Row> as Partitions>⟧.records log.old)) }
+    ensures { OnOk result (⟦<MemoryLog<Row> as Partitions>⟧.records log.new ≡ with_rows (⟦<MemoryLog<Row> as Partitions>⟧.records log.old) partition rows.items) }
 {
     for row in rows {
         log.append(partition, row.into_row())?;
