@@ -25,6 +25,7 @@ ghost use Rattle.line_core.specs.Lines.{IsLine, CommitsABeginning};
 ghost use Rattle.line_model.specs.Line.{applied};
 ghost use Rattle.core_plain.specs.Plain.{StepsIfOk, Stays};
 ghost use Rattle.core_model.specs.Restart.{EndsRestart};
+ghost use Rattle.core_model.specs.RestartLaws.{GoesOnFromCut};
 ghost use Rattle.dataflow_model.specs.Graph.{Begins};
 ghost use Rattle.dataflow_model.specs.Machine as machine;
 ghost use Rattle.dataflow_core.specs.Tasks.{EndsWork, EndsBarrier};
@@ -215,6 +216,8 @@ impl<O: Operator, S: SnapshotStore, X: Transactions, P: Partitions<Record = O::R
         ensures ends { OnDown self.old self.new (EndsRestart (language O.meaning O.Key.cmp O.Record.spelling O.Record.reading O.Key.reading O.State.reading) (Fits O.Key.HasSpelling O.Key.spelling) (IsGoodState (Fits O.State.HasSpelling O.State.spelling) O.Suits) self.old.operators self.old.partitions self.old.stored self.old.graph self.old.ledger self.new.ledger) result }
         ensures goes { self.old.is_fresh ≡ true → Goes (language O.meaning O.Key.cmp O.Record.spelling O.Record.reading O.Key.reading O.State.reading) self.old self.new }
         ensures begins { (subtask : ℕ) → Begins (committed_rows self.old.ledger subtask) (committed_rows self.new.ledger subtask) }
+        ensures cut { self.old.is_fresh ≡ true → IfOk result (λ last. MatchOption self.new.held ⊥ (λ k. GoesOnFromCut (language O.meaning O.Key.cmp O.Record.spelling O.Record.reading O.Key.reading O.State.reading) self.new last k)) }
+        ensures good { self.old.is_fresh ≡ true → ((partition offset : ℕ) (row : O.Record) → slice_get (partitions.records_at self.old.partitions partition) offset ≡ Some row → Fits O.Record.HasSpelling O.Record.spelling row) → result ≢ Err CoreFault.BadSnapshot }
         ensures counted { result ≡ Err CoreFault.Device → self.old.faults < self.new.faults }
     {
         if self.attempt.is_some() {

@@ -2,8 +2,10 @@ use Rattle.std.proofs.Common.{◌<◌, sym, subst, ◌∙◌}
 use Rattle.abs_codec.specs.Spelling.{Fits}
 use Rattle.core_calls.proofs.Numbers.{sink_within}
 use Rattle.core_model.proofs.CallRestarts.{keeps_restart, restart_withdraws}
+use Rattle.core_model.specs.RestartLaws.{OperatorsAreLawful}
+use Rattle.core_model.proofs.RestartParts.{never_bad}
 use Rattle.core_model.proofs.RestartSteps.{restart_goes}
-use Rattle.dataflow_core.proofs.Raising.{none_is, raised_by}
+use Rattle.dataflow_core.proofs.Raising.{none_is, raised_by, number_bad, cut_by}
 use Rattle.dataflow_core.proofs.engine.Core.restart.Goals as goal
 
 pub restarted-outcome-requires : goal.restarted-outcome-requires
@@ -30,3 +32,21 @@ pub returns-clause-begins : goal.returns-clause-begins
 returns-clause-begins g c = λ subtask.
     rw (← c.self.view_is)
     (restart_withdraws _ (Fits g.O.Key.Codec.HasSpelling g.O.Key.Codec.spelling) _ _ _ c.self.invariant (g.X.Transactions.state c.restarted-outcome.new.transactions) c.restarted-outcome.result subtask (rw (← c.deref.ensures.value) c.restarted-outcome.ensures.ends))
+
+pub returns-clause-cut : goal.returns-clause-cut
+returns-clause-cut g c =
+    let down = none_is c.self.inside.attempt (sym c.is_some.ensures ∙ c.if-is_some.false) in
+    let ledger = g.X.Transactions.state c.restarted-outcome.new.transactions in
+    rw (← c.self.view_is, c.restarted-outcome.ensures.same, c.raise.ensures.number, c.raise.ensures.holds, raised_by c.restarted-outcome.result c.self.inside.attempt down)
+    (λ fresh. cut_by _ (Fits g.O.Key.Codec.HasSpelling g.O.Key.Codec.spelling) _ _ _ c.self.invariant down fresh ledger _ c.restarted-outcome.result (rw (← c.deref.ensures.value) c.restarted-outcome.ensures.ends))
+
+pub returns-clause-good : goal.returns-clause-good
+returns-clause-good g c =
+    let down = none_is c.self.inside.attempt (sym c.is_some.ensures ∙ c.if-is_some.false) in
+    let ledger = g.X.Transactions.state c.restarted-outcome.new.transactions in
+    let o = g.met.O.Operator in
+    let laws : OperatorsAreLawful g.O.Operator.meaning g.O.Key.Ord.cmp (Fits g.O.Record.Codec.HasSpelling g.O.Record.Codec.spelling) (Fits g.O.Key.Codec.HasSpelling g.O.Key.Codec.spelling) (Fits g.O.State.Codec.HasSpelling g.O.State.Codec.spelling) g.O.Operator.Suits =
+    record { same_key = o.same_key; exact = o.key_is_exact; keys = o.key_fits; fresh = o.fresh_is_good; states = o.state_stays_good; sent = o.sent_fits } in
+    rw (← c.self.view_is, c.raise.ensures.number)
+    (λ fresh fit. number_bad c.restarted-outcome.result
+    (never_bad _ _ (Fits g.O.Key.Codec.HasSpelling g.O.Key.Codec.spelling) (Fits g.O.State.Codec.HasSpelling g.O.State.Codec.spelling) g.O.Operator.Suits _ c.self.invariant down fresh laws fit ledger c.restarted-outcome.result (rw (← c.deref.ensures.value) c.restarted-outcome.ensures.ends)))
