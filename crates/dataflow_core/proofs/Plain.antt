@@ -1,14 +1,19 @@
 -- What calls do to the plain configuration, of an engine that is known by what it keeps.
-use Rattle.std.proofs.Common.{◌≡◌, Some, Result, ℕ, List}
+use Rattle.std.proofs.Common.{◌≡◌, Option, Some, Result, slice_get, ℕ, List, refl}
+use Rattle.commit_sink.specs.Ledger.{Ledger, IsOrdered, committed_rows}
+use Rattle.dataflow_model.specs.Graph.{Begins}
 use Rattle.dataflow_model.specs.Machine.{Read}
+use Rattle.job_graph.specs.declared.role.Role.TheVariants as role
 use Rattle.job_state.specs.Held.{Held}
 use Rattle.snapshot_store.specs.Store.{Stored}
 use Rattle.task_part.specs.declared.part.Part.{Part}
 use Rattle.core_model.specs.Calls.{EndsRead, EndsTrigger, EndsPersist, EndsComplete, left_by}
+use Rattle.core_model.specs.Goes.{Goes}
 use Rattle.core_model.specs.Keeps.{Keeps}
 use Rattle.core_model.specs.Language.{Language}
 use Rattle.core_model.specs.State.{State}
 use Rattle.core_model.specs.declared.fault.CoreFault.{CoreFault}
+use Rattle.core_model.proofs.CallExact.{goes_withdraws}
 use Rattle.core_plain.specs.Plain.{StepsIfOk, Stays}
 use Rattle.core_plain.proofs.PlainReads.{plain_read}
 use Rattle.core_plain.proofs.Stands.{stays_alone}
@@ -32,3 +37,8 @@ module _ {R K S O : Type 0} (lang : Language R K S O) (RecordFits : R → Type 0
   -- partitions may grow
   pub append_stays : (partitions : List (List R)) → Stays lang s (record s { partitions = partitions; faults = 0 })
   append_stays partitions = stays_alone lang s partitions 0
+
+  -- no committed row is withdrawn
+  pub withdraws : (ledger : Ledger) (held : Option (Held R K S)) (n : ℕ) → IsOrdered ledger → Goes lang s (record s { held = held; ledger = ledger; faults = n }) → (task subtask : ℕ) → slice_get s.graph.tasks task ≡ Some (role.Sink subtask)
+      → Begins (committed_rows s.ledger subtask) (committed_rows ledger subtask)
+  withdraws ledger held n ordered goes task subtask at = goes_withdraws lang s (record s { held = held; ledger = ledger; faults = n }) task subtask refl at keeps.ordered ordered goes

@@ -1,5 +1,5 @@
 -- What a running job gives its calls.
-use Rattle.std.proofs.Common.{◌≡◌, ◌<◌, Some, None, Result, Ok, Err, OnOk, slice_get, length, ℕ, true, List, sym, subst, ◌∙◌, arith}
+use Rattle.std.proofs.Common.{◌≡◌, ◌<◌, Some, None, Result, Ok, Err, OnOk, IfOk, slice_get, length, ℕ, true, List, sym, subst, ◌∙◌, arith}
 use Rattle.std.specs.declared.cmp.Ordering.{Ordering}
 use Rattle.std.proofs.lemmas.Option.{slice_get_within}
 use Rattle.commit_sink.specs.Ledger.{Ledger, open_refusal}
@@ -10,9 +10,10 @@ use Rattle.job_graph.specs.declared.role.Role.{Role}
 use Rattle.job_graph.specs.declared.role.Role.TheVariants as role
 use Rattle.job_state.specs.Held.{Held}
 use Rattle.job_state.specs.declared.holding.Holding.TheVariants as holds
-use Rattle.snapshot_store.specs.Store.{complete_refusal}
+use Rattle.snapshot_store.specs.Store.{Stored, complete_refusal, has_all_parts}
 use Rattle.core_calls.proofs.Holdings.{none_past}
 use Rattle.core_calls.proofs.Numbers.{source_within, operator_within, sink_within}
+use Rattle.core_model.specs.Calls.{EndsComplete}
 use Rattle.core_model.specs.Commits.{EndsCommit}
 use Rattle.core_model.specs.Keeps.{Keeps}
 use Rattle.core_model.specs.LastCommitted.{committed_of, complete_numbers}
@@ -22,7 +23,7 @@ use Rattle.core_model.specs.State.{State}
 use Rattle.core_model.proofs.CallLasts.{commits_reach}
 use Rattle.core_model.proofs.CallSteps.{shape_at, runs_at}
 use Rattle.core_model.proofs.LedgerSinks.{open_not_refused}
-use Rattle.core_model.proofs.StoreComplete.{may_complete}
+use Rattle.core_model.proofs.StoreComplete.{may_complete, ready_parts}
 use Rattle.core_model.proofs.StoreRuns.{runs_pending}
 use Rattle.dataflow_core.specs.Tasks.{Serves}
 
@@ -50,6 +51,14 @@ module _ {R K S O : Type 0} (lang : Language R K S O) (RecordFits : R → Type 0
     pub reaches : (result : Result Unit CoreFault) → EndsCommit s.graph subtask h k s.ledger ledger result → OnOk result (length (committed_of ledger subtask) ≡ length (complete_numbers s.stored))
     reaches (Ok u) ends = commits_reach lang RecordFits IsGood s keeps fresh h is subtask k ledger u ends
     reaches (Err fault) ends = tt
+
+  -- a checkpoint that is complete now has every part
+  module _ (stored : Stored) (k : Held R K S) where
+    pub whole : (result : Result ℕ CoreFault) → EndsComplete h k s.stored stored result → IfOk result (λ n. has_all_parts stored n ≡ true)
+    whole (Ok n) ends =
+        subst (λ (x : Stored). has_all_parts x n ≡ true) (sym ends.2)
+        (ready_parts lang s.stored h n (runs_pending lang s h (runs_at lang RecordFits IsGood s keeps h is) n ends.0) ends.1 ((shape_at lang RecordFits IsGood s keeps h is).acked ∙ sym keeps.stored_tasks))
+    whole (Err fault) ends = tt
 
 module _ {R K S O : Type 0} (cmp : K → K → Ordering) (RecordFits : R → Type 0) (IsGood : O → S → Type 0) (graph : Expanded) (operators : List O) (ledger : Ledger) (h : Held R K S) (serves : Serves cmp RecordFits IsGood graph operators ledger h) (task : ℕ) where
   -- a task has its place among the copies

@@ -8,6 +8,7 @@ ghost use Rattle.alignment.specs.declared.input.Effect.TheVariants as Effect;
 ghost use Rattle.commit_sink.specs.Ledger as ledgers;
 ghost use Rattle.commit_sink.specs.Ledger.{committed_rows};
 ghost use Rattle.job_graph.specs.Expanded.{is_source, is_sink};
+ghost use Rattle.job_graph.specs.declared.role.Role.TheVariants as Role;
 ghost use Rattle.job_graph.specs.PlainGraph.{HaveOperators};
 ghost use Rattle.snapshot_store.specs.Store as stores;
 ghost use Rattle.source_log.specs.Partitions as partitions;
@@ -252,6 +253,7 @@ impl<O: Operator, S: SnapshotStore, X: Transactions, P: Partitions<Record = O::R
     pub fn work(&mut self, task: u32, input: u32) -> Result<(), CoreFault>
         ensures ends { OnTransactions self.old self.new (λ h k. EndsWork (language O.meaning O.Key.cmp O.Record.spelling O.Record.reading O.Key.reading O.State.reading) self.old.graph self.old.operators task input h k self.old.ledger self.new.ledger) result }
         ensures goes { Goes (language O.meaning O.Key.cmp O.Record.spelling O.Record.reading O.Key.reading O.State.reading) self.old self.new }
+        ensures begins { (task subtask : ℕ) → slice_get self.old.graph.tasks task ≡ Some (Role.Sink subtask) → Begins (committed_rows self.old.ledger subtask) (committed_rows self.new.ledger subtask) }
         ensures plain { MatchOption (input_at self.old.graph task input) (Stays (language O.meaning O.Key.cmp O.Record.spelling O.Record.reading O.Key.reading O.State.reading) self.old self.new) (λ channel. StepsIfOk result (language O.meaning O.Key.cmp O.Record.spelling O.Record.reading O.Key.reading O.State.reading) (machine.Work task channel) self.old self.new) }
         ensures counted { result ≡ Err CoreFault.Device → self.old.faults < self.new.faults }
     {
@@ -275,6 +277,7 @@ impl<O: Operator, S: SnapshotStore, X: Transactions, P: Partitions<Record = O::R
         ensures ends { OnTransactions self.old self.new (λ h k r. EndsBarrier self.old.graph task input h k self.old.ledger self.new.ledger (done_by r)) result }
         ensures effect { IfOk result (λ effect. effect ≡ Effect.CopyAndDone) }
         ensures goes { Goes (language O.meaning O.Key.cmp O.Record.spelling O.Record.reading O.Key.reading O.State.reading) self.old self.new }
+        ensures begins { (task subtask : ℕ) → slice_get self.old.graph.tasks task ≡ Some (Role.Sink subtask) → Begins (committed_rows self.old.ledger subtask) (committed_rows self.new.ledger subtask) }
         ensures stays { Stays (language O.meaning O.Key.cmp O.Record.spelling O.Record.reading O.Key.reading O.State.reading) self.old self.new }
         ensures counted { result ≡ Err CoreFault.Device → self.old.faults < self.new.faults }
     {
@@ -336,6 +339,7 @@ impl<O: Operator, S: SnapshotStore, X: Transactions, P: Partitions<Record = O::R
     /// The pending checkpoint, of which the store has every task's part, becomes complete. It takes no memory.
     pub fn complete(&mut self) -> Result<u64, CoreFault>
         ensures ends { OnStore self.old self.new (λ h k. EndsComplete h k self.old.stored self.new.stored) result }
+        ensures whole { IfOk result (λ number. stores.has_all_parts self.new.stored number ≡ true) }
         ensures goes { Goes (language O.meaning O.Key.cmp O.Record.spelling O.Record.reading O.Key.reading O.State.reading) self.old self.new }
         ensures stays { Stays (language O.meaning O.Key.cmp O.Record.spelling O.Record.reading O.Key.reading O.State.reading) self.old self.new }
         ensures counted { result ≡ Err CoreFault.Device → self.old.faults < self.new.faults }
@@ -351,6 +355,7 @@ impl<O: Operator, S: SnapshotStore, X: Transactions, P: Partitions<Record = O::R
     pub fn commit(&mut self, sink: u32) -> Result<(), CoreFault>
         ensures ends { OnTransactions self.old self.new (λ h k. EndsCommit self.old.graph sink h k self.old.ledger self.new.ledger) result }
         ensures goes { Goes (language O.meaning O.Key.cmp O.Record.spelling O.Record.reading O.Key.reading O.State.reading) self.old self.new }
+        ensures begins { (task subtask : ℕ) → slice_get self.old.graph.tasks task ≡ Some (Role.Sink subtask) → Begins (committed_rows self.old.ledger subtask) (committed_rows self.new.ledger subtask) }
         ensures stays { Stays (language O.meaning O.Key.cmp O.Record.spelling O.Record.reading O.Key.reading O.State.reading) self.old self.new }
         ensures counted { result ≡ Err CoreFault.CommitFault → self.old.faults < self.new.faults }
         ensures reaches { self.new.is_fresh ≡ true → OnOk result (length (committed_of self.new.ledger sink) ≡ length (complete_numbers self.new.stored)) }
@@ -370,6 +375,21 @@ impl<O: Operator, S: SnapshotStore, X: Transactions, P: Partitions<Record = O::R
         ensures stays { Stays (language O.meaning O.Key.cmp O.Record.spelling O.Record.reading O.Key.reading O.State.reading) self.old self.new }
     {
         self.log.append(partition, row)
+    }
+
+    /// The partitions and the devices, as they stand.
+    pub fn into_durable(self) -> (P, S, X)
+        ensures partitions { P.records result.0 ≡ self.partitions }
+        ensures stored { S.state result.1 ≡ self.stored }
+        ensures ledger { X.state result.2 ≡ self.ledger }
+    {
+        let Core {
+            log,
+            store,
+            transactions,
+            ..
+        } = self;
+        (log, store, transactions)
     }
 
     /// How many sink subtasks there are.

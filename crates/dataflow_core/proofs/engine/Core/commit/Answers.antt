@@ -1,6 +1,7 @@
 use Rattle.core_model.proofs.CallCommits.{keeps_commit}
 use Rattle.dataflow_core.proofs.Serving.{reaches}
 use Rattle.core_plain.proofs.PlainCommits.{plain_commit}
+use Rattle.dataflow_core.proofs.Plain.{withdraws}
 use Rattle.dataflow_core.proofs.engine.Core.commit.Goals as goal
 
 pub invariant_of-self-2 : goal.invariant_of-self-2
@@ -21,3 +22,8 @@ returns-clause-stays g c =
 pub returns-clause-reaches : goal.returns-clause-reaches
 returns-clause-reaches g c = λ fresh.
     rw c.leave.ensures.answer (reaches _ _ _ _ c.self.invariant c.in-Some.attempt c.in-Some.is fresh c.args.sink c.commit-outcome.new.attempt (g.X.Transactions.state c.commit-outcome.new.transactions) c.commit-outcome.result c.commit-outcome.ensures.ends)
+
+pub returns-clause-begins : goal.returns-clause-begins
+returns-clause-begins g c =
+    rw (← c.self.view_is)
+    (withdraws _ _ _ _ c.self.invariant (g.X.Transactions.state c.commit-outcome.new.transactions) _ 0 (g.met.X.Transactions.ordered c.commit-outcome.new.transactions) (keeps_commit _ _ _ _ c.self.invariant c.in-Some.attempt c.in-Some.is c.args.sink c.commit-outcome.new.attempt (g.X.Transactions.state c.commit-outcome.new.transactions) 0 c.commit-outcome.result c.commit-outcome.ensures.ends).1)

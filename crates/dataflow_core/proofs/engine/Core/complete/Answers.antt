@@ -1,7 +1,7 @@
 use Rattle.core_model.proofs.CallCompletes.{keeps_complete}
 use Rattle.core_model.proofs.StoreComplete.{coordinator_completes}
 use Rattle.dataflow_core.proofs.Plain.{complete_stays}
-use Rattle.dataflow_core.proofs.Serving.{completes}
+use Rattle.dataflow_core.proofs.Serving.{completes, whole}
 use Rattle.dataflow_core.proofs.engine.Core.complete.Goals as goal
 
 pub complete-outcome-requires-clause-may : goal.complete-outcome-requires-clause-may
@@ -24,3 +24,6 @@ pub returns-clause-stays : goal.returns-clause-stays
 returns-clause-stays g c =
     rw (← c.self.view_is, c.leave.ensures.left)
     (complete_stays _ _ _ _ c.self.invariant c.in-Some.attempt c.complete-outcome.new.attempt c.in-Some.is (g.S.SnapshotStore.state c.complete-outcome.new.store) c.complete-outcome.result c.complete-outcome.ensures.ends)
+
+pub returns-clause-whole : goal.returns-clause-whole
+returns-clause-whole g c = rw c.leave.ensures.answer (whole _ _ _ _ c.self.invariant c.in-Some.attempt c.in-Some.is (g.S.SnapshotStore.state c.complete-outcome.new.store) c.complete-outcome.new.attempt c.complete-outcome.result c.complete-outcome.ensures.ends)
