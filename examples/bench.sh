@@ -1,5 +1,5 @@
 #!/bin/sh
-# Seconds of a script of 10,000 and of 100,000 steps on a line, through bin/absflow.
+# Seconds of a script of 10,000 and of 100,000 steps on a line, and of judging a job of 256 tasks and 4,096 channels, through bin/absflow.
 #
 # A third of the steps read a row, a third take it through the operator, a third bring it to the sink; then a checkpoint
 # commits all of them. The same script with a last step that is none is read whole and then refused, so its time is that
@@ -41,3 +41,18 @@ for steps in 10000 100000; do
         printf "%d steps: %s s, of which reading %s s; %.2f microseconds a step\n", n, w, r, (w - r) * 1000000 / n
     }'
 done
+
+# Five vertices of 32 subtasks, each joined to the next by a hashed edge of 1,024 channels, and three sources more.
+awk 'BEGIN {
+    printf "{\"vertices\":[{\"name\":\"s\",\"kind\":\"source\",\"parallelism\":32}"
+    for (i = 1; i <= 3; i++) printf ",{\"name\":\"v%d\",\"kind\":\"add\",\"n\":1,\"parallelism\":32}", i
+    printf ",{\"name\":\"v4\",\"kind\":\"sink\",\"parallelism\":32}"
+    for (i = 1; i <= 3; i++) printf ",{\"name\":\"t%d\",\"kind\":\"source\",\"parallelism\":32}", i
+    printf "],\"edges\":[{\"from\":\"s\",\"to\":\"v1\",\"route\":\"hash\"}"
+    for (i = 1; i <= 3; i++) printf ",{\"from\":\"v%d\",\"to\":\"v%d\",\"route\":\"hash\"}", i, i + 1
+    printf "]}"
+}' > "$work/job.json"
+start=$(date +%s.%N)
+told=$(bin/absflow check "$work/job.json")
+end=$(date +%s.%N)
+awk -v told="$told" -v a="$start" -v b="$end" 'BEGIN { printf "%s: %.3f s\n", told, b - a }'

@@ -8,6 +8,14 @@ use std::process::Abort;
 pub(crate) const LINE: &str =
     r#"{"vertices":[{"name":"s","kind":"source"},{"name":"plus","kind":"add","n":10},{"name":"out","kind":"sink"}],"edges":[{"from":"s","to":"plus"},{"from":"plus","to":"out"}]}"#;
 
+/// A source, an operator that sends records of at least 5 by its first port and the others by its second, and a sink behind the first.
+pub(crate) const SPLIT: &str =
+    r#"{"vertices":[{"name":"s","kind":"source"},{"name":"five","kind":"split","n":5},{"name":"out","kind":"sink"}],"edges":[{"from":"s","to":"five"},{"from":"five","to":"out"}]}"#;
+
+/// A source, an operator that sums by key, and a sink.
+pub(crate) const SUM: &str =
+    r#"{"vertices":[{"name":"s","kind":"source"},{"name":"sums","kind":"sum"},{"name":"out","kind":"sink"}],"edges":[{"from":"s","to":"sums","route":"hash"},{"from":"sums","to":"out"}]}"#;
+
 /// A source that sends each record to one of two operators and to both of two others.
 pub(crate) const FORK: &str =
     r#"{"vertices":[{"name":"s","kind":"source"},{"name":"f","kind":"add","n":0,"parallelism":2},{"name":"g","kind":"add","n":0,"parallelism":2},{"name":"o","kind":"sink","parallelism":2}],"edges":[{"from":"s","to":"f","route":"hash"},{"from":"s","to":"g","route":"broadcast"},{"from":"f","to":"o"}]}"#;

@@ -7,6 +7,8 @@ mod commands;
 #[cfg(test)]
 mod jobs;
 #[cfg(test)]
+mod parts;
+#[cfg(test)]
 mod refusals;
 #[cfg(test)]
 mod restarts;

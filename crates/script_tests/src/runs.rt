@@ -1,10 +1,10 @@
 //! Scripts whose answers and committed rows were worked out by hand.
 
-use crate::commands::{FORK, LINE, expect_script, script_text, written};
+use crate::commands::{FORK, LINE, SPLIT, SUM, expect_script, script_text, written};
 use std::test::Fail;
 
 /// Each with its job, its partitions, its steps and what it writes.
-const RUNS: [(&str, &str, &str, &str); 6] = [
+const RUNS: [(&str, &str, &str, &str); 8] = [
     // Two rows through the line, a checkpoint, a commit.
     (
         LINE,
@@ -25,6 +25,20 @@ const RUNS: [(&str, &str, &str, &str); 6] = [
         "[]",
         "read 0; trigger; inject 0; barrier 1 0; barrier 2 0; persist 0; persist 1; persist 2; complete; commit 0",
         "0 K3 NotReady\n1 ok 1\n2 ok\n3 ok copy-done\n4 ok copy-done\n5 ok\n6 ok\n7 ok\n8 ok 1\n9 ok\nsink 0 rows 0\n",
+    ),
+    // What stands below the bound leaves by a port that no edge leaves from.
+    (
+        SPLIT,
+        r#"[{"k":"a","v":7},{"k":"a","v":4}]"#,
+        "read 0; read 0; work 1 0; work 1 0; work 2 0; work 2 0; trigger; inject 0; barrier 1 0; barrier 2 0; persist 0; persist 1; persist 2; complete; commit 0",
+        "0 ok\n1 ok\n2 ok\n3 ok\n4 ok\n5 K3 NotReady\n6 ok 1\n7 ok\n8 ok copy-done\n9 ok copy-done\n10 ok\n11 ok\n12 ok\n13 ok 1\n14 ok\nsink 0 rows 1\n{\"k\":\"a\",\"v\":7}\n",
+    ),
+    // Running sums of a key.
+    (
+        SUM,
+        r#"[{"k":"a","v":1},{"k":"a","v":2}]"#,
+        "read 0; read 0; work 1 0; work 1 0; work 2 0; work 2 0; trigger; inject 0; barrier 1 0; barrier 2 0; persist 0; persist 1; persist 2; complete; commit 0",
+        "0 ok\n1 ok\n2 ok\n3 ok\n4 ok\n5 ok\n6 ok 1\n7 ok\n8 ok copy-done\n9 ok copy-done\n10 ok\n11 ok\n12 ok\n13 ok 1\n14 ok\nsink 0 rows 2\n{\"k\":\"a\",\"v\":1}\n{\"k\":\"a\",\"v\":3}\n",
     ),
     // Refusals of a running line, and of one that failed.
     (
