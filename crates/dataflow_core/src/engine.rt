@@ -50,7 +50,7 @@ use std::marker::Model;
 /// has an attempt.
 #[derive(Drop)]
 pub struct Core<O: Operator, S: SnapshotStore, X: Transactions, P: Partitions<Record = O::Record>> {
-    alloc: Global,
+    pub(crate) alloc: Global,
     graph: Graph,
     operators: Vec<O>,
     log: P,
@@ -202,6 +202,8 @@ impl<O: Operator, S: SnapshotStore, X: Transactions, P: Partitions<Record = O::R
         ensures err { IfErr result (λ fault. (fault ≡ CoreFault.NotRunning) × (self.old.held ≡ None) × (self.new ≡ self.old)) }
         ensures goes { Goes (language O.meaning O.Key.cmp O.Record.spelling O.Record.reading O.Key.reading O.State.reading) self.old self.new }
         ensures stays { Stays (language O.meaning O.Key.cmp O.Record.spelling O.Record.reading O.Key.reading O.State.reading) self.old self.new }
+        ensures same { (self.new.graph ≡ self.old.graph) × (self.new.is_fresh ≡ self.old.is_fresh) }
+        ensures ledger { self.new.ledger ≡ self.old.ledger }
     {
         if self.attempt.is_none() {
             return Err(CoreFault::NotRunning);
@@ -220,6 +222,7 @@ impl<O: Operator, S: SnapshotStore, X: Transactions, P: Partitions<Record = O::R
         ensures cut { self.old.is_fresh ≡ true → IfOk result (λ last. MatchOption self.new.held ⊥ (λ k. GoesOnFromCut (language O.meaning O.Key.cmp O.Record.spelling O.Record.reading O.Key.reading O.State.reading) self.new last k)) }
         ensures good { self.old.is_fresh ≡ true → ((partition offset : ℕ) (row : O.Record) → slice_get (partitions.records_at self.old.partitions partition) offset ≡ Some row → Fits O.Record.HasSpelling O.Record.spelling row) → result ≢ Err CoreFault.BadSnapshot }
         ensures counted { result ≡ Err CoreFault.Device → self.old.faults < self.new.faults }
+        ensures same { (self.new.graph ≡ self.old.graph) × (self.new.is_fresh ≡ self.old.is_fresh) }
     {
         if self.attempt.is_some() {
             return Err(CoreFault::NotReady);
@@ -241,6 +244,8 @@ impl<O: Operator, S: SnapshotStore, X: Transactions, P: Partitions<Record = O::R
         ensures goes { Goes (language O.meaning O.Key.cmp O.Record.spelling O.Record.reading O.Key.reading O.State.reading) self.old self.new }
         ensures plain { StepsIfOk result (language O.meaning O.Key.cmp O.Record.spelling O.Record.reading O.Key.reading O.State.reading) (machine.Read task) self.old self.new }
         ensures counted { result ≡ Err CoreFault.Device → self.old.faults < self.new.faults }
+        ensures same { (self.new.graph ≡ self.old.graph) × (self.new.is_fresh ≡ self.old.is_fresh) }
+        ensures ledger { self.new.ledger ≡ self.old.ledger }
     {
         let Some(attempt) = &mut self.attempt else {
             return Err(CoreFault::NotRunning);
@@ -256,6 +261,7 @@ impl<O: Operator, S: SnapshotStore, X: Transactions, P: Partitions<Record = O::R
         ensures begins { (task subtask : ℕ) → slice_get self.old.graph.tasks task ≡ Some (Role.Sink subtask) → Begins (committed_rows self.old.ledger subtask) (committed_rows self.new.ledger subtask) }
         ensures plain { MatchOption (input_at self.old.graph task input) (Stays (language O.meaning O.Key.cmp O.Record.spelling O.Record.reading O.Key.reading O.State.reading) self.old self.new) (λ channel. StepsIfOk result (language O.meaning O.Key.cmp O.Record.spelling O.Record.reading O.Key.reading O.State.reading) (machine.Work task channel) self.old self.new) }
         ensures counted { result ≡ Err CoreFault.Device → self.old.faults < self.new.faults }
+        ensures same { (self.new.graph ≡ self.old.graph) × (self.new.is_fresh ≡ self.old.is_fresh) }
     {
         let Some(attempt) = &mut self.attempt else {
             return Err(CoreFault::NotRunning);
@@ -280,6 +286,7 @@ impl<O: Operator, S: SnapshotStore, X: Transactions, P: Partitions<Record = O::R
         ensures begins { (task subtask : ℕ) → slice_get self.old.graph.tasks task ≡ Some (Role.Sink subtask) → Begins (committed_rows self.old.ledger subtask) (committed_rows self.new.ledger subtask) }
         ensures stays { Stays (language O.meaning O.Key.cmp O.Record.spelling O.Record.reading O.Key.reading O.State.reading) self.old self.new }
         ensures counted { result ≡ Err CoreFault.Device → self.old.faults < self.new.faults }
+        ensures same { (self.new.graph ≡ self.old.graph) × (self.new.is_fresh ≡ self.old.is_fresh) }
     {
         let Some(attempt) = &mut self.attempt else {
             return Err(CoreFault::NotRunning);
@@ -300,6 +307,8 @@ impl<O: Operator, S: SnapshotStore, X: Transactions, P: Partitions<Record = O::R
         ensures ends { OnAttempt self.old self.new (λ h k. EndsInject self.old.graph task h k) result }
         ensures goes { Goes (language O.meaning O.Key.cmp O.Record.spelling O.Record.reading O.Key.reading O.State.reading) self.old self.new }
         ensures stays { Stays (language O.meaning O.Key.cmp O.Record.spelling O.Record.reading O.Key.reading O.State.reading) self.old self.new }
+        ensures same { (self.new.graph ≡ self.old.graph) × (self.new.is_fresh ≡ self.old.is_fresh) }
+        ensures ledger { self.new.ledger ≡ self.old.ledger }
     {
         let Some(attempt) = &mut self.attempt else {
             return Err(CoreFault::NotRunning);
@@ -314,6 +323,8 @@ impl<O: Operator, S: SnapshotStore, X: Transactions, P: Partitions<Record = O::R
         ensures goes { Goes (language O.meaning O.Key.cmp O.Record.spelling O.Record.reading O.Key.reading O.State.reading) self.old self.new }
         ensures stays { Stays (language O.meaning O.Key.cmp O.Record.spelling O.Record.reading O.Key.reading O.State.reading) self.old self.new }
         ensures counted { result ≡ Err CoreFault.Device → self.old.faults < self.new.faults }
+        ensures same { (self.new.graph ≡ self.old.graph) × (self.new.is_fresh ≡ self.old.is_fresh) }
+        ensures ledger { self.new.ledger ≡ self.old.ledger }
     {
         let Some(attempt) = &mut self.attempt else {
             return Err(CoreFault::NotRunning);
@@ -328,6 +339,8 @@ impl<O: Operator, S: SnapshotStore, X: Transactions, P: Partitions<Record = O::R
         ensures goes { Goes (language O.meaning O.Key.cmp O.Record.spelling O.Record.reading O.Key.reading O.State.reading) self.old self.new }
         ensures stays { Stays (language O.meaning O.Key.cmp O.Record.spelling O.Record.reading O.Key.reading O.State.reading) self.old self.new }
         ensures counted { result ≡ Err CoreFault.Device → self.old.faults < self.new.faults }
+        ensures same { (self.new.graph ≡ self.old.graph) × (self.new.is_fresh ≡ self.old.is_fresh) }
+        ensures ledger { self.new.ledger ≡ self.old.ledger }
     {
         let Some(attempt) = &mut self.attempt else {
             return Err(CoreFault::NotRunning);
@@ -343,6 +356,8 @@ impl<O: Operator, S: SnapshotStore, X: Transactions, P: Partitions<Record = O::R
         ensures goes { Goes (language O.meaning O.Key.cmp O.Record.spelling O.Record.reading O.Key.reading O.State.reading) self.old self.new }
         ensures stays { Stays (language O.meaning O.Key.cmp O.Record.spelling O.Record.reading O.Key.reading O.State.reading) self.old self.new }
         ensures counted { result ≡ Err CoreFault.Device → self.old.faults < self.new.faults }
+        ensures same { (self.new.graph ≡ self.old.graph) × (self.new.is_fresh ≡ self.old.is_fresh) }
+        ensures ledger { self.new.ledger ≡ self.old.ledger }
     {
         let Some(attempt) = &mut self.attempt else {
             return Err(CoreFault::NotRunning);
@@ -359,6 +374,7 @@ impl<O: Operator, S: SnapshotStore, X: Transactions, P: Partitions<Record = O::R
         ensures stays { Stays (language O.meaning O.Key.cmp O.Record.spelling O.Record.reading O.Key.reading O.State.reading) self.old self.new }
         ensures counted { result ≡ Err CoreFault.CommitFault → self.old.faults < self.new.faults }
         ensures reaches { self.new.is_fresh ≡ true → OnOk result (length (committed_of self.new.ledger sink) ≡ length (complete_numbers self.new.stored)) }
+        ensures same { (self.new.graph ≡ self.old.graph) × (self.new.is_fresh ≡ self.old.is_fresh) }
     {
         let Some(attempt) = &mut self.attempt else {
             return Err(CoreFault::NotRunning);
@@ -373,6 +389,8 @@ impl<O: Operator, S: SnapshotStore, X: Transactions, P: Partitions<Record = O::R
         ensures ends { partitions.Ends (self.old.partitions, self.old.faults) (self.new.partitions, self.new.faults) (partitions.append_refusal self.old.partitions partition) (partitions.appended self.old.partitions partition row) result }
         ensures same { self.new ≡ record self.old { partitions = self.new.partitions; faults = self.new.faults } }
         ensures stays { Stays (language O.meaning O.Key.cmp O.Record.spelling O.Record.reading O.Key.reading O.State.reading) self.old self.new }
+        ensures kept { (self.new.graph ≡ self.old.graph) × (self.new.is_fresh ≡ self.old.is_fresh) }
+        ensures ledger { self.new.ledger ≡ self.old.ledger }
     {
         self.log.append(partition, row)
     }

@@ -8,8 +8,10 @@
 mod engine;
 mod rows;
 mod simple;
+mod steps;
 mod tasks;
 
 pub use core_model::CoreFault;
 pub use engine::Core;
 pub use simple::is_served;
+pub use steps::{Reply, Step};
