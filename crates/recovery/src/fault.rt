@@ -15,7 +15,7 @@ pub enum RecoveryFault {
     #[error("V2 MissingPart")]
     MissingPart,
     /// The part of this task is damaged, or is not one that the task can start from.
-    #[error("V3 Damaged {0} {1}")]
+    #[error("V3 Damaged")]
     Damaged(u32, CodecFault),
     /// Memory was refused.
     #[error("V4 Memory")]
