@@ -169,7 +169,7 @@ module _ {R K S O : Type 0} (lang : Language R K S O) (RecordFits : R → Type 0
             ];
       }
         where
-          moved : (o : Option ℕ) → MatchOption o (Unit {0}) (PendingIn lang s.stored h) → MatchOption o (Unit {0}) (PendingIn lang s.stored k)
+          moved : (o : Option ℕ) → MatchOption o (Unit {0}) (PendingIn lang s.graph s.stored h) → MatchOption o (Unit {0}) (PendingIn lang s.graph s.stored k)
           moved None m = tt
           moved (Some number) m = pending_moved lang s.stored h k number m refl refl
 

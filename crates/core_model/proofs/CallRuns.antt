@@ -38,10 +38,10 @@ module _ {R K S O : Type 0} (lang : Language R K S O) (s : State O R K S) (h k :
     last_pending = λ task sink at. rw coordination (runs.last_pending task sink (same task sink at));
   }
     where
-      pending_stays : (o : Option ℕ) → h.coordination.pending ≡ o → MatchOption k.coordination.pending (Unit {0}) (PendingIn lang s.stored k)
-      pending_stays None e = subst (λ (p : Option ℕ). MatchOption p (Unit {0}) (PendingIn lang s.stored k)) (sym (ap (λ (c : Coordination). c.pending) coordination ∙ e)) tt
+      pending_stays : (o : Option ℕ) → h.coordination.pending ≡ o → MatchOption k.coordination.pending (Unit {0}) (PendingIn lang s.graph s.stored k)
+      pending_stays None e = subst (λ (p : Option ℕ). MatchOption p (Unit {0}) (PendingIn lang s.graph s.stored k)) (sym (ap (λ (c : Coordination). c.pending) coordination ∙ e)) tt
       pending_stays (Some number) e =
-          subst (λ (p : Option ℕ). MatchOption p (Unit {0}) (PendingIn lang s.stored k)) (sym (ap (λ (c : Coordination). c.pending) coordination ∙ e))
+          subst (λ (p : Option ℕ). MatchOption p (Unit {0}) (PendingIn lang s.graph s.stored k)) (sym (ap (λ (c : Coordination). c.pending) coordination ∙ e))
           (pending_moved lang s.stored h k number (runs_pending lang s h runs number e) copies coordination)
 
   -- a task that is no sink copies
@@ -57,10 +57,10 @@ module _ {R K S O : Type 0} (lang : Language R K S O) (s : State O R K S) (h k :
     last_pending = λ t sink at. rw coordination (runs.last_pending t sink (same t sink at));
   }
     where
-      pending_stays : (o : Option ℕ) → h.coordination.pending ≡ o → MatchOption k.coordination.pending (Unit {0}) (PendingIn lang s.stored k)
-      pending_stays None e = subst (λ (q : Option ℕ). MatchOption q (Unit {0}) (PendingIn lang s.stored k)) (sym (ap (λ (c : Coordination). c.pending) coordination ∙ e)) tt
+      pending_stays : (o : Option ℕ) → h.coordination.pending ≡ o → MatchOption k.coordination.pending (Unit {0}) (PendingIn lang s.graph s.stored k)
+      pending_stays None e = subst (λ (q : Option ℕ). MatchOption q (Unit {0}) (PendingIn lang s.graph s.stored k)) (sym (ap (λ (c : Coordination). c.pending) coordination ∙ e)) tt
       pending_stays (Some number) e =
-          subst (λ (q : Option ℕ). MatchOption q (Unit {0}) (PendingIn lang s.stored k)) (sym (ap (λ (c : Coordination). c.pending) coordination ∙ e))
+          subst (λ (q : Option ℕ). MatchOption q (Unit {0}) (PendingIn lang s.graph s.stored k)) (sym (ap (λ (c : Coordination). c.pending) coordination ∙ e))
           (pending_copied lang s.stored h k number (runs_pending lang s h runs number e) task p none copies coordination)
 
       not_before : (t : ℕ) → copy_at k t ≡ None → copy_at h t ≡ None

@@ -69,7 +69,7 @@ module _ {R K S O : Type 0} (lang : Language R K S O) (RecordFits : R → Type 0
   runs_before : RunsIn lang s h
   runs_before = runs_at lang RecordFits IsGood s keeps h is
 
-  pending_in : PendingIn lang s.stored h checkpoint
+  pending_in : PendingIn lang s.graph s.stored h checkpoint
   pending_in = runs_pending lang s h runs_before checkpoint barrier.1
 
   not_complete : is_on line checkpoint ≡ false
@@ -116,7 +116,7 @@ module _ {R K S O : Type 0} (lang : Language R K S O) (RecordFits : R → Type 0
       copy_steps : Steps lang s (devices_with lang s keeps.expanded task subtask at_task s.ledger) (devices_with lang s keeps.expanded task subtask at_task new) taken (run_of lang.cmp s.graph k)
       copy_steps =
           CopiesATask task (record {
-            attempt = attempt_of lang.cmp s.graph k;
+            attempt = attempt_of lang.cmp k;
             copies = sink_copies lang s h k task channel checkpoint leads.channel keeps.simple leads.is leads.to barrier.0 barrier.1 barrier.2 within keeps.expanded subtask names sink sink_now at_task was refl;
             kind = SinkTask;
             is_task = tasks-graph_of s.graph s.operators task ∙ ap (option_map (task_of s.operators)) at_task;
@@ -129,7 +129,7 @@ module _ {R K S O : Type 0} (lang : Language R K S O) (RecordFits : R → Type 0
               pre_at.1,
               names,
               last_names,
-              same_run (run_of lang.cmp s.graph k) (record { attempt = attempt_of lang.cmp s.graph k; number = taken.number; named = λ other. if other == task then names else taken.named other }) refl refl named_now,
+              same_run (run_of lang.cmp s.graph k) (record { attempt = attempt_of lang.cmp k; number = taken.number; named = λ other. if other == task then names else taken.named other }) refl refl named_now,
             );
           })
 
@@ -152,7 +152,7 @@ module _ {R K S O : Type 0} (lang : Language R K S O) (RecordFits : R → Type 0
     runs_now : RunsIn lang (after lang s new (Some k) n) k
     runs_now = record {
       pending =
-          subst (λ (o : Option ℕ). MatchOption o (Unit {0}) (PendingIn lang s.stored k)) (sym barrier.1)
+          subst (λ (o : Option ℕ). MatchOption o (Unit {0}) (PendingIn lang s.graph s.stored k)) (sym barrier.1)
           (pending_copied lang s.stored h k checkpoint pending_in task (part.Sink names []) barrier.2 refl refl);
       last_complete = runs_before.last_complete;
       sinks =

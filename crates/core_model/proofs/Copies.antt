@@ -39,7 +39,7 @@ module _ {P : Type 0} where
 
 module _ {R K S O : Type 0} (lang : Language R K S O) (s : State O R K S) (h : Held R K S) where
   abbrev before : Attempt R K S
-  before = attempt_of lang.cmp s.graph h
+  before = attempt_of lang.cmp h
 
   -- no channel leads into a source
   pub not_source : IsExpanded s.graph → (task partition number : ℕ) (channel : Channel) → slice_get s.graph.tasks task ≡ Some (role.Source partition) → slice_get s.graph.channels number ≡ Some channel → channel.receiver ≡ task → ⊥
@@ -94,13 +94,13 @@ module _ {R K S O : Type 0} (lang : Language R K S O) (s : State O R K S) (h : H
 
   module _ (k : Held R K S) (task partition offset checkpoint : ℕ) (expanded : IsExpanded s.graph) (is : slice_get s.graph.tasks task ≡ Some (role.Source partition)) (at : slice_get h.tasks task ≡ Some (holds.Source offset))
       (pending : h.coordination.pending ≡ Some checkpoint) (none : copy_at h task ≡ None) (within : task < length h.copies) (copies : CopiesSource s.graph task offset checkpoint h k) where
-    pub source_copies : Copies (job_of lang s) (is_logged_in s) task before (attempt_of lang.cmp s.graph k)
+    pub source_copies : Copies (job_of lang s) (is_logged_in s) task before (attempt_of lang.cmp k)
     source_copies = record {
       is_pending = ap is_some pending;
       is_first = ap is_some none;
       all_came = λ number channel leads to unlogged. absurd (not_source expanded task partition number channel is leads to);
       ends =
-          same_attempt (attempt_of lang.cmp s.graph k) (task_copied (job_of lang s) task before)
+          same_attempt (attempt_of lang.cmp k) (task_copied (job_of lang s) task before)
           (λ t. ap (λ (x : Held R K S). held_state lang.cmp (slice_get x.tasks t)) copies.ends)
           (λ c. plain_put (λ n. barrier_into checkpoint task (slice_get s.graph.channels n)) h.channels k.channels copies.sent c ∙ ap (λ items. plain (items_at h.channels c) ++ items) (plain_barriers checkpoint task (slice_get s.graph.channels c)))
           (ap (λ (x : Held R K S). is_some x.coordination.pending) copies.ends)
@@ -124,13 +124,13 @@ module _ {R K S O : Type 0} (lang : Language R K S O) (s : State O R K S) (h : H
         let same : number ≡ input = simple.one_input number input other channel is leads (there ∙ sym to) in
         elim (eqb_tells number input) [ inl h ↦ rw h.0 refl | inr h ↦ absurd (h.1 same) ]
 
-    pub operator_copies : CopiesOperator s.graph task input checkpoint h k → Copies (job_of lang s) (is_logged_in s) task middle (attempt_of lang.cmp s.graph k)
+    pub operator_copies : CopiesOperator s.graph task input checkpoint h k → Copies (job_of lang s) (is_logged_in s) task middle (attempt_of lang.cmp k)
     operator_copies copies = record {
       is_pending = ap is_some pending;
       is_first = ap is_some none;
       all_came = λ number other is there unlogged. middle_came number other is there;
       ends =
-          same_attempt (attempt_of lang.cmp s.graph k) (task_copied (job_of lang s) task middle)
+          same_attempt (attempt_of lang.cmp k) (task_copied (job_of lang s) task middle)
           (λ t. ap (λ (x : Held R K S). held_state lang.cmp (slice_get x.tasks t)) copies.ends)
           (λ c.
           plain_put (λ n. barrier_into checkpoint task (slice_get s.graph.channels n)) (without_head input h.channels) k.channels copies.sent c
@@ -160,13 +160,13 @@ module _ {R K S O : Type 0} (lang : Language R K S O) (s : State O R K S) (h : H
         of (Some other) joined = by_test other (joined other refl)
 
     pub sink_copies : IsExpanded s.graph → (subtask : ℕ) (names : List ℕ) (sink sink' : Sinking) → slice_get s.graph.tasks task ≡ Some (role.Sink subtask) → slice_get h.tasks task ≡ Some (holds.Sink sink) → k ≡ sink_copied task input names sink' h →
-        Copies (job_of lang s) (is_logged_in s) task middle (attempt_of lang.cmp s.graph k)
+        Copies (job_of lang s) (is_logged_in s) task middle (attempt_of lang.cmp k)
     sink_copies expanded subtask names sink sink' is was ends = record {
       is_pending = ap is_some pending;
       is_first = ap is_some none;
       all_came = λ number other leads there unlogged. middle_came number other leads there;
       ends =
-          same_attempt (attempt_of lang.cmp s.graph k) (task_copied (job_of lang s) task middle)
+          same_attempt (attempt_of lang.cmp k) (task_copied (job_of lang s) task middle)
           (λ t. ap (λ (x : Held R K S). held_state lang.cmp (slice_get x.tasks t)) ends ∙ sink_stays t)
           (λ c.
           ap (λ (x : Held R K S). plain (items_at x.channels c)) ends ∙ taken input h.channels c

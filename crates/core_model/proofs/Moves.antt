@@ -27,10 +27,10 @@ use Rattle.core_model.proofs.Items.{plain, plain_records, plain_put, taken, firs
 
 module _ {R K S O : Type 0} (lang : Language R K S O) (s : State O R K S) (h k : Held R K S) where
   abbrev before : Attempt R K S
-  before = attempt_of lang.cmp s.graph h
+  before = attempt_of lang.cmp h
 
   abbrev now : Attempt R K S
-  now = attempt_of lang.cmp s.graph k
+  now = attempt_of lang.cmp k
 
   -- one task's holding has changed
   pub tasks_changed : (tasks : List (Holding K S)) (task : ℕ) (holding : Holding K S) (state : TaskState R K S) → task < length tasks → held_state lang.cmp (Some holding) ≡ state → (t : ℕ) →

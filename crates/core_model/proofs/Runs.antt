@@ -51,9 +51,9 @@ module _ {R K S O : Type 0} (lang : Language R K S O) (s : State O R K S) (h k :
   StepsAlone from to = RunningStep (job_of lang s) (is_logged_in s) lang.spelling (devices_of lang s) (devices_of lang s) from to
 
   -- what an attempt holds beside its tasks, channels and copies
-  with_same : k.copies ≡ h.copies → k.coordination ≡ h.coordination → now ≡ with_attempt (attempt_of lang.cmp s.graph k) before
+  with_same : k.copies ≡ h.copies → k.coordination ≡ h.coordination → now ≡ with_attempt (attempt_of lang.cmp k) before
   with_same copies coordination =
-      same_run now (with_attempt (attempt_of lang.cmp s.graph k) before) refl (ap (λ c. unwrap_or c.pending 0) coordination)
+      same_run now (with_attempt (attempt_of lang.cmp k) before) refl (ap (λ c. unwrap_or c.pending 0) coordination)
       (λ t. ap (λ (x : List (Option (Part R K S))). named_by (slice_get s.graph.tasks t) (unwrap_or (slice_get x t) None)) copies)
 
   pub read_runs : (task partition offset : ℕ) (row : R) → slice_get s.graph.tasks task ≡ Some (role.Source partition) → slice_get h.tasks task ≡ Some (holds.Source offset) → slice_get (records_at s.partitions partition) offset ≡ Some row →
@@ -61,7 +61,7 @@ module _ {R K S O : Type 0} (lang : Language R K S O) (s : State O R K S) (h k :
   unfolding reads_move
   read_runs task partition offset row is at next reads =
       MovesPlainly (Read task) (record {
-        attempt = attempt_of lang.cmp s.graph k;
+        attempt = attempt_of lang.cmp k;
         moves = reads_move lang s h k task partition offset row is at next reads;
         at_sink = λ e. absurd (source_is_none partition e);
         elsewhere = λ not_sink. refl;
@@ -77,7 +77,7 @@ module _ {R K S O : Type 0} (lang : Language R K S O) (s : State O R K S) (h k :
     unfolding operates_move
     operate_runs operates =
         MovesPlainly (Work task input) (record {
-          attempt = attempt_of lang.cmp s.graph k;
+          attempt = attempt_of lang.cmp k;
           moves = operates_move lang s h k task number input channel operator row entries is op leads to head was operates;
           at_sink = λ e. absurd (operator_is_none operator e);
           elsewhere = λ not_sink. refl;
@@ -85,9 +85,9 @@ module _ {R K S O : Type 0} (lang : Language R K S O) (s : State O R K S) (h k :
         })
 
   -- a task that is no sink has copied
-  with_copy : (task : ℕ) (r : Role) (p : Part R K S) (a : Attempt R K S) → task < length h.copies → slice_get s.graph.tasks task ≡ Some r → ((copy : Option (Part R K S)) → named_by (Some r) copy ≡ []) → k.copies ≡ slice_set h.copies task (Some p) → k.coordination ≡ h.coordination → now ≡ with_attempt (attempt_of lang.cmp s.graph k) (with_attempt a before)
+  with_copy : (task : ℕ) (r : Role) (p : Part R K S) (a : Attempt R K S) → task < length h.copies → slice_get s.graph.tasks task ≡ Some r → ((copy : Option (Part R K S)) → named_by (Some r) copy ≡ []) → k.copies ≡ slice_set h.copies task (Some p) → k.coordination ≡ h.coordination → now ≡ with_attempt (attempt_of lang.cmp k) (with_attempt a before)
   with_copy task r p a within is no_names copies coordination =
-      same_run now (with_attempt (attempt_of lang.cmp s.graph k) (with_attempt a before)) refl (ap (λ c. unwrap_or c.pending 0) coordination)
+      same_run now (with_attempt (attempt_of lang.cmp k) (with_attempt a before)) refl (ap (λ c. unwrap_or c.pending 0) coordination)
       (λ t.
       ap (λ (x : List (Option (Part R K S))). named_by (slice_get s.graph.tasks t) (unwrap_or (slice_get x t) None)) copies
       ∙ elim (eqb_tells t task) [
@@ -101,7 +101,7 @@ module _ {R K S O : Type 0} (lang : Language R K S O) (s : State O R K S) (h k :
       CopiesSource s.graph task offset checkpoint h k → StepsAlone before now
   inject_runs task partition offset checkpoint expanded is at pending none within copies =
       CopiesATask task (record {
-        attempt = attempt_of lang.cmp s.graph k;
+        attempt = attempt_of lang.cmp k;
         copies = source_copies lang s h k task partition offset checkpoint expanded is at pending none within copies;
         kind = SourceTask partition;
         is_task = tasks-graph_of s.graph s.operators task ∙ ap (option_map (task_of s.operators)) is;
@@ -121,7 +121,7 @@ module _ {R K S O : Type 0} (lang : Language R K S O) (s : State O R K S) (h k :
     pub operator_copy_runs : (number : ℕ) (operator : O) → slice_get s.graph.tasks task ≡ Some (role.Operator number) → slice_get s.operators number ≡ Some operator → CopiesOperator s.graph task input checkpoint h k → StepsAlone between now
     operator_copy_runs number operator is op copies =
         CopiesATask task (record {
-          attempt = attempt_of lang.cmp s.graph k;
+          attempt = attempt_of lang.cmp k;
           copies = operator_copies lang s h k task input checkpoint channel simple leads to head pending none within copies;
           kind = OperatorTask operator;
           is_task = tasks-graph_of s.graph s.operators task ∙ ap (option_map (task_of s.operators)) is ∙ ap (λ (o : Option O). Some (operator_task o)) op;

@@ -49,8 +49,8 @@ module _ {R K S O : Type 0} (lang : Language R K S O) (stored : Stored) (h k : H
   }
 
 module _ {R K S O : Type 0} (lang : Language R K S O) (s : State O R K S) (h : Held R K S) (runs : RunsIn lang s h) where
-  pub runs_pending : (n : ℕ) → h.coordination.pending ≡ Some n → PendingIn lang s.stored h n
-  runs_pending n is = MatchOption-at_some (Unit {0}) (PendingIn lang s.stored h) n is runs.pending
+  pub runs_pending : (n : ℕ) → h.coordination.pending ≡ Some n → PendingIn lang s.graph s.stored h n
+  runs_pending n is = MatchOption-at_some (Unit {0}) (PendingIn lang s.graph s.stored h) n is runs.pending
 
   -- a task's part is put and acknowledged
   pub runs_put : (n task : ℕ) (bytes : List ℕ) (p : Part R K S) → h.coordination.pending ≡ Some n → task < length h.coordination.acked → copy_at h task ≡ Some p → whole_of lang.read_part bytes ≡ Ok p

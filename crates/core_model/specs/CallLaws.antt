@@ -1,13 +1,14 @@
 -- Each call on a running job, however it ends, keeps what every engine keeps, and is steps of the checkpoint model's engine.
 -- What operators ask of records and states is given as tests.
 use Rattle.std.specs.Prelude.{◌≡◌, ℕ, Bool, true, Some, Result, slice_get}
+use Rattle.alignment.specs.declared.input.Effect.{Effect}
 use Rattle.commit_sink.specs.Ledger.{Ledger, IsOrdered}
 use Rattle.job_graph.specs.declared.role.Role.TheVariants as role
 use Rattle.job_state.specs.Held.{Held}
 use Rattle.source_log.specs.Partitions.{records_at}
 use Rattle.operators.specs.Operator.{FreshIsGood, StatesStayGood, SentFits, IsGoodState}
 use Rattle.core_model.specs.declared.fault.CoreFault.{CoreFault}
-use Rattle.core_model.specs.Calls.{input_at, left_by, EndsRead, EndsOperate, EndsInject, EndsCopyOperator, EndsPutOut, EndsCopySink}
+use Rattle.core_model.specs.Calls.{input_at, left_by, EndsRead, EndsOperate, EndsInject, EndsOperatorBarrier, EndsPutOut, EndsSinkBarrier}
 use Rattle.core_model.specs.Goes.{Goes}
 use Rattle.core_model.specs.Keeps.{Keeps}
 use Rattle.core_model.specs.Language.{Language}
@@ -44,10 +45,9 @@ module _ {R K S O : Type 0} where
       (fits : R → Bool) (state_fits : S → Bool) (suits : O → S → Bool) (s : State O R K S) (h k : Held R K S) (faults task : ℕ) (result : Result Unit CoreFault) → RunsWith lang fits state_fits suits s h →
       EndsInject s.graph task h k result → KeepsAndGoes lang fits state_fits suits s (record s { held = left_by result (Some k); faults = faults })
 
-  -- a task that is this operator, with its input
-  pub record IsOperatorTask (s : State O R K S) (task channel : ℕ) (operator : O) : Type 0 where
+  -- a task that is this operator, and its input, which is this channel
+  pub record IsOperatorTask (s : State O R K S) (task input channel : ℕ) (operator : O) : Type 0 where
     pub number : ℕ
-    pub input : ℕ
     pub at_task : slice_get s.graph.tasks task ≡ Some (role.Operator number)
     pub is : slice_get s.operators number ≡ Some operator
     pub leads : input_at s.graph task input ≡ Some channel
@@ -55,33 +55,32 @@ module _ {R K S O : Type 0} where
   -- an operator, which goes on from good states and fitting records to such, works the first record of its input
   abbrev pub OperatesKeepEngines : Language R K S O → Type 0
   OperatesKeepEngines lang =
-      (fits : R → Bool) (state_fits : S → Bool) (suits : O → S → Bool) (s : State O R K S) (h k : Held R K S) (faults task channel : ℕ) (operator : O) (result : Result Unit CoreFault) →
+      (fits : R → Bool) (state_fits : S → Bool) (suits : O → S → Bool) (s : State O R K S) (h k : Held R K S) (faults task input channel : ℕ) (operator : O) (result : Result Unit CoreFault) →
       FreshIsGood lang.meaning (Passes state_fits) (λ o x. suits o x ≡ true) → StatesStayGood lang.meaning (Passes fits) (Passes state_fits) (λ o x. suits o x ≡ true) → SentFits lang.meaning (Passes fits) (Passes state_fits) (λ o x. suits o x ≡ true) →
-      RunsWith lang fits state_fits suits s h → IsOperatorTask s task channel operator → EndsOperate s.graph task h k channel lang operator result →
+      RunsWith lang fits state_fits suits s h → IsOperatorTask s task input channel operator → EndsOperate s.graph task h k input channel lang operator result →
       KeepsAndGoes lang fits state_fits suits s (record s { held = left_by result (Some k); faults = faults })
 
-  -- an operator takes the barrier, copies its map, and sends the barrier
-  abbrev pub OperatorCopiesKeepEngines : Language R K S O → Type 0
-  OperatorCopiesKeepEngines lang =
-      (fits : R → Bool) (state_fits : S → Bool) (suits : O → S → Bool) (s : State O R K S) (h k : Held R K S) (faults task channel : ℕ) (operator : O) (result : Result Unit CoreFault) → RunsWith lang fits state_fits suits s h →
-      IsOperatorTask s task channel operator → EndsCopyOperator s.graph task h k channel result → KeepsAndGoes lang fits state_fits suits s (record s { held = left_by result (Some k); faults = faults })
+  -- an operator takes the barrier; where it copies its map, it sends the barrier
+  abbrev pub OperatorBarriersKeepEngines : Language R K S O → Type 0
+  OperatorBarriersKeepEngines lang =
+      (fits : R → Bool) (state_fits : S → Bool) (suits : O → S → Bool) (s : State O R K S) (h k : Held R K S) (faults task input channel : ℕ) (operator : O) (result : Result Effect CoreFault) → RunsWith lang fits state_fits suits s h →
+      IsOperatorTask s task input channel operator → EndsOperatorBarrier s.graph task h k input channel result → KeepsAndGoes lang fits state_fits suits s (record s { held = left_by result (Some k); faults = faults })
 
-  -- a task that is this sink subtask, with its input
-  pub record IsSinkTask (s : State O R K S) (task channel subtask : ℕ) : Type 0 where
-    pub input : ℕ
+  -- a task that is this sink subtask, and its input, which is this channel
+  pub record IsSinkTask (s : State O R K S) (task input channel subtask : ℕ) : Type 0 where
     pub at_task : slice_get s.graph.tasks task ≡ Some (role.Sink subtask)
     pub leads : input_at s.graph task input ≡ Some channel
 
   -- a sink puts a record out
   abbrev pub PutsOutKeepEngines : Language R K S O → Type 0
   PutsOutKeepEngines lang =
-      (fits : R → Bool) (state_fits : S → Bool) (suits : O → S → Bool) (s : State O R K S) (h k : Held R K S) (faults task channel subtask : ℕ) (ledger : Ledger) (result : Result Unit CoreFault) → RunsWith lang fits state_fits suits s h →
-      IsSinkTask s task channel subtask → IsOrdered ledger → EndsPutOut task h k channel s.ledger ledger lang.spelling result →
+      (fits : R → Bool) (state_fits : S → Bool) (suits : O → S → Bool) (s : State O R K S) (h k : Held R K S) (faults task input channel subtask : ℕ) (ledger : Ledger) (result : Result Unit CoreFault) → RunsWith lang fits state_fits suits s h →
+      IsSinkTask s task input channel subtask → IsOrdered ledger → EndsPutOut task input h k channel s.ledger ledger lang.spelling result →
       KeepsAndGoes lang fits state_fits suits s (record s { ledger = ledger; held = left_by result (Some k); faults = faults })
 
-  -- a sink takes the barrier, begins a transaction, pre-commits the one that was open, and copies the names
-  abbrev pub SinkCopiesKeepEngines : Language R K S O → Type 0
-  SinkCopiesKeepEngines lang =
-      (fits : R → Bool) (state_fits : S → Bool) (suits : O → S → Bool) (s : State O R K S) (h k : Held R K S) (faults task channel subtask : ℕ) (ledger : Ledger) (result : Result Unit CoreFault) → RunsWith lang fits state_fits suits s h →
-      IsSinkTask s task channel subtask → IsOrdered ledger → EndsCopySink task h k channel subtask s.ledger ledger result →
+  -- a sink takes the barrier; where it copies, it begins a transaction, pre-commits the one that was open, and copies the names
+  abbrev pub SinkBarriersKeepEngines : Language R K S O → Type 0
+  SinkBarriersKeepEngines lang =
+      (fits : R → Bool) (state_fits : S → Bool) (suits : O → S → Bool) (s : State O R K S) (h k : Held R K S) (faults task input channel subtask : ℕ) (ledger : Ledger) (result : Result Effect CoreFault) → RunsWith lang fits state_fits suits s h →
+      IsSinkTask s task input channel subtask → IsOrdered ledger → EndsSinkBarrier task input h k channel subtask s.ledger ledger result →
       KeepsAndGoes lang fits state_fits suits s (record s { ledger = ledger; held = left_by result (Some k); faults = faults })

@@ -1,8 +1,12 @@
 -- How each call on a running job ends: by what the job holds before (h) and after (k), and the device that the call uses.
 -- Where a device has failed, what the job holds afterwards is of no account: it is lost.
-use Rattle.std.specs.Prelude.{◌+◌, ◌^◌, ◌≡◌, ◌≢◌, ◌⊎◌, ◌≤◌, ℕ, true, false, List, length, slice_get, Option, Some, None, Result, Ok, Err, IsSome}
+use Rattle.std.specs.Prelude.{◌+◌, ◌^◌, ◌≡◌, ◌≢◌, ◌⊎◌, ◌≤◌, ℕ, Bool, true, false, List, length, slice_get, Option, Some, None, Result, Ok, Err, IsSome}
 use Rattle.std.specs.declared.cmp.Ordering.{Ordering}
 use Rattle.abs_codec.specs.Entries.{value_at}
+use Rattle.alignment.specs.Table.{effect_of, is_blocked}
+use Rattle.alignment.specs.declared.input.Effect.{Effect}
+use Rattle.alignment.specs.declared.input.Effect.TheVariants.{Blocked, Copy, Closed, CopyAndDone, Done}
+use Rattle.alignment.specs.declared.input.Phase.TheVariants.{AtRest}
 use Rattle.channels.specs.declared.item.Item.TheVariants.{Record, Barrier}
 use Rattle.commit_sink.specs.Ledger.{Ledger, appended, begun, pre_committed}
 use Rattle.commit_sink.specs.Sink.{Sinking, names_with_open, pre_committed_last}
@@ -10,7 +14,7 @@ use Rattle.coordinator.specs.Coordinator.{IsReady, has_acked}
 use Rattle.dataflow_model.specs.Machine.{state_under}
 use Rattle.job_graph.specs.Expanded.{Expanded, inputs_of}
 use Rattle.job_graph.specs.declared.role.Role.TheVariants as role
-use Rattle.job_state.specs.Held.{Held, copy_at, Reads, Operates, CopiesSource, CopiesOperator, sink_copied, with_started, with_acknowledged, with_completed}
+use Rattle.job_state.specs.Held.{Held, copy_at, came_at, gate_at, logs_of, with_logs, record_taken, barrier_taken, Reads, Operates, CopiesSource, CopiesOperator, sink_copied, with_started, with_acknowledged, with_completed}
 use Rattle.job_state.specs.Sending.{items_at, without_head}
 use Rattle.job_state.specs.declared.holding.Holding.TheVariants as holds
 use Rattle.snapshot_store.specs.Store.{Stored, with_part, completed, reserved, discarded_below}
@@ -18,7 +22,7 @@ use Rattle.source_log.specs.Partitions.{records_at}
 use Rattle.task_part.specs.declared.part.Part.{Part}
 use Rattle.core_model.specs.Language.{Language}
 use Rattle.core_model.specs.declared.fault.CoreFault.{CoreFault}
-use Rattle.core_model.specs.declared.fault.CoreFault.TheVariants.{NoSuchTask, NotReady, CheckpointPending, NoCheckpoint, NotAllAcked, Memory, Device, NumbersSpent}
+use Rattle.core_model.specs.declared.fault.CoreFault.TheVariants.{NoSuchTask, NotReady, ChannelBlocked, CheckpointPending, NoCheckpoint, NotAllAcked, Memory, Device, NumbersSpent}
 
 -- the state under a key, if there is a key and a state
 abbrev pub state_of : {K S : Type 0} → (K → K → Ordering) → List (K × S) → Option K → Option S
@@ -42,20 +46,40 @@ module _ {R K S : Type 0} where
   abbrev pub NoRecord : Held R K S → ℕ → Type 0
   NoRecord h channel = (r : R) → slice_get (items_at h.channels channel) 0 ≢ Some (Record r)
 
-  -- the barrier of the pending checkpoint stands first, and the task has not copied
-  abbrev pub IsBarrierNext : ℕ → Held R K S → ℕ → ℕ → Type 0
-  IsBarrierNext task h channel checkpoint = (slice_get (items_at h.channels channel) 0 ≡ Some (Barrier checkpoint)) × (h.coordination.pending ≡ Some checkpoint) × (copy_at h task ≡ None)
+  -- the barrier of the pending checkpoint stands first
+  abbrev pub IsBarrierNext : Held R K S → ℕ → ℕ → Type 0
+  IsBarrierNext h channel checkpoint = (slice_get (items_at h.channels channel) 0 ≡ Some (Barrier checkpoint)) × (h.coordination.pending ≡ Some checkpoint) × (came_at h channel ≡ false)
 
-module _ {R K S : Type 0} (task : ℕ) (h k : Held R K S) (channel : ℕ) where
+  -- the input's barrier has come, and the task waits for others
+  abbrev pub IsBlocked : ℕ → ℕ → Held R K S → Type 0
+  IsBlocked task input h = is_blocked (gate_at h task) input ≡ true
+
+-- the task copies at such a barrier
+abbrev pub is_copy : Effect → Bool
+is_copy Copy = true
+is_copy CopyAndDone = true
+is_copy other = false
+
+-- a task's input, which is this channel
+module _ {R K S : Type 0} (task input : ℕ) (h k : Held R K S) (channel : ℕ) where
+  -- The task takes the barrier, with this effect, and does no more.
+  pub record NotesBarrier (effect : Effect) : Type 0 where
+    pub checkpoint : ℕ
+    pub barrier : IsBarrierNext h channel checkpoint
+    pub brings : effect ≡ effect_of (gate_at h task) input
+    pub no_copy : is_copy effect ≡ false
+    pub ends : k ≡ barrier_taken task input channel checkpoint h
+
   module _ (old new : Ledger) where
     -- a sink puts its first record last in its open transaction
     pub record PutsOut (spelling : R → List ℕ) : Type 0 where
       pub row : R
       pub sink : Sinking
+      pub free : ¬ IsBlocked task input h
       pub head : slice_get (items_at h.channels channel) 0 ≡ Some (Record row)
       pub was : slice_get h.tasks task ≡ Some (holds.Sink sink)
       pub appends : new ≡ appended old sink.open_one (spelling row)
-      pub ends : k ≡ record h { channels = without_head channel h.channels }
+      pub ends : k ≡ record_taken task input channel row h
 
     -- the device failed, before its work or after it
     pub record FailsToPutOut (spelling : R → List ℕ) : Type 0 where
@@ -66,34 +90,40 @@ module _ {R K S : Type 0} (task : ℕ) (h k : Held R K S) (channel : ℕ) where
 
     abbrev pub EndsPutOut : (R → List ℕ) → Result Unit CoreFault → Type 0
     EndsPutOut spelling (Ok u) = PutsOut spelling
-    EndsPutOut spelling (Err NotReady) = NoRecord h channel × (k ≡ h) × (new ≡ old)
+    EndsPutOut spelling (Err ChannelBlocked) = IsBlocked task input h × (k ≡ h) × (new ≡ old)
+    EndsPutOut spelling (Err NotReady) = ¬ IsBlocked task input h × NoRecord h channel × (k ≡ h) × (new ≡ old)
     EndsPutOut spelling (Err Memory) = (k ≡ h) × (new ≡ old)
     EndsPutOut spelling (Err Device) = FailsToPutOut spelling
     EndsPutOut spelling (Err other) = ⊥
 
   module _ (subtask : ℕ) (old new : Ledger) where
-    -- a sink begins a transaction, pre-commits the one that was open, and copies the names
-    pub record CopiesSink : Type 0 where
+    -- a sink that copies begins a transaction, pre-commits the one that was open, and copies the names
+    pub record CopiesSink (effect : Effect) : Type 0 where
       pub checkpoint : ℕ
       pub sink : Sinking
-      pub barrier : IsBarrierNext task h channel checkpoint
+      pub barrier : IsBarrierNext h channel checkpoint
+      pub brings : effect ≡ effect_of (gate_at h task) input
+      pub copies : is_copy effect ≡ true
       pub was : slice_get h.tasks task ≡ Some (holds.Sink sink)
       pub transactions : new ≡ pre_committed (begun old subtask) sink.open_one checkpoint
-      pub ends : k ≡ sink_copied task channel (names_with_open sink) (record (pre_committed_last sink checkpoint) { open_one = length old.transactions + 1 }) h
+      pub ends : k ≡ sink_copied task input channel checkpoint (names_with_open sink) (record (pre_committed_last sink checkpoint) { open_one = length old.transactions + 1 }) h
 
     pub record FailsToCopySink : Type 0 where
       pub checkpoint : ℕ
       pub sink : Sinking
-      pub barrier : IsBarrierNext task h channel checkpoint
+      pub barrier : IsBarrierNext h channel checkpoint
+      pub copies : is_copy (effect_of (gate_at h task) input) ≡ true
       pub was : slice_get h.tasks task ≡ Some (holds.Sink sink)
       pub either : ((new ≡ old) ⊎ (new ≡ begun old subtask)) ⊎ (new ≡ pre_committed (begun old subtask) sink.open_one checkpoint)
 
-    abbrev pub EndsCopySink : Result Unit CoreFault → Type 0
-    EndsCopySink (Ok u) = CopiesSink
-    EndsCopySink (Err NotReady) = ((checkpoint : ℕ) → ¬ IsBarrierNext task h channel checkpoint) × (k ≡ h) × (new ≡ old)
-    EndsCopySink (Err Memory) = (k ≡ h) × (new ≡ old)
-    EndsCopySink (Err Device) = FailsToCopySink
-    EndsCopySink (Err other) = ⊥
+    -- a sink takes the barrier
+    abbrev pub EndsSinkBarrier : Result Effect CoreFault → Type 0
+    EndsSinkBarrier (Ok effect) = (NotesBarrier effect × (new ≡ old)) ⊎ CopiesSink effect
+    EndsSinkBarrier (Err ChannelBlocked) = IsBlocked task input h × (k ≡ h) × (new ≡ old)
+    EndsSinkBarrier (Err NotReady) = ¬ IsBlocked task input h × ((checkpoint : ℕ) → ¬ IsBarrierNext h channel checkpoint) × (k ≡ h) × (new ≡ old)
+    EndsSinkBarrier (Err Memory) = (k ≡ h) × (new ≡ old)
+    EndsSinkBarrier (Err Device) = FailsToCopySink
+    EndsSinkBarrier (Err other) = ⊥
 
 module _ {R K S : Type 0} (graph : Expanded) (task : ℕ) (h k : Held R K S) where
   -- a source sends its next record
@@ -123,40 +153,57 @@ module _ {R K S : Type 0} (graph : Expanded) (task : ℕ) (h k : Held R K S) whe
   EndsInject (Err Memory) = k ≡ h
   EndsInject (Err other) = ⊥
 
-  -- the channel is the task's input
-  module _ (channel : ℕ) where
+  -- the task's input is this channel
+  module _ (input channel : ℕ) where
     -- an operator works its first record
     pub record OperatesNext {O : Type 0} (lang : Language R K S O) (operator : O) : Type 0 where
       pub row : R
       pub entries : List (K × S)
+      pub free : ¬ IsBlocked task input h
       pub head : slice_get (items_at h.channels channel) 0 ≡ Some (Record row)
       pub was : slice_get h.tasks task ≡ Some (holds.Operator entries)
       pub operates : let outcome = lang.meaning.apply operator (state_under (lang.meaning.key operator row) (lang.meaning.fresh operator) (value_at lang.cmp entries)) row in
-          Operates lang.meaning lang.cmp graph task channel (lang.meaning.key operator row) outcome.state outcome.sent h k
+          Operates lang.meaning lang.cmp graph task input channel row (lang.meaning.key operator row) outcome.state outcome.sent h k
 
     abbrev pub EndsOperate : {O : Type 0} → Language R K S O → O → Result Unit CoreFault → Type 0
     EndsOperate lang operator (Ok u) = OperatesNext lang operator
-    EndsOperate lang operator (Err NotReady) = NoRecord h channel × (k ≡ h)
+    EndsOperate lang operator (Err ChannelBlocked) = IsBlocked task input h × (k ≡ h)
+    EndsOperate lang operator (Err NotReady) = ¬ IsBlocked task input h × NoRecord h channel × (k ≡ h)
     EndsOperate lang operator (Err Memory) = k ≡ h
     EndsOperate lang operator (Err other) = ⊥
 
-    abbrev pub EndsCopyOperator : Result Unit CoreFault → Type 0
-    EndsCopyOperator (Ok u) = (checkpoint : ℕ) × IsBarrierNext task h channel checkpoint × CopiesOperator graph task channel checkpoint h k
-    EndsCopyOperator (Err NotReady) = ((checkpoint : ℕ) → ¬ IsBarrierNext task h channel checkpoint) × (k ≡ h)
-    EndsCopyOperator (Err Memory) = k ≡ h
-    EndsCopyOperator (Err other) = ⊥
+    -- an operator that copies takes the barrier, copies its map, and sends the barrier
+    pub record CopiesMap (effect : Effect) : Type 0 where
+      pub checkpoint : ℕ
+      pub barrier : IsBarrierNext h channel checkpoint
+      pub brings : effect ≡ effect_of (gate_at h task) input
+      pub copies : is_copy effect ≡ true
+      pub copied : CopiesOperator graph task input channel checkpoint h k
+
+    -- an operator takes the barrier
+    abbrev pub EndsOperatorBarrier : Result Effect CoreFault → Type 0
+    EndsOperatorBarrier (Ok effect) = NotesBarrier task input h k channel effect ⊎ CopiesMap effect
+    EndsOperatorBarrier (Err ChannelBlocked) = IsBlocked task input h × (k ≡ h)
+    EndsOperatorBarrier (Err NotReady) = ¬ IsBlocked task input h × ((checkpoint : ℕ) → ¬ IsBarrierNext h channel checkpoint) × (k ≡ h)
+    EndsOperatorBarrier (Err Memory) = k ≡ h
+    EndsOperatorBarrier (Err other) = ⊥
+
+  -- the task's part can be put: it has copied, its logs are closed, and it has not acknowledged
+  pub record IsPersistNext (checkpoint : ℕ) (p : Part R K S) : Type 0 where
+    pub pending : h.coordination.pending ≡ Some checkpoint
+    pub copied : copy_at h task ≡ Some p
+    pub closed : (gate_at h task).phase ≡ AtRest
+    pub unacknowledged : has_acked h.coordination task ≡ false
 
   module _ (old new : Stored) where
     -- a task's part is put and acknowledged
     abbrev pub EndsPersist : (Part R K S → List ℕ) → Result Unit CoreFault → Type 0
-    EndsPersist spelling (Ok u) = (checkpoint : ℕ) × (p : Part R K S) × (h.coordination.pending ≡ Some checkpoint) × (copy_at h task ≡ Some p) × (has_acked h.coordination task ≡ false)
-        × (new ≡ with_part old checkpoint task (spelling p)) × (k ≡ with_acknowledged task h)
+    EndsPersist spelling (Ok u) = (checkpoint : ℕ) × (p : Part R K S) × IsPersistNext checkpoint p × (new ≡ with_part old checkpoint task (spelling (with_logs (logs_of graph h task) p))) × (k ≡ with_acknowledged task h)
     EndsPersist spelling (Err NoSuchTask) = ¬ IsTask graph task × (k ≡ h) × (new ≡ old)
     EndsPersist spelling (Err NoCheckpoint) = IsTask graph task × (h.coordination.pending ≡ None) × (k ≡ h) × (new ≡ old)
-    EndsPersist spelling (Err NotReady) = IsTask graph task × ((copy_at h task ≡ None) ⊎ (has_acked h.coordination task ≡ true)) × (k ≡ h) × (new ≡ old)
+    EndsPersist spelling (Err NotReady) = IsTask graph task × (((copy_at h task ≡ None) ⊎ ((gate_at h task).phase ≢ AtRest)) ⊎ (has_acked h.coordination task ≡ true)) × (k ≡ h) × (new ≡ old)
     EndsPersist spelling (Err Memory) = (k ≡ h) × (new ≡ old)
-    EndsPersist spelling (Err Device) = (checkpoint : ℕ) × (p : Part R K S) × (h.coordination.pending ≡ Some checkpoint) × (copy_at h task ≡ Some p) × (has_acked h.coordination task ≡ false)
-        × ((new ≡ old) ⊎ (new ≡ with_part old checkpoint task (spelling p)))
+    EndsPersist spelling (Err Device) = (checkpoint : ℕ) × (p : Part R K S) × IsPersistNext checkpoint p × ((new ≡ old) ⊎ (new ≡ with_part old checkpoint task (spelling (with_logs (logs_of graph h task) p))))
     EndsPersist spelling (Err other) = ⊥
 
 -- the store once the parts below the last complete number are gone

@@ -7,7 +7,7 @@ use Rattle.commit_sink.specs.Ledger.{Ledger, IsOrdered, committed_rows}
 use Rattle.dataflow_model.specs.Graph.{Begins}
 use Rattle.dataflow_model.specs.Machine.{Configuration, Move, Reaches, start}
 use Rattle.job_graph.specs.declared.role.Role.TheVariants as role
-use Rattle.job_state.specs.Held.{Held, copy_at}
+use Rattle.job_state.specs.Held.{Held, copy_at, logs_of, with_logs}
 use Rattle.snapshot_store.specs.Store.{Stored, IsNumbered}
 use Rattle.task_part.specs.declared.part.Part.{Part}
 use Rattle.core_model.specs.declared.fault.CoreFault.{CoreFault}
@@ -32,7 +32,7 @@ module _ {R K S O : Type 0} where
   abbrev pub PersistsKeepEngines : Language R K S O → Type 0
   PersistsKeepEngines lang =
       (fits : R → Bool) (state_fits : S → Bool) (suits : O → S → Bool) (s : State O R K S) (h k : Held R K S) (stored : Stored) (faults task : ℕ) (spelling : Part R K S → List ℕ) (result : Result Unit CoreFault) → RunsWith lang fits state_fits suits s h → IsNumbered stored →
-      ((p : Part R K S) → copy_at h task ≡ Some p → whole_of lang.read_part (spelling p) ≡ Ok p) → EndsPersist s.graph task h k s.stored stored spelling result →
+      ((p : Part R K S) → copy_at h task ≡ Some p → whole_of lang.read_part (spelling (with_logs (logs_of s.graph h task) p)) ≡ Ok (with_logs (logs_of s.graph h task) p)) → EndsPersist s.graph task h k s.stored stored spelling result →
       KeepsAndGoes lang fits state_fits suits s (record s { held = left_by result (Some k); stored = stored; faults = faults })
 
   -- the pending checkpoint is complete

@@ -1,9 +1,14 @@
 -- What every engine keeps, and when it is sound.
 use Rattle.std.specs.Prelude.{◌≡◌, ◌≢◌, ◌⊎◌, ◌+◌, ◌<◌, ◌≤◌, ℕ, true, false, List, [], ◌∷◌, ◌++◌, length, map, count_by, slice_get, Option, Some, None, Ok, is_some, All, MatchOption}
-use Rattle.dataflow_model.specs.Graph.{Channel, Task, Job}
+use Rattle.dataflow_model.specs.Graph.{Task, Job}
 use Rattle.std.specs.declared.cmp.Ordering.{Ordering}
 use Rattle.abs_codec.specs.Entries.{value_at}
 use Rattle.abs_codec.specs.Reading.{whole_of}
+use Rattle.alignment.specs.Inputs as gates
+use Rattle.alignment.specs.Table.{IsKept}
+use Rattle.alignment.specs.declared.input.Input.{Input}
+use Rattle.alignment.specs.declared.input.Phase.{Phase}
+use Rattle.alignment.specs.declared.input.Phase.TheVariants.{AtRest, Aligning, Copied}
 use Rattle.channels.specs.declared.item.Item.{Item}
 use Rattle.channels.specs.declared.item.Item.TheVariants.{Record, Barrier}
 use Rattle.checkpoint_model.specs.Durable as durable
@@ -16,25 +21,21 @@ use Rattle.commit_sink.specs.Sink.{Sinking}
 use Rattle.commit_sink.specs.declared.sink.Pending.{Pending}
 use Rattle.commit_sink.specs.declared.transactions.Progress.TheVariants.{Open, PreCommitted, Committed}
 use Rattle.coordinator.specs.Coordinator.{has_acked}
-use Rattle.job_graph.specs.Expanded.{Expanded, IsExpanded, is_source, is_sink}
+use Rattle.job_graph.specs.Expanded.{Expanded, IsExpanded, is_source, is_sink, is_marked, meets, inputs_of}
 use Rattle.job_graph.specs.PlainGraph.{HaveOperators}
 use Rattle.job_graph.specs.declared.role.Role.{Role}
 use Rattle.job_graph.specs.declared.role.Role.TheVariants as role
-use Rattle.job_state.specs.Held.{Held, copy_at}
+use Rattle.job_state.specs.Held.{Held, copy_at, came_at, gate_at, logged_at, logs_of, marked_inputs, with_logs}
 use Rattle.job_state.specs.Sending.{items_at}
 use Rattle.job_state.specs.declared.holding.Holding.{Holding}
 use Rattle.job_state.specs.declared.holding.Holding.TheVariants as holds
 use Rattle.snapshot_store.specs.Store.{Stored, IsNumbered, is_complete, part_of}
+use Rattle.task_part.specs.Spelling.{Logs}
 use Rattle.task_part.specs.declared.part.Part.{Part}
 use Rattle.task_part.specs.declared.part.Part.TheVariants as part
 use Rattle.core_model.specs.Language.{Language}
 use Rattle.core_model.specs.State.{State}
 use Rattle.core_model.specs.View.{store_of, job_of, is_logged_in, devices_of, running_of, book_of}
-
--- Each operator and sink has exactly one input, and no channel is a back-edge's.
-pub record IsSimple (graph : Expanded) : Type 0 where
-  pub one_input : (number other : ℕ) (channel another : Channel) → slice_get graph.channels number ≡ Some channel → slice_get graph.channels other ≡ Some another → channel.receiver ≡ another.receiver → number ≡ other
-  pub unmarked : (number : ℕ) (channel : Channel) → slice_get graph.channels number ≡ Some channel → channel.marked ≡ false
 
 module _ {K S : Type 0} where
   -- the task holds what its role asks for
@@ -58,26 +59,37 @@ pub record SinkIn (ledger : Ledger) (subtask : ℕ) (sink : Sinking) : Type 0 wh
       ((book.share (book_of ledger) subtask).committed ++ transactions_of (book.share (book_of ledger) subtask).pre_committed)
 
 -- Of a pending checkpoint's number: it was given out, is above all that are complete, and the store has exactly the parts that were
--- acknowledged, each the spelling of its task's copy.
-pub record PendingIn {R K S O : Type 0} (lang : Language R K S O) (stored : Stored) (held : Held R K S) (number : ℕ) : Type 0 where
+-- acknowledged, each the spelling of its task's copy with the task's logs.
+pub record PendingIn {R K S O : Type 0} (lang : Language R K S O) (graph : Expanded) (stored : Stored) (held : Held R K S) (number : ℕ) : Type 0 where
   pub positive : 1 ≤ number
   pub given : number < stored.next
   pub above : (n : ℕ) → is_complete stored n ≡ true → n < number
   pub parts : (task : ℕ) → task < stored.tasks → is_some (part_of stored number task) ≡ has_acked held.coordination task
-  pub spelled : (task : ℕ) (bytes : List ℕ) → part_of stored number task ≡ Some bytes → (p : Part R K S) × (copy_at held task ≡ Some p) × (whole_of lang.read_part bytes ≡ Ok p)
+  pub spelled : (task : ℕ) (bytes : List ℕ) → part_of stored number task ≡ Some bytes → (p : Part R K S) × (copy_at held task ≡ Some p) × (whole_of lang.read_part bytes ≡ Ok (with_logs (logs_of graph held task) p))
 
 -- a record of which P holds, or a barrier
 abbrev pub IfRecord : {R : Type 0} → (R → Type 0) → Item R → Type 0
 IfRecord P (Record r) = P r
 IfRecord P (Barrier n) = Unit {0}
 
+-- the logs are one for each marked input of the task, and each logged record fits
+pub record LogsSuit {R : Type 0} (RecordFits : R → Type 0) (graph : Expanded) (task : ℕ) (logs : Logs R) : Type 0 where
+  pub channels : map (λ log. log.0) logs ≡ marked_inputs graph task
+  pub fit : All (λ log. All RecordFits log.1) logs
+
 module _ {R K S : Type 0} where
-  -- the copy is what its task asks for, with no logs
+  -- the copy is what its task asks for; its logs stand by channel
   abbrev pub CopyAs : Role → Option (Part R K S) → Type 0
   CopyAs r None = Unit {0}
   CopyAs (role.Source partition) (Some p) = (offset : ℕ) × (p ≡ part.Source offset)
   CopyAs (role.Operator number) (Some p) = (entries : List (K × S)) × (p ≡ part.Operator entries [])
   CopyAs (role.Sink subtask) (Some p) = (names : List ℕ) × (p ≡ part.Sink names [])
+
+  -- the part is what its task's role asks for, and has a log for each marked input
+  abbrev pub PartAs : (RecordFits : R → Type 0) (graph : Expanded) (task : ℕ) → Role → Part R K S → Type 0
+  PartAs RecordFits graph task (role.Source partition) p = (offset : ℕ) × (p ≡ part.Source offset)
+  PartAs RecordFits graph task (role.Operator number) p = (entries : List (K × S)) × (logs : Logs R) × (p ≡ part.Operator entries logs) × LogsSuit RecordFits graph task logs
+  PartAs RecordFits graph task (role.Sink subtask) p = (names : List ℕ) × (logs : Logs R) × (p ≡ part.Sink names logs) × LogsSuit RecordFits graph task logs
 
 -- Each task holds what its role asks for.
 abbrev pub AreHeld : {R K S : Type 0} → Expanded → Held R K S → Type 0
@@ -87,17 +99,52 @@ AreHeld graph held = (task : ℕ) (r : Role) → slice_get graph.tasks task ≡ 
 abbrev pub AllFit : {R K S : Type 0} → (R → Type 0) → Held R K S → Type 0
 AllFit RecordFits held = (number : ℕ) → All (IfRecord RecordFits) (items_at held.channels number)
 
+-- Each logged record fits.
+abbrev pub LogsFit : {R K S : Type 0} → (R → Type 0) → Held R K S → Type 0
+LogsFit RecordFits held = (number : ℕ) → All RecordFits (logged_at held number)
+
+module _ {R K S : Type 0} (graph : Expanded) (held : Held R K S) (task : ℕ) where
+  -- the barriers that a gate has noted are those that were taken
+  abbrev pub NotesBarriers : List Input → Type 0
+  NotesBarriers inputs = (input number : ℕ) → slice_get (inputs_of graph task) input ≡ Some number → (gates.input_at inputs input).came ≡ came_at held number
+
+  -- How far a task's gate is. At rest: its task has not copied and no barrier was taken, or it has, and all were. Aligning for the pending
+  -- checkpoint: it has not copied. Copied for it: it has.
+  abbrev pub StandsAs : Phase → List Input → Type 0
+  StandsAs AtRest inputs = (input number : ℕ) → slice_get (inputs_of graph task) input ≡ Some number → came_at held number ≡ is_some (copy_at held task)
+  StandsAs (Aligning checkpoint) inputs = (held.coordination.pending ≡ Some checkpoint) × (copy_at held task ≡ None) × NotesBarriers inputs
+  StandsAs (Copied checkpoint) inputs = (held.coordination.pending ≡ Some checkpoint) × (copy_at held task ≢ None) × NotesBarriers inputs
+
+  -- A task's gate has the task's inputs and their marks, and stands with the task's copy and the barriers that were taken. A task that has
+  -- acknowledged has copied, and its gate is at rest.
+  pub record GateFits : Type 0 where
+    pub one_each : length (gate_at held task).inputs ≡ length (inputs_of graph task)
+    pub marks : (input number : ℕ) → slice_get (inputs_of graph task) input ≡ Some number → (gates.input_at (gate_at held task).inputs input).is_marked ≡ meets is_marked graph.channels number
+    pub kept : IsKept (gate_at held task).phase (gate_at held task).inputs
+    pub stands : StandsAs (gate_at held task).phase (gate_at held task).inputs
+    pub acknowledged : has_acked held.coordination task ≡ true → (copy_at held task ≢ None) × ((gate_at held task).phase ≡ AtRest)
+
 -- What a running job holds, by its graph and its operators, which ask that records fit, and that states are good.
 pub record Shape {R K S O : Type 0} (cmp : K → K → Ordering) (RecordFits : R → Type 0) (IsGood : O → S → Type 0) (graph : Expanded) (operators : List O) (held : Held R K S) : Type 0 where
   pub tasks : length held.tasks ≡ length graph.tasks
   pub channels : length held.channels ≡ length graph.channels
   pub copies : length held.copies ≡ length graph.tasks
+  pub gates : length held.gates ≡ length graph.tasks
+  pub came : length held.came ≡ length graph.channels
+  pub logs : length held.logs ≡ length graph.channels
   pub acked : length held.coordination.acked ≡ length graph.tasks
+  -- where nothing is pending, nothing was copied, and no barrier was taken
+  pub none_copied : held.coordination.pending ≡ None → (task : ℕ) → copy_at held task ≡ None
+  pub none_came : held.coordination.pending ≡ None → (number : ℕ) → came_at held number ≡ false
+  -- each task's gate stands with what it holds, and only back-edges are logged
+  pub gate_fits : (task : ℕ) → task < length graph.tasks → GateFits graph held task
+  pub only_marked : (number : ℕ) → meets is_marked graph.channels number ≡ false → logged_at held number ≡ []
   -- each task holds, and copies, what its role asks for
   pub forms : AreHeld graph held
   pub copy_forms : (task : ℕ) (r : Role) → slice_get graph.tasks task ≡ Some r → CopyAs r (copy_at held task)
-  -- each record in a channel fits, and each operator's states are such as it can go on from
+  -- each record in a channel or a log fits, and each operator's states are such as it can go on from
   pub fit : AllFit RecordFits held
+  pub logs_fit : LogsFit RecordFits held
   pub good : (task number : ℕ) (operator : O) (entries : List (K × S)) (key : K) (state : S) → slice_get graph.tasks task ≡ Some (role.Operator number) → slice_get operators number ≡ Some operator
       → slice_get held.tasks task ≡ Some (holds.Operator entries) → value_at cmp entries key ≡ Some state → IsGood operator state
 
@@ -107,7 +154,7 @@ NoneAfter checkpoint transactions = (i : ℕ) (p : Pending) → slice_get transa
 
 -- What a running job keeps, by its devices.
 pub record RunsIn {R K S O : Type 0} (lang : Language R K S O) (s : State O R K S) (held : Held R K S) : Type 0 where
-  pub pending : MatchOption held.coordination.pending (Unit {0}) (PendingIn lang s.stored held)
+  pub pending : MatchOption held.coordination.pending (Unit {0}) (PendingIn lang s.graph s.stored held)
   -- the last complete number is the store's
   pub last_complete : MatchOption held.coordination.last_complete ((n : ℕ) → is_complete s.stored n ≡ false) (λ last. (is_complete s.stored last ≡ true) × ((n : ℕ) → is_complete s.stored n ≡ true → n ≤ last))
   pub sinks : (task subtask : ℕ) (sink : Sinking) → slice_get s.graph.tasks task ≡ Some (role.Sink subtask) → slice_get held.tasks task ≡ Some (holds.Sink sink) → SinkIn s.ledger subtask sink
@@ -124,15 +171,14 @@ abbrev pub AllOrNone : {R K S O : Type 0} → Job R K S O → durable.Store R K 
 AllOrNone {R} {K} {S} {O} job store =
     (n task : ℕ) (kind : Task O) (p : durable.Part R K S) → is_on store.line n ≡ true → slice_get job.graph.tasks task ≡ Some kind → store.parts n task ≡ Some p → HasParts job store n
 
--- Each part in the store is what its task's role asks for, with no logs: as every part that an engine has put.
-abbrev pub PartsAreFormed : {R K S O : Type 0} → Language R K S O → Expanded → Stored → Type 0
-PartsAreFormed {R} {K} {S} {O} lang graph stored =
-    (n task : ℕ) (r : Role) (bytes : List ℕ) → slice_get graph.tasks task ≡ Some r → part_of stored n task ≡ Some bytes → (p : Part R K S) × (whole_of lang.read_part bytes ≡ Ok p) × CopyAs r (Some p)
+-- Each part in the store is what its task's role asks for: as every part that an engine has put.
+abbrev pub PartsAreFormed : {R K S O : Type 0} → Language R K S O → (R → Type 0) → Expanded → Stored → Type 0
+PartsAreFormed {R} {K} {S} {O} lang RecordFits graph stored =
+    (n task : ℕ) (r : Role) (bytes : List ℕ) → slice_get graph.tasks task ≡ Some r → part_of stored n task ≡ Some bytes → (p : Part R K S) × (whole_of lang.read_part bytes ≡ Ok p) × PartAs RecordFits graph task r p
 
 -- What every engine keeps. A fresh one is sound.
 pub record Keeps {R K S O : Type 0} (lang : Language R K S O) (RecordFits : R → Type 0) (IsGood : O → S → Type 0) (s : State O R K S) : Type 0 where
   pub expanded : IsExpanded s.graph
-  pub simple : IsSimple s.graph
   pub operators : HaveOperators s.graph s.operators
   pub partitions : length s.partitions ≡ count_by is_source s.graph.tasks
   pub stored_tasks : s.stored.tasks ≡ length s.graph.tasks
@@ -143,4 +189,4 @@ pub record Keeps {R K S O : Type 0} (lang : Language R K S O) (RecordFits : R �
   pub runs : MatchOption s.held (Unit {0}) (RunsIn lang s)
   pub fresh : s.is_fresh ≡ true → IsHeldSound (job_of lang s) (is_logged_in s) lang.spelling (devices_of lang s) (held_running (running_of lang s))
   pub whole : s.is_fresh ≡ true → AllOrNone (job_of lang s) (store_of lang s.stored)
-  pub formed : s.is_fresh ≡ true → PartsAreFormed lang s.graph s.stored
+  pub formed : s.is_fresh ≡ true → PartsAreFormed lang RecordFits s.graph s.stored

@@ -6,7 +6,6 @@ use Rattle.checkpoint_model.specs.Headline.{RunningStep}
 use Rattle.commit_sink.specs.Ledger.{Ledger, IsOrdered, appended, begun, pre_committed, after_commit, committed_rows}
 use Rattle.commit_sink.specs.Sink.{Sinking, pre_committed_last}
 use Rattle.commit_sink.specs.declared.sink.Pending.{Pending}
-use Rattle.dataflow_model.specs.Graph.{Channel}
 use Rattle.dataflow_model.specs.Machine.{state_under}
 use Rattle.abs_codec.specs.Entries.{value_at}
 use Rattle.job_graph.specs.Expanded.{IsExpanded}
@@ -15,7 +14,8 @@ use Rattle.job_state.specs.Held.{Held, copy_at, Reads, Operates, CopiesSource}
 use Rattle.job_state.specs.Sending.{items_at}
 use Rattle.job_state.specs.declared.holding.Holding.TheVariants as holds
 use Rattle.source_log.specs.Partitions.{records_at}
-use Rattle.core_model.specs.Keeps.{SinkIn}
+use Rattle.core_model.specs.Calls.{input_at, IsBlocked}
+use Rattle.core_model.specs.Keeps.{SinkIn, GateFits}
 use Rattle.core_model.specs.Language.{Language}
 use Rattle.core_model.specs.State.{State}
 use Rattle.core_model.specs.View.{job_of, is_logged_in, devices_of, run_of, book_of}
@@ -32,14 +32,14 @@ module _ {R K S O : Type 0} where
       (s : State O R K S) (h k : Held R K S) (task partition offset : ℕ) (row : R) → slice_get s.graph.tasks task ≡ Some (role.Source partition) → slice_get h.tasks task ≡ Some (holds.Source offset) →
       slice_get (records_at s.partitions partition) offset ≡ Some row → Reads lang.meaning s.graph task offset row h k → IsStep lang s h k
 
-  -- an operator that works the first record of its input makes such a step too
+  -- an operator that works the first record of an input which is not blocked makes such a step too
   abbrev pub OperatesAreSteps : Language R K S O → Type 0
   OperatesAreSteps lang =
-      (s : State O R K S) (h k : Held R K S) (task number input : ℕ) (channel : Channel) (operator : O) (row : R) (entries : List (K × S)) →
-      slice_get s.graph.tasks task ≡ Some (role.Operator number) → slice_get s.operators number ≡ Some operator → slice_get s.graph.channels input ≡ Some channel → channel.receiver ≡ task →
-      slice_get (items_at h.channels input) 0 ≡ Some (Record row) → slice_get h.tasks task ≡ Some (holds.Operator entries) →
+      (s : State O R K S) (h k : Held R K S) (task number input channel : ℕ) (operator : O) (row : R) (entries : List (K × S)) →
+      slice_get s.graph.tasks task ≡ Some (role.Operator number) → slice_get s.operators number ≡ Some operator → input_at s.graph task input ≡ Some channel → GateFits s.graph h task → length h.logs ≡ length s.graph.channels →
+      ¬ IsBlocked task input h → slice_get (items_at h.channels channel) 0 ≡ Some (Record row) → slice_get h.tasks task ≡ Some (holds.Operator entries) →
       let outcome = lang.meaning.apply operator (state_under (lang.meaning.key operator row) (lang.meaning.fresh operator) (value_at lang.cmp entries)) row in
-      Operates lang.meaning lang.cmp s.graph task input (lang.meaning.key operator row) outcome.state outcome.sent h k → IsStep lang s h k
+      Operates lang.meaning lang.cmp s.graph task input channel row (lang.meaning.key operator row) outcome.state outcome.sent h k → IsStep lang s h k
 
   -- and so does a source that copies its offset and sends the barrier
   abbrev pub InjectsAreSteps : Language R K S O → Type 0

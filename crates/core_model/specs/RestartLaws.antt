@@ -38,7 +38,7 @@ module _ {R K S O : Type 0} where
   pub record IsRestart (lang : Language R K S O) (KeyFits : K → Type 0) (RecordFits : R → Type 0) (IsGood : O → S → Type 0) (s : State O R K S) (ledger : Ledger) (result : Result (Option ℕ × Held R K S) CoreFault) : Type 0 where
     pub keeps : Keeps lang RecordFits IsGood s
     pub down : s.held ≡ None
-    pub ends : EndsRestart lang KeyFits IsGood s.operators s.partitions s.stored s.graph s.ledger ledger result
+    pub ends : EndsRestart lang KeyFits RecordFits IsGood s.graph s.operators s.partitions s.stored s.ledger ledger result
 
   abbrev pub RestartsKeepEngines : Language R K S O → Type 0
   RestartsKeepEngines lang =
@@ -57,7 +57,7 @@ module _ {R K S O : Type 0} where
 
 module _ {R K S O : Type 0} where
   -- A job that restarted goes on from the configuration that the parts of the last complete checkpoint say, or from the start where there is
-  -- none; its channels are empty, no checkpoint is pending, and each sink has committed once for each complete checkpoint.
+  -- none; its back-edges hold the logs, no checkpoint is pending, and each sink has committed once for each complete checkpoint.
   pub record GoesOnFromCut (lang : Language R K S O) (s : State O R K S) (last : Option ℕ) (k : Held R K S) : Type 0 where
     pub base : Configuration R K S
     pub restored : IsSeenRestored (job_of lang s) (devices_of lang s) base

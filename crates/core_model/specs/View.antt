@@ -1,6 +1,5 @@
 -- What an engine's data stand for in the checkpoint model.
-use Rattle.std.specs.Prelude.{ℕ, Bool, false, List, [], map, filter, slice_get, Option, Some, None, Ok, Err, is_some, unwrap_or, option_map}
-use Rattle.std.specs.Option.{option_map_or}
+use Rattle.std.specs.Prelude.{ℕ, Bool, List, [], map, filter, slice_get, Option, Some, None, Ok, Err, is_some, unwrap_or, option_map}
 use Rattle.std.specs.Ordering.{nat_cmp}
 use Rattle.std.specs.declared.cmp.Ordering.{Ordering}
 use Rattle.std.specs.List.{range_with_len}
@@ -22,7 +21,7 @@ use Rattle.job_graph.specs.Expanded.{Expanded, meets, is_marked}
 use Rattle.job_graph.specs.PlainGraph.{graph_of}
 use Rattle.job_graph.specs.declared.role.Role.{Role}
 use Rattle.job_graph.specs.declared.role.Role.TheVariants as role
-use Rattle.job_state.specs.Held.{Held, copy_at}
+use Rattle.job_state.specs.Held.{Held, copy_at, came_at, logged_at}
 use Rattle.job_state.specs.Sending.{items_at}
 use Rattle.job_state.specs.declared.holding.Holding.{Holding}
 use Rattle.job_state.specs.declared.holding.Holding.TheVariants as holds
@@ -69,25 +68,21 @@ module _ {R K S : Type 0} where
   named_by (Some (role.Operator number)) copy = []
   named_by (Some (role.Sink subtask)) copy = names_in copy
 
-  -- The barrier of an input came once its task has copied: each task has one input.
-  abbrev pub came_at : Expanded → Held R K S → ℕ → Bool
-  came_at graph held number = option_map_or (λ channel. is_some (copy_at held channel.receiver)) (slice_get graph.channels number) false
-
   -- The attempt, as its data lie. What they have of a checkpoint counts only while it is pending.
-  abbrev pub attempt_of : (K → K → Ordering) → Expanded → Held R K S → attempt.Attempt R K S
-  attempt_of cmp graph held = record {
+  abbrev pub attempt_of : (K → K → Ordering) → Held R K S → attempt.Attempt R K S
+  attempt_of cmp held = record {
     tasks = λ task. held_state cmp (slice_get held.tasks task);
     channels = λ number. map plain_item (items_at held.channels number);
     pending = is_some held.coordination.pending;
     copied = λ task. is_some (copy_at held task);
     copies = λ task. copied_state cmp (copy_at held task);
-    came = λ number. came_at graph held number;
-    logs = λ number. [];
+    came = λ number. came_at held number;
+    logs = λ number. logged_at held number;
   }
 
   abbrev pub run_of : (K → K → Ordering) → Expanded → Held R K S → Running R K S
   run_of cmp graph held = record {
-    attempt = attempt_of cmp graph held;
+    attempt = attempt_of cmp held;
     number = unwrap_or held.coordination.pending 0;
     named = λ task. named_by (slice_get graph.tasks task) (copy_at held task);
   }

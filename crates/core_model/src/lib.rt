@@ -8,7 +8,7 @@ mod fault;
 mod start;
 
 ghost use Rattle.core_model.specs.Language.{Language};
-ghost use Rattle.core_model.specs.CallLaws.{ReadsKeepEngines, InjectsKeepEngines, OperatesKeepEngines, OperatorCopiesKeepEngines, PutsOutKeepEngines, SinkCopiesKeepEngines};
+ghost use Rattle.core_model.specs.CallLaws.{ReadsKeepEngines, InjectsKeepEngines, OperatesKeepEngines, OperatorBarriersKeepEngines, PutsOutKeepEngines, SinkBarriersKeepEngines};
 ghost use Rattle.core_model.specs.CheckpointLaws.{TriggersKeepEngines, PersistsKeepEngines, CompletesKeepEngines, CommitsKeepEngines, CommitsReachEveryCheckpoint, FailuresKeepEngines, FreshEnginesAreExact, FreshEnginesCommitOutputs, StepsWithdrawNoRow};
 ghost use Rattle.core_model.specs.RestartLaws.{RestartsKeepEngines, RestartsWithdrawNoRow, FreshRestartsAreSteps, FreshRestartsGiveTheCut, FreshRestartsAreNotBad};
 ghost use Rattle.core_model.specs.Laws.{ReadsAreSteps, OperatesAreSteps, InjectsAreSteps, CommittedAreRows, AppendsKeepSinks, CopiesKeepSinks, CommitsKeepSinks};
@@ -67,8 +67,8 @@ pub fn operates_keep_engines<R, K, S, O>()
 {}
 
 /// So does an operator's copy.
-pub fn operator_copies_keep_engines<R, K, S, O>()
-    ensures { (lang : Language R K S O) → OperatorCopiesKeepEngines lang }
+pub fn operator_barriers_keep_engines<R, K, S, O>()
+    ensures { (lang : Language R K S O) → OperatorBarriersKeepEngines lang }
 {}
 
 /// So does a sink's work.
@@ -77,8 +77,8 @@ pub fn puts_out_keep_engines<R, K, S, O>()
 {}
 
 /// So does a sink's copy.
-pub fn sink_copies_keep_engines<R, K, S, O>()
-    ensures { (lang : Language R K S O) → SinkCopiesKeepEngines lang }
+pub fn sink_barriers_keep_engines<R, K, S, O>()
+    ensures { (lang : Language R K S O) → SinkBarriersKeepEngines lang }
 {}
 
 /// A checkpoint's beginning keeps what every engine keeps, and is a step of the model, however it ends.

@@ -1,4 +1,0 @@
-pub mod Places
-pub mod Putting
-pub mod Received
-pub mod Holds
