@@ -21,3 +21,5 @@ pub record State (O R K S : Type 0) : Type 0 where
   pub is_fresh : Bool
   -- how often the devices have failed
   pub faults : ℕ
+  -- how many attempts were made
+  pub attempts : ℕ

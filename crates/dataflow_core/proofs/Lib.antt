@@ -1,4 +1,3 @@
-pub mod Alone
 pub mod Appending
 pub mod Opening
 pub mod Plain

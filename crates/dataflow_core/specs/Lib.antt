@@ -2,5 +2,4 @@ pub mod Tasks
 pub mod Replies
 pub mod Running
 pub mod Rows
-pub mod Simple
 pub mod Steps

@@ -1,11 +1,11 @@
 -- How a call ends that wants a running job: `Ends` says it of what the job holds before and after. A failed device takes the job down.
-use Rattle.std.specs.Prelude.{◌≡◌, ℕ, Option, Some, Result, Ok, Err, MatchOption}
+use Rattle.std.specs.Prelude.{◌≡◌, ◌⊎◌, ◌+◌, ◌^◌, ◌<◌, ◌≤◌, ℕ, Option, Some, Result, Ok, Err, MatchOption}
 use Rattle.job_state.specs.Held.{Held}
 use Rattle.core_model.specs.Calls.{left_by}
 use Rattle.core_model.specs.RestartLaws.{held_by}
 use Rattle.core_model.specs.State.{State}
 use Rattle.core_model.specs.declared.fault.CoreFault.{CoreFault}
-use Rattle.core_model.specs.declared.fault.CoreFault.TheVariants.{NotRunning, NotReady}
+use Rattle.core_model.specs.declared.fault.CoreFault.TheVariants.{NotRunning, NotReady, NumbersSpent}
 
 module _ {O R K S T : Type 0} (old new : State O R K S) (Ends : Held R K S → Held R K S → Result T CoreFault → Type 0) (result : Result T CoreFault) where
   -- the call is refused where the job is down
@@ -24,11 +24,6 @@ module _ {O R K S T : Type 0} (old new : State O R K S) (Ends : Held R K S → H
   abbrev pub OnTransactions : Type 0
   OnTransactions = WhileRunning (λ k. record old { held = left_by result (Some k); ledger = new.ledger; faults = new.faults })
 
--- the result without its value
-abbrev pub done_by : {T : Type 0} → Result T CoreFault → Result Unit CoreFault
-done_by (Ok v) = Ok tt
-done_by (Err fault) = Err fault
-
 -- the number alone of what a restart made
 abbrev pub number_of : {A : Type 0} → Result (Option ℕ × A) CoreFault → Result (Option ℕ) CoreFault
 number_of (Ok made) = Ok made.0
@@ -39,8 +34,17 @@ abbrev pub raised : {A : Type 0} → Result (Option ℕ × A) CoreFault → Opti
 raised (Ok made) held = Some made.1
 raised (Err fault) held = held
 
--- How a restart ends: it is refused while the job runs, and it leaves all but the attempt and the transactions.
+-- attempts are counted where one is made
+abbrev pub attempts_after : {A : Type 0} → Result A CoreFault → ℕ → ℕ
+attempts_after (Ok made) attempts = attempts + 1
+attempts_after (Err fault) attempts = attempts
+
+-- How a restart ends: it is refused while the job runs, or where no number of an attempt is left; and it leaves all but the attempt and the
+-- transactions.
 abbrev pub OnDown : {O R K S : Type 0} → State O R K S → State O R K S → (Result (Option ℕ × Held R K S) CoreFault → Type 0) → Result (Option ℕ) CoreFault → Type 0
 OnDown {O} {R} {K} {S} old new Ends result =
-    MatchOption old.held ((made : Result (Option ℕ × Held R K S) CoreFault) × Ends made × (result ≡ number_of made) × (new ≡ record old { held = held_by made; ledger = new.ledger; faults = new.faults }))
+    MatchOption old.held
+    (((2 ^ 63 ≤ old.attempts + 1) × (result ≡ Err NumbersSpent) × (new ≡ old)) ⊎
+    ((old.attempts + 1 < 2 ^ 63) × (made : Result (Option ℕ × Held R K S) CoreFault) × Ends made × (result ≡ number_of made)
+    × (new ≡ record old { held = held_by made; ledger = new.ledger; faults = new.faults; attempts = attempts_after made old.attempts })))
     (λ h. (result ≡ Err NotReady) × (new ≡ old))

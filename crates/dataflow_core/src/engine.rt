@@ -1,10 +1,9 @@
 //! The engine.
 
-ghost use Rattle.std.specs.Prelude.{◌≡◌, ◌≢◌, ◌⊎◌, ◌↔◌, ◌<◌, ◌≤◌, ◌+◌, ℕ, List, None, Some, Ok, Err, [], length, count_by, slice_get, true, OnOk, OnErr, IfOk, IfErr, MatchOption, IsTrue};
+ghost use Rattle.std.specs.Prelude.{◌≡◌, ◌≢◌, ◌⊎◌, ◌↔◌, ◌<◌, ◌≤◌, ◌+◌, ◌^◌, ℕ, List, None, Some, Ok, Err, [], length, count_by, slice_get, true, OnOk, OnErr, IfOk, IfErr, MatchOption, IsTrue};
 ghost use Rattle.std.specs.Option.{option_map};
 ghost use Rattle.abs_codec.specs.Spelling.{Fits};
 ghost use Rattle.operators.specs.Operator.{IsGoodState};
-ghost use Rattle.alignment.specs.declared.input.Effect.TheVariants as Effect;
 ghost use Rattle.commit_sink.specs.Ledger as ledgers;
 ghost use Rattle.commit_sink.specs.Ledger.{committed_rows};
 ghost use Rattle.job_graph.specs.Expanded.{is_source, is_sink};
@@ -17,7 +16,6 @@ ghost use Rattle.core_model.specs.declared.fault.CoreFault.TheVariants as CoreFa
 ghost use Rattle.core_model.specs.Calls.{input_at, left_by, EndsRead, EndsInject, EndsPersist, EndsTrigger, EndsComplete};
 ghost use Rattle.core_model.specs.Commits.{EndsCommit};
 ghost use Rattle.core_model.specs.Goes.{Goes};
-ghost use Rattle.core_model.specs.Keeps.{IsSimple};
 ghost use Rattle.core_model.specs.Language.{language};
 ghost use Rattle.checkpoint_model.specs.Headline.{IsExactlyOnce};
 ghost use Rattle.core_model.specs.LastCommitted.{committed_of, complete_numbers};
@@ -30,7 +28,7 @@ ghost use Rattle.core_model.specs.RestartLaws.{GoesOnFromCut};
 ghost use Rattle.dataflow_model.specs.Graph.{Begins};
 ghost use Rattle.dataflow_model.specs.Machine as machine;
 ghost use Rattle.dataflow_core.specs.Tasks.{EndsWork, EndsBarrier};
-ghost use Rattle.dataflow_core.specs.Running.{done_by, number_of, raised, OnDown, OnAttempt, OnStore, OnTransactions};
+ghost use Rattle.dataflow_core.specs.Running.{number_of, raised, attempts_after, OnDown, OnAttempt, OnStore, OnTransactions};
 
 use crate::tasks::{take_barrier, work_task};
 use alignment::Effect;
@@ -58,6 +56,8 @@ pub struct Core<O: Operator, S: SnapshotStore, X: Transactions, P: Partitions<Re
     transactions: X,
     attempt: Option<Attempt<O>>,
     pub(crate) is_fresh: bool,
+    /// How many attempts were made: a number below 2^63.
+    attempts: u64,
 }
 
 impl<O: Operator, S: SnapshotStore, X: Transactions, P: Partitions<Record = O::Record>> Model
@@ -84,6 +84,7 @@ impl<O: Operator, S: SnapshotStore, X: Transactions, P: Partitions<Record = O::R
       held = c.attempt;
       is_fresh = c.is_fresh;
       faults = P.fault_count c.log + S.fault_count c.store + X.fault_count c.transactions;
+      attempts = c.attempts;
     } };
 
     ghost invariant = { λ c. Keeps (language O.meaning O.Key.cmp O.Record.spelling O.Record.reading O.Key.reading O.State.reading) (Fits O.Record.HasSpelling O.Record.spelling) (IsGoodState (Fits O.State.HasSpelling O.State.spelling) O.Suits) (record {
@@ -95,8 +96,12 @@ impl<O: Operator, S: SnapshotStore, X: Transactions, P: Partitions<Record = O::R
       held = c.attempt;
       is_fresh = c.is_fresh;
       faults = P.fault_count c.log + S.fault_count c.store + X.fault_count c.transactions;
+      attempts = c.attempts;
     }) };
 }
+
+/// No attempt has a greater number.
+const LAST_ATTEMPT: u64 = (1 << 63) - 1;
 
 /// Takes the job down where a device has failed.
 fn leave<A: Drop, T: Drop>(
@@ -115,17 +120,21 @@ fn leave<A: Drop, T: Drop>(
     }
 }
 
-/// Takes the job up where a restart has made an attempt.
+/// Takes the job up where a restart has made an attempt, and counts it.
 fn raise<A: Drop>(
     attempt: &mut Option<A>,
+    attempts: &mut u64,
     outcome: Result<(Option<u64>, A), CoreFault>,
 ) -> Result<Option<u64>, CoreFault>
+    requires { attempts.old < 2 ^ 63 }
     ensures number { result ≡ number_of outcome }
     ensures holds { attempt.new ≡ raised outcome attempt.old }
+    ensures counted { attempts.new ≡ attempts_after outcome attempts.old }
 {
     match outcome {
         Ok((last, made)) => {
             *attempt = Some(made);
+            *attempts += 1;
             Ok(last)
         }
         Err(fault) => Err(fault),
@@ -145,7 +154,7 @@ impl<O: Operator, S: SnapshotStore, X: Transactions, P: Partitions<Record = O::R
     X,
     P,
 > {
-    /// A job that is down, over these devices. Each operator and sink has one input, and no channel is a back-edge's.
+    /// A job that is down, over these devices, with no attempt made.
     pub fn open(
         alloc: Global,
         graph: Graph,
@@ -154,7 +163,6 @@ impl<O: Operator, S: SnapshotStore, X: Transactions, P: Partitions<Record = O::R
         store: S,
         transactions: X,
     ) -> Self
-        requires simple { IsSimple graph }
         requires operators { HaveOperators graph operators.items }
         requires partitions { length (P.records log) ≡ count_by is_source graph.tasks }
         requires tasks { (S.state store).tasks ≡ length graph.tasks }
@@ -168,6 +176,7 @@ impl<O: Operator, S: SnapshotStore, X: Transactions, P: Partitions<Record = O::R
           held = None;
           is_fresh = result.is_fresh;
           faults = P.fault_count log + S.fault_count store + X.fault_count transactions;
+          attempts = 0;
         } }
         ensures fresh { IsTrue result.is_fresh ↔ ((S.state store ≡ stores.blank (length graph.tasks)) × (X.state transactions ≡ ledgers.blank (count_by is_sink graph.tasks))) }
     {
@@ -182,6 +191,7 @@ impl<O: Operator, S: SnapshotStore, X: Transactions, P: Partitions<Record = O::R
             transactions,
             attempt: None,
             is_fresh,
+            attempts: 0,
         }
     }
 
@@ -214,9 +224,9 @@ impl<O: Operator, S: SnapshotStore, X: Transactions, P: Partitions<Record = O::R
 
     /// The next attempt runs from the last complete checkpoint, whose number is answered, or anew where there is none. Each sink has committed the transactions
     /// that its part names, all others that were open or pre-committed are aborted, and a new one is open. A refused restart leaves the job down; transactions
-    /// may be settled in part, and the next one does the rest.
+    /// may be settled in part, and the next one does the rest. Attempts have numbers below 2^63.
     pub fn restart(&mut self) -> Result<Option<u64>, CoreFault>
-        ensures ends { OnDown self.old self.new (EndsRestart (language O.meaning O.Key.cmp O.Record.spelling O.Record.reading O.Key.reading O.State.reading) (Fits O.Key.HasSpelling O.Key.spelling) (IsGoodState (Fits O.State.HasSpelling O.State.spelling) O.Suits) self.old.operators self.old.partitions self.old.stored self.old.graph self.old.ledger self.new.ledger) result }
+        ensures ends { OnDown self.old self.new (EndsRestart (language O.meaning O.Key.cmp O.Record.spelling O.Record.reading O.Key.reading O.State.reading) (Fits O.Key.HasSpelling O.Key.spelling) (Fits O.Record.HasSpelling O.Record.spelling) (IsGoodState (Fits O.State.HasSpelling O.State.spelling) O.Suits) self.old.graph self.old.operators self.old.partitions self.old.stored self.old.ledger self.new.ledger) result }
         ensures goes { self.old.is_fresh ≡ true → Goes (language O.meaning O.Key.cmp O.Record.spelling O.Record.reading O.Key.reading O.State.reading) self.old self.new }
         ensures begins { (subtask : ℕ) → Begins (committed_rows self.old.ledger subtask) (committed_rows self.new.ledger subtask) }
         ensures cut { self.old.is_fresh ≡ true → IfOk result (λ last. MatchOption self.new.held ⊥ (λ k. GoesOnFromCut (language O.meaning O.Key.cmp O.Record.spelling O.Record.reading O.Key.reading O.State.reading) self.new last k)) }
@@ -227,6 +237,9 @@ impl<O: Operator, S: SnapshotStore, X: Transactions, P: Partitions<Record = O::R
         if self.attempt.is_some() {
             return Err(CoreFault::NotReady);
         }
+        if self.attempts >= LAST_ATTEMPT {
+            return Err(CoreFault::NumbersSpent);
+        }
         let outcome = restarted(
             self.alloc,
             &self.graph,
@@ -235,7 +248,7 @@ impl<O: Operator, S: SnapshotStore, X: Transactions, P: Partitions<Record = O::R
             &mut self.store,
             &mut self.transactions,
         );
-        raise(&mut self.attempt, outcome)
+        raise(&mut self.attempt, &mut self.attempts, outcome)
     }
 
     /// Source `task` sends its next record.
@@ -278,10 +291,10 @@ impl<O: Operator, S: SnapshotStore, X: Transactions, P: Partitions<Record = O::R
         leave(&mut self.attempt, outcome)
     }
 
-    /// A task takes the barrier at the head of its input and copies what it holds; a sink begins a transaction and pre-commits the old one.
+    /// A task takes the barrier at the head of its input. Where it waits for no other it copies what it holds; a sink then begins a transaction and
+    /// pre-commits the old one.
     pub fn take_barrier(&mut self, task: u32, input: u32) -> Result<Effect, CoreFault>
-        ensures ends { OnTransactions self.old self.new (λ h k r. EndsBarrier self.old.graph task input h k self.old.ledger self.new.ledger (done_by r)) result }
-        ensures effect { IfOk result (λ effect. effect ≡ Effect.CopyAndDone) }
+        ensures ends { OnTransactions self.old self.new (λ h k. EndsBarrier self.old.graph task input h k self.old.ledger self.new.ledger) result }
         ensures goes { Goes (language O.meaning O.Key.cmp O.Record.spelling O.Record.reading O.Key.reading O.State.reading) self.old self.new }
         ensures begins { (task subtask : ℕ) → slice_get self.old.graph.tasks task ≡ Some (Role.Sink subtask) → Begins (committed_rows self.old.ledger subtask) (committed_rows self.new.ledger subtask) }
         ensures stays { Stays (language O.meaning O.Key.cmp O.Record.spelling O.Record.reading O.Key.reading O.State.reading) self.old self.new }
@@ -299,7 +312,7 @@ impl<O: Operator, S: SnapshotStore, X: Transactions, P: Partitions<Record = O::R
             task,
             input,
         );
-        leave(&mut self.attempt, copied(outcome))
+        leave(&mut self.attempt, outcome)
     }
 
     /// Source `task` copies its offset for the pending checkpoint, and sends the barrier.
@@ -440,16 +453,5 @@ impl<O: Operator, S: SnapshotStore, X: Transactions, P: Partitions<Record = O::R
             Ok(row) => Ok(row),
             Err(_) => Err(CoreFault::Memory),
         }
-    }
-}
-
-/// A task that has one input has copied and is done with the barrier at once.
-fn copied(outcome: Result<(), CoreFault>) -> Result<Effect, CoreFault>
-    ensures same { done_by result ≡ outcome }
-    ensures effect { IfOk result (λ effect. effect ≡ Effect.CopyAndDone) }
-{
-    match outcome {
-        Ok(()) => Ok(Effect::CopyAndDone),
-        Err(fault) => Err(fault),
     }
 }

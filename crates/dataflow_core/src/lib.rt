@@ -7,11 +7,9 @@
 
 mod engine;
 mod rows;
-mod simple;
 mod steps;
 mod tasks;
 
 pub use core_model::CoreFault;
 pub use engine::Core;
-pub use simple::is_served;
 pub use steps::{Reply, Step};

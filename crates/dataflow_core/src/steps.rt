@@ -113,7 +113,7 @@ impl<O: Operator, S: SnapshotStore, X: Transactions, P: Partitions<Record = O::R
     /// Makes one call. What is appended has to fit, as `append` asks. A record that finds no memory for its copy is answered as `append` would.
     pub fn step(&mut self, step: &Step<O::Record>) -> Reply
         requires { StepFits (Fits O.Record.HasSpelling O.Record.spelling) step.now }
-        ensures ends { EndsStep (language O.meaning O.Key.cmp O.Record.spelling O.Record.reading O.Key.reading O.State.reading) (Fits O.Key.HasSpelling O.Key.spelling) (IsGoodState (Fits O.State.HasSpelling O.State.spelling) O.Suits) (part_spelling O.Record.spelling O.Key.spelling O.State.spelling) step.now self.old self.new result }
+        ensures ends { EndsStep (language O.meaning O.Key.cmp O.Record.spelling O.Record.reading O.Key.reading O.State.reading) (Fits O.Key.HasSpelling O.Key.spelling) (Fits O.Record.HasSpelling O.Record.spelling) (IsGoodState (Fits O.State.HasSpelling O.State.spelling) O.Suits) (part_spelling O.Record.spelling O.Key.spelling O.State.spelling) step.now self.old self.new result }
         ensures same { (self.new.graph ≡ self.old.graph) × (self.new.is_fresh ≡ self.old.is_fresh) }
         ensures begins { (task subtask : ℕ) → slice_get self.old.graph.tasks task ≡ Some (Role.Sink subtask) → Begins (committed_rows self.old.ledger subtask) (committed_rows self.new.ledger subtask) }
     {
@@ -138,7 +138,7 @@ impl<O: Operator, S: SnapshotStore, X: Transactions, P: Partitions<Record = O::R
     /// Makes the calls in order, refused or not, with a reply for each. The replies' room is taken first.
     pub fn run_steps(&mut self, steps: &[Step<O::Record>]) -> Result<Vec<Reply>, CoreFault>
         requires { AllByRecursion (StepFits (Fits O.Record.HasSpelling O.Record.spelling)) steps.now }
-        ensures run { IfOk result (λ replies. IsRun (language O.meaning O.Key.cmp O.Record.spelling O.Record.reading O.Key.reading O.State.reading) (Fits O.Key.HasSpelling O.Key.spelling) (IsGoodState (Fits O.State.HasSpelling O.State.spelling) O.Suits) (part_spelling O.Record.spelling O.Key.spelling O.State.spelling) self.old steps.now replies.items self.new) }
+        ensures run { IfOk result (λ replies. IsRun (language O.meaning O.Key.cmp O.Record.spelling O.Record.reading O.Key.reading O.State.reading) (Fits O.Key.HasSpelling O.Key.spelling) (Fits O.Record.HasSpelling O.Record.spelling) (IsGoodState (Fits O.State.HasSpelling O.State.spelling) O.Suits) (part_spelling O.Record.spelling O.Key.spelling O.State.spelling) self.old steps.now replies.items self.new) }
         ensures exact { self.new.is_fresh ≡ true → IsExactlyOnce (job_of (language O.meaning O.Key.cmp O.Record.spelling O.Record.reading O.Key.reading O.State.reading) self.new) O.Record.spelling (devices_of (language O.meaning O.Key.cmp O.Record.spelling O.Record.reading O.Key.reading O.State.reading) self.new) }
         ensures same { (self.new.graph ≡ self.old.graph) × (self.new.is_fresh ≡ self.old.is_fresh) }
         ensures begins { (task subtask : ℕ) → slice_get self.old.graph.tasks task ≡ Some (Role.Sink subtask) → Begins (committed_rows self.old.ledger subtask) (committed_rows self.new.ledger subtask) }

@@ -8,8 +8,9 @@ ghost use Rattle.core_model.specs.declared.fault.CoreFault.TheVariants as CoreFa
 ghost use Rattle.core_model.specs.Language.{language};
 ghost use Rattle.dataflow_core.specs.Tasks.{Serves, EndsWork, EndsBarrier};
 
+use alignment::Effect;
 use commit_sink::Transactions;
-use core_calls::{copy_operator, copy_sink, input_of, operate, put_out};
+use core_calls::{input_of, operate, operator_barrier, put_out, sink_barrier};
 use core_model::CoreFault;
 use job_graph::{Graph, Role};
 use job_state::Attempt;
@@ -45,20 +46,20 @@ pub(crate) fn work_task<O: Operator, X: Transactions>(
             let Some(operator) = operator_of(operators, number) else {
                 return Err(CoreFault::NoSuchTask);
             };
-            operate(alloc, attempt, graph, operator, task, channel)
+            operate(alloc, attempt, graph, operator, task, input, channel)
         }
         Some(Role::Sink(_)) => {
             let Some(channel) = input_of(graph, task, input) else {
                 return Err(CoreFault::NoSuchTask);
             };
-            put_out(alloc, attempt, transactions, task, channel)
+            put_out(alloc, attempt, graph, transactions, task, input, channel)
         }
         Some(Role::Source(_)) => Err(CoreFault::NoSuchTask),
         None => Err(CoreFault::NoSuchTask),
     }
 }
 
-/// A task takes the barrier at the head of its input, its only one, and copies what it holds.
+/// A task takes the barrier at the head of its input, and copies what it holds where that was the last it waits for.
 pub(crate) fn take_barrier<O: Operator, X: Transactions>(
     attempt: &mut Attempt<O>,
     graph: &Graph,
@@ -66,7 +67,7 @@ pub(crate) fn take_barrier<O: Operator, X: Transactions>(
     transactions: &mut X,
     task: u32,
     input: u32,
-) -> Result<(), CoreFault>
+) -> Result<Effect, CoreFault>
     requires serves { Serves O.Key.cmp (Fits O.Record.HasSpelling O.Record.spelling) (IsGoodState (Fits O.State.HasSpelling O.State.spelling) O.Suits) graph.now operators.now (X.state transactions.old) attempt.old }
     ensures ends { EndsBarrier graph.now task input attempt.old attempt.new (X.state transactions.old) (X.state transactions.new) result }
     ensures counted { result ≡ Err CoreFault.Device → X.fault_count transactions.old < X.fault_count transactions.new }
@@ -76,13 +77,13 @@ pub(crate) fn take_barrier<O: Operator, X: Transactions>(
             let Some(channel) = input_of(graph, task, input) else {
                 return Err(CoreFault::NoSuchTask);
             };
-            copy_operator(attempt, graph, task, channel)
+            operator_barrier(attempt, graph, task, input, channel)
         }
         Some(Role::Sink(subtask)) => {
             let Some(channel) = input_of(graph, task, input) else {
                 return Err(CoreFault::NoSuchTask);
             };
-            copy_sink(attempt, transactions, subtask, task, channel)
+            sink_barrier(attempt, graph, transactions, subtask, task, input, channel)
         }
         Some(Role::Source(_)) => Err(CoreFault::NoSuchTask),
         None => Err(CoreFault::NoSuchTask),
