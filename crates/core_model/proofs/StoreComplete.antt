@@ -12,7 +12,8 @@ use Rattle.checkpoint_model.specs.Durable.{HasParts}
 use Rattle.coordinator.specs.Coordinator.{Coordination, has_acked, IsReady}
 use Rattle.coordinator.specs.Coordinator as coordinator
 use Rattle.dataflow_model.specs.Graph.{Job}
-use Rattle.job_state.specs.Held.{Held, copy_at}
+use Rattle.job_graph.specs.Expanded.{Expanded}
+use Rattle.job_state.specs.Held.{Held, copy_at, logs_of, with_logs}
 use Rattle.snapshot_store.specs.Store.{Stored, IsNumbered, is_complete, part_of, all_below, has_all_parts, complete_refusal, completed}
 use Rattle.snapshot_store.specs.declared.store.StoreFault.TheVariants.{MissingPart}
 use Rattle.snapshot_store.specs.StoreLaws.{is_complete-completed}
@@ -73,7 +74,7 @@ numbered_completed stored n numbered positive given = record {
   completes = λ m e. completed_cases stored n m e (λ same. (omega (arith, same, positive), omega (arith, same, given))) (numbered.completes m);
 }
 
-module _ {R K S O : Type 0} (lang : Language R K S O) (stored : Stored) (h : Held R K S) (n : ℕ) (pending : PendingIn lang stored h n) where
+module _ {R K S O : Type 0} (lang : Language R K S O) (graph : Expanded) (stored : Stored) (h : Held R K S) (n : ℕ) (pending : PendingIn lang graph stored h n) where
   -- the line goes on with it
   pub store_completed : store_of lang (completed stored n) ≡ durable.with_complete n (store_of lang stored)
   store_completed =
@@ -89,11 +90,11 @@ module _ {R K S O : Type 0} (lang : Language R K S O) (stored : Stored) (h : Hel
   numbered_pending_completed numbered = numbered_completed stored n numbered pending.positive pending.given
 
   -- a task that has acknowledged has copied, and its part stands for its copy
-  pub acked_part : (task : ℕ) → task < stored.tasks → has_acked h.coordination task ≡ true → (p : Part R K S) × (copy_at h task ≡ Some p) × (part_in lang (part_of stored n task) ≡ Some (part_view lang.cmp p))
+  pub acked_part : (task : ℕ) → task < stored.tasks → has_acked h.coordination task ≡ true → (p : Part R K S) × (copy_at h task ≡ Some p) × (part_in lang (part_of stored n task) ≡ Some (part_view lang.cmp (with_logs (logs_of graph h task) p)))
   acked_part task within acked =
       let there : (bytes : List ℕ) × (part_of stored n task ≡ Some bytes) = some_of (part_of stored n task) (pending.parts task within ∙ acked) in
-      let spelled : (p : Part R K S) × (copy_at h task ≡ Some p) × (whole_of lang.read_part there.0 ≡ Ok p) = pending.spelled task there.0 there.1 in
-      (spelled.0, spelled.1, ap (part_in lang) there.1 ∙ part_in_reads lang there.0 spelled.0 spelled.2)
+      let spelled : (p : Part R K S) × (copy_at h task ≡ Some p) × (whole_of lang.read_part there.0 ≡ Ok (with_logs (logs_of graph h task) p)) = pending.spelled task there.0 there.1 in
+      (spelled.0, spelled.1, ap (part_in lang) there.1 ∙ part_in_reads lang there.0 (with_logs (logs_of graph h task) spelled.0) spelled.2)
 
   module _ (ready : IsReady h.coordination) (same_length : length h.coordination.acked ≡ stored.tasks) where
     all_acked : (task : ℕ) → task < stored.tasks → has_acked h.coordination task ≡ true
@@ -108,7 +109,7 @@ module _ {R K S O : Type 0} (lang : Language R K S O) (stored : Stored) (h : Hel
 
     -- the store takes it
     pub may_complete : complete_refusal stored n ≡ None
-    may_complete = rw (pending_reserved lang stored h n pending, ready_parts) (ap (λ (b : Bool). if b then None else Some MissingPart) (or_true (is_complete stored n)))
+    may_complete = rw (pending_reserved lang graph stored h n pending, ready_parts) (ap (λ (b : Bool). if b then None else Some MissingPart) (or_true (is_complete stored n)))
 
     -- all the parts are there
     pub ready_has_parts : (job : Job R K S O) → length job.graph.tasks ≡ stored.tasks → HasParts job (store_of lang stored) n
@@ -116,4 +117,4 @@ module _ {R K S O : Type 0} (lang : Language R K S O) (stored : Stored) (h : Hel
         let inside : task < length job.graph.tasks = slice_get_within job.graph.tasks task kind is in
         let within : task < stored.tasks = omega (arith, inside, same) in
         let there = acked_part task within (all_acked task within) in
-        (part_view lang.cmp there.0, there.2)
+        (part_view lang.cmp (with_logs (logs_of graph h task) there.0), there.2)

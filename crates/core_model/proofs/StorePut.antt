@@ -7,7 +7,8 @@ use mathlib.Core.Path.{fun_ext}
 use Rattle.abs_codec.specs.Reading.{whole_of}
 use Rattle.checkpoint_model.specs.Durable as durable
 use Rattle.coordinator.specs.Coordinator.{has_acked}
-use Rattle.job_state.specs.Held.{Held, copy_at, with_acknowledged}
+use Rattle.job_graph.specs.Expanded.{Expanded}
+use Rattle.job_state.specs.Held.{Held, copy_at, logs_of, with_logs, with_acknowledged}
 use Rattle.snapshot_store.specs.Store.{Stored, IsNumbered, is_complete, is_reserved, part_of, put_refusal, with_part}
 use Rattle.snapshot_store.specs.StoreLaws.{part_of-with_part}
 use Rattle.task_part.specs.declared.part.Part.{Part}
@@ -84,7 +85,7 @@ module _ {R K S O : Type 0} (lang : Language R K S O) where
       fun_ext (λ m. fun_ext (λ t. ap (part_in lang) (part_of-with_part stored n task bytes m t) ∙ chosen ((m == n) && (t == task)) bytes p (part_of stored m t) reads)) in
       λ i. record { next = stored.next; parts = parts i; line = (store_of lang stored).line }
 
-  module _ (stored : Stored) (h : Held R K S) (n : ℕ) (pending : PendingIn lang stored h n) where
+  module _ (graph : Expanded) (stored : Stored) (h : Held R K S) (n : ℕ) (pending : PendingIn lang graph stored h n) where
     pub pending_reserved : is_reserved stored n ≡ true
     pending_reserved = ap₂ (λ (a b : Bool). a && b) (lt-ltb 0 n (let e = pending.positive in omega (arith, e))) (lt-ltb n stored.next pending.given)
 
@@ -96,8 +97,8 @@ module _ {R K S O : Type 0} (lang : Language R K S O) where
     may_put task within unacked = rw (pending_reserved, pending_incomplete, lt-ltb task stored.tasks within, pending.parts task within ∙ unacked) refl
 
     -- once it is put, it is acknowledged
-    pub pending_put : (task : ℕ) (bytes : List ℕ) (p : Part R K S) → h.coordination.pending ≡ Some n → task < length h.coordination.acked → copy_at h task ≡ Some p → whole_of lang.read_part bytes ≡ Ok p
-        → PendingIn lang (with_part stored n task bytes) (with_acknowledged task h) n
+    pub pending_put : (task : ℕ) (bytes : List ℕ) (p : Part R K S) → h.coordination.pending ≡ Some n → task < length h.coordination.acked → copy_at h task ≡ Some p
+        → whole_of lang.read_part bytes ≡ Ok (with_logs (logs_of graph h task) p) → PendingIn lang graph (with_part stored n task bytes) (with_acknowledged task h) n
     pending_put task bytes p is within copied reads = record {
       positive = pending.positive;
       given = pending.given;
@@ -115,7 +116,7 @@ module _ {R K S O : Type 0} (lang : Language R K S O) where
           elim (eqb_tells t task) [
             | inl same ↦
                 let bytes_are : bytes ≡ more = same_Some bytes more (sym (put_here stored n task bytes) ∙ ap (part_of (with_part stored n task bytes) n) (sym same.1) ∙ there) in
-                (p, ap (copy_at h) same.1 ∙ copied, ap (whole_of lang.read_part) (sym bytes_are) ∙ reads)
+                (p, ap (copy_at h) same.1 ∙ copied, ap (whole_of lang.read_part) (sym bytes_are) ∙ reads ∙ ap (λ (u : ℕ). Ok (with_logs (logs_of graph h u) p)) (sym same.1))
             | inr other ↦ pending.spelled t more (sym (put_elsewhere stored n task bytes t other.1) ∙ there)
           ];
     }

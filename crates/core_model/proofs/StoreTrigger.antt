@@ -9,6 +9,7 @@ use Rattle.std.specs.FinSet as set
 use Rattle.std.proofs.lemmas.Bool.{lt-ltb, ltb-true, ltb-false}
 use mathlib.Core.Path.{fun_ext}
 use Rattle.checkpoint_model.specs.Durable as durable
+use Rattle.job_graph.specs.Expanded.{Expanded}
 use Rattle.job_state.specs.Held.{Held, with_started}
 use Rattle.snapshot_store.specs.Store.{Stored, IsNumbered, key_cmp, is_complete, part_of, blank, reserved, reserve_refusal, discarded_below}
 use Rattle.snapshot_store.specs.declared.store.StoreFault.{StoreFault}
@@ -137,8 +138,8 @@ module _ {R K S O : Type 0} (lang : Language R K S O) where
       chosen false o = refl
 
   -- nothing is there of the number that begins
-  pub pending_started : (stored : Stored) (h : Held R K S) → IsNumbered stored → PendingIn lang (reserved stored) (with_started stored.next h) stored.next
-  pending_started stored h numbered = record {
+  pub pending_started : (graph : Expanded) (stored : Stored) (h : Held R K S) → IsNumbered stored → PendingIn lang graph (reserved stored) (with_started stored.next h) stored.next
+  pending_started graph stored h numbered = record {
     positive = numbered.positive;
     given = above stored.next;
     above = λ n e. (numbered.completes n e).1;
@@ -149,9 +150,9 @@ module _ {R K S O : Type 0} (lang : Language R K S O) where
       above : (n : ℕ) → n < n + 1
       above n = omega arith
 
-  pub pending_started_tidied : (last : Option ℕ) (stored : Stored) (h : Held R K S) → IsNumbered stored → PendingIn lang (reserved (tidied last stored)) (with_started stored.next h) stored.next
-  pending_started_tidied None stored h numbered = pending_started stored h numbered
-  pending_started_tidied (Some last) stored h numbered = pending_started (discarded_below stored last) h (numbered_discarded stored last numbered)
+  pub pending_started_tidied : (graph : Expanded) (last : Option ℕ) (stored : Stored) (h : Held R K S) → IsNumbered stored → PendingIn lang graph (reserved (tidied last stored)) (with_started stored.next h) stored.next
+  pending_started_tidied graph None stored h numbered = pending_started graph stored h numbered
+  pending_started_tidied graph (Some last) stored h numbered = pending_started graph (discarded_below stored last) h (numbered_discarded stored last numbered)
 
   -- a store that has given out no number
   pub store_blank : (B : Type 0) (tasks : ℕ) → store_of lang (blank tasks) ≡ (durable.new_devices {R = R} {K = K} {S = S} {B = B}).store
