@@ -112,8 +112,8 @@ impl Gate {
         effect
     }
 
-    /// What the barrier of this input brings about.
-    fn effect_at(&self, input: u32) -> Effect
+    /// What the barrier of this input would bring about.
+    pub fn effect_at(&self, input: u32) -> Effect
         requires within { input < length self.now.inputs }
         requires awaited { (input_at self.now.inputs input).came ≡ false }
         ensures effect { result ≡ effect_of self.now input }

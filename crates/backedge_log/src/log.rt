@@ -1,12 +1,13 @@
 //! The log of one channel.
 
 ghost use Rattle.std.specs.Prelude.{◌≡◌, ◌<◌, ◌≤◌, ◌-◌, [], ◌∷◌, ◌++◌, true, false, OnOk, OnErr};
+ghost use Rattle.backedge_log.specs.Recorded.{without_last};
 
 use abs_codec::NoMemory;
 use std::alloc::Global;
 use std::marker::Model;
 
-/// What was taken from a channel since its log was opened.
+/// What was taken from a channel since its log was opened. It is open as long as the pending checkpoint's barrier has not come from the channel.
 #[derive(Drop)]
 pub struct Log<R: Drop> {
     records: Vec<R>,
@@ -73,5 +74,12 @@ impl<R: Drop> Log<R> {
         ensures { self.new ≡ record self.old { records = self.old.records ++ taken ∷ []; room = self.old.room - 1 } }
     {
         self.records.push_reserved(taken);
+    }
+
+    pub fn drop_last(&mut self)
+        ensures after { self.new ≡ record self.old { records = without_last self.old.records; room = self.new.room } }
+        ensures room { self.old.room ≤ self.new.room }
+    {
+        self.records.pop();
     }
 }

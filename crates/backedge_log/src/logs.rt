@@ -1,7 +1,7 @@
 //! The logs of so many channels.
 
 ghost use Rattle.std.specs.Prelude.{◌≡◌, ◌<◌, ◌≤◌, ◌-◌, [], ◌∷◌, ◌++◌, true, false, length, slice_set, OnOk, OnErr, IfOk};
-ghost use Rattle.backedge_log.specs.Recorded.{log_at, AllClosed};
+ghost use Rattle.backedge_log.specs.Recorded.{log_at, without_last, AllClosed, AllFresh};
 
 use crate::log::Log;
 use abs_codec::NoMemory;
@@ -36,6 +36,13 @@ impl<R: Drop> Logs<R> {
         Ok(Logs { logs })
     }
 
+    /// How many channels there are.
+    pub fn channels(&self) -> usize
+        ensures { result ≡ length self.now }
+    {
+        self.logs.len()
+    }
+
     /// What stands in the channel's log.
     pub fn records(&self, channel: u32) -> &[R]
         requires { channel < length self.now }
@@ -44,7 +51,7 @@ impl<R: Drop> Logs<R> {
         self.logs[channel as usize].records()
     }
 
-    /// Whether the channel's log is open.
+    /// Whether the channel's log is open: the pending checkpoint's barrier has not come from the channel.
     pub fn is_open(&self, channel: u32) -> bool
         requires { channel < length self.now }
         ensures { result ≡ (log_at self.now channel).is_open }
@@ -61,7 +68,17 @@ impl<R: Drop> Logs<R> {
         self.logs[channel as usize].open();
     }
 
-    /// The channel's log is closed from now on, and stays as it is. It takes no memory.
+    /// Every log is empty and open from now on. It takes no memory.
+    pub fn reopen(&mut self)
+        ensures channels { length self.new ≡ length self.old }
+        ensures fresh { AllFresh self.new }
+    {
+        for log in self.logs.iter_mut() {
+            log.open();
+        }
+    }
+
+    /// The channel's log is closed from now on, and stays as it is: the barrier has come. It takes no memory.
     pub fn close(&mut self, channel: u32)
         requires { channel < length self.old }
         ensures { self.new ≡ slice_set self.old channel (record (log_at self.old channel) { is_open = false }) }
@@ -88,5 +105,15 @@ impl<R: Drop> Logs<R> {
             self.new ≡ slice_set self.old channel (record log { records = log.records ++ taken ∷ []; room = log.room - 1 }) }
     {
         self.logs[channel as usize].push_reserved(taken);
+    }
+
+    /// Takes the newest record of the channel's log away again.
+    pub fn drop_last(&mut self, channel: u32)
+        requires { channel < length self.old }
+        ensures after { let log = log_at self.old channel in
+            self.new ≡ slice_set self.old channel (record log { records = without_last log.records; room = (log_at self.new channel).room }) }
+        ensures room { (log_at self.old channel).room ≤ (log_at self.new channel).room }
+    {
+        self.logs[channel as usize].drop_last();
     }
 }
