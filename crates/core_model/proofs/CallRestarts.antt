@@ -22,33 +22,33 @@ use Rattle.core_model.proofs.Starts.{in_front, sink_at}
 use Rattle.core_model.proofs.CallGoes.{goes_keeps_fresh}
 
 module _ {R K S O : Type 0} (lang : Language R K S O) (KeyFits : K → Type 0) (RecordFits : R → Type 0) (IsGood : O → S → Type 0) (s : State O R K S) (keeps : Keeps lang RecordFits IsGood s) (ledger : Ledger) where
-  abbrev AreAll : Option ℕ → List (Start K S) → Type 0
-  AreAll last starts = AreStarts lang KeyFits IsGood s.operators s.partitions s.stored s.graph last starts
+  abbrev AreAll : Option ℕ → List (Start R K S) → Type 0
+  AreAll last starts = AreStarts lang KeyFits RecordFits IsGood s.graph s.operators s.partitions s.stored last starts
 
   -- ---- the rows
 
   -- once some tasks have taken what they start from
-  up_to_rows : (last : Option ℕ) (starts done rest : List (Start K S)) (middle : Rattle.core_model.specs.Restart.Settling K S) → AreAll last starts → starts ≡ done ++ rest → InTurn Takes done (before_tasks s.ledger) middle → KeepsRows s.ledger middle.ledger
+  up_to_rows : (last : Option ℕ) (starts done rest : List (Start R K S)) (middle : Rattle.core_model.specs.Restart.Settling K S) → AreAll last starts → starts ≡ done ++ rest → InTurn Takes done (before_tasks s.ledger) middle → KeepsRows s.ledger middle.ledger
   up_to_rows last starts done rest middle are split turns =
       (takes_leave s.graph keeps.expanded done (before_tasks s.ledger) middle
-      (λ k subtask names at. ap (slice_get s.graph.tasks) (from_first k) ∙ sink_at lang KeyFits IsGood s.operators s.partitions s.stored s.graph last starts are k subtask names (ap (λ (l : List (Start K S)). slice_get l k) split ∙ in_front done k (start.Sink subtask names) rest at))
+      (λ k subtask names logs at. ap (slice_get s.graph.tasks) (from_first k) ∙ sink_at lang KeyFits RecordFits IsGood s.graph s.operators s.partitions s.stored last starts are k subtask names logs (ap (λ (l : List (Start R K S)). slice_get l k) split ∙ in_front done k (start.Sink subtask names logs) rest at))
       keeps.ordered (λ place subtask sink is at. absurd (none-some (holds.Sink sink) at)) turns).rows
 
-  some_rows : (last : Option ℕ) (starts : List (Start K S)) → AreAll last starts → TakeSome starts s.ledger ledger → KeepsRows s.ledger ledger
+  some_rows : (last : Option ℕ) (starts : List (Start R K S)) → AreAll last starts → TakeSome starts s.ledger ledger → KeepsRows s.ledger ledger
   some_rows last starts are t =
       let first = up_to_rows last starts t.taken.done t.taken.rest t.middle are t.taken.are t.taken.turns in
       elim t.either [
         | inl same ↦ rows_then s.ledger t.middle.ledger ledger first (rows_same t.middle.ledger ledger first.ordered same)
-        | inr more ↦ rows_then s.ledger t.middle.ledger ledger first (partly_leaves more.1 more.0 t.middle.ledger ledger first.ordered more.4).rows
+        | inr more ↦ rows_then s.ledger t.middle.ledger ledger first (partly_leaves more.1 more.0 t.middle.ledger ledger first.ordered more.5).rows
       ]
 
-  refused_rows : (last : Option ℕ) (starts : List (Start K S)) → AreAll last starts → TakeUntilRefused starts s.ledger ledger → KeepsRows s.ledger ledger
+  refused_rows : (last : Option ℕ) (starts : List (Start R K S)) → AreAll last starts → TakeUntilRefused starts s.ledger ledger → KeepsRows s.ledger ledger
   refused_rows last starts are t =
       let first = up_to_rows last starts t.taken.done t.taken.rest t.middle are t.taken.are t.taken.turns in
       rows_then s.ledger t.middle.ledger ledger first (refused_leaves t.names t.subtask t.middle.ledger ledger first.ordered t.refused).rows
 
-  pub restart_rows : (result : Result (Option ℕ × Held R K S) CoreFault) → EndsRestart lang KeyFits IsGood s.operators s.partitions s.stored s.graph s.ledger ledger result → KeepsRows s.ledger ledger
-  restart_rows (Ok x) ends = (leaves lang KeyFits IsGood s.operators s.partitions s.stored s.graph s.ledger ledger x.0 ends.starts ends.are (x.1).tasks ends.take keeps.expanded keeps.ordered).rows
+  pub restart_rows : (result : Result (Option ℕ × Held R K S) CoreFault) → EndsRestart lang KeyFits RecordFits IsGood s.graph s.operators s.partitions s.stored s.ledger ledger result → KeepsRows s.ledger ledger
+  restart_rows (Ok x) ends = (leaves lang KeyFits RecordFits IsGood s.graph s.operators s.partitions s.stored s.ledger ledger x.0 ends.starts ends.are (x.1).tasks ends.take keeps.expanded keeps.ordered).rows
   restart_rows (Err fault.Memory) ends = elim ends [ inl same ↦ rows_same s.ledger ledger keeps.ordered same | inr p ↦ some_rows p.last p.starts p.are p.then_ends ]
   restart_rows (Err fault.Device) ends = elim ends [ inl same ↦ rows_same s.ledger ledger keeps.ordered same | inr p ↦ some_rows p.last p.starts p.are p.then_ends ]
   restart_rows (Err fault.BadSnapshot) ends = elim ends [ inl broken ↦ rows_same s.ledger ledger keeps.ordered broken.1 | inr p ↦ refused_rows p.last p.starts p.are p.then_ends ]
@@ -66,7 +66,7 @@ module _ {R K S O : Type 0} (lang : Language R K S O) (KeyFits : K → Type 0) (
   restart_rows (Err fault.NumbersSpent) ends = absurd ends
 
   -- no committed row is withdrawn
-  pub restart_withdraws : (result : Result (Option ℕ × Held R K S) CoreFault) (subtask : ℕ) → EndsRestart lang KeyFits IsGood s.operators s.partitions s.stored s.graph s.ledger ledger result
+  pub restart_withdraws : (result : Result (Option ℕ × Held R K S) CoreFault) (subtask : ℕ) → EndsRestart lang KeyFits RecordFits IsGood s.graph s.operators s.partitions s.stored s.ledger ledger result
       → Begins (committed_rows s.ledger subtask) (committed_rows ledger subtask)
   restart_withdraws result subtask ends =
       let kept = restart_rows result ends in
@@ -78,21 +78,20 @@ module _ {R K S O : Type 0} (lang : Language R K S O) (KeyFits : K → Type 0) (
   abbrev Held_keeps : ℕ → Option (Held R K S) → Type 0
   Held_keeps n held = MatchOption held (Unit {0}) (Shape lang.cmp RecordFits IsGood s.graph s.operators) × MatchOption held (Unit {0}) (RunsIn lang (record s { held = held; ledger = ledger; faults = n }))
 
-  held_keeps : (n : ℕ) (result : Result (Option ℕ × Held R K S) CoreFault) → EndsRestart lang KeyFits IsGood s.operators s.partitions s.stored s.graph s.ledger ledger result → Held_keeps n (held_by result)
+  held_keeps : (n : ℕ) (result : Result (Option ℕ × Held R K S) CoreFault) → EndsRestart lang KeyFits RecordFits IsGood s.graph s.operators s.partitions s.stored s.ledger ledger result → Held_keeps n (held_by result)
   held_keeps n (Ok x) ends =
-      let whole = shape lang KeyFits IsGood s.operators s.partitions s.stored s.graph s.ledger ledger x.0 ends.starts ends.are (x.1).tasks ends.take RecordFits in
-      let going = runs lang KeyFits IsGood s.operators s.partitions s.stored s.graph s.ledger ledger x.0 ends.starts ends.are (x.1).tasks ends.take keeps.expanded keeps.ordered (record s { held = Some x.1; ledger = ledger; faults = n }) refl refl refl in
+      let whole = shape lang KeyFits RecordFits IsGood s.graph s.operators s.partitions s.stored s.ledger ledger x.0 ends.starts ends.are (x.1).tasks ends.take in
+      let going = runs lang KeyFits RecordFits IsGood s.graph s.operators s.partitions s.stored s.ledger ledger x.0 ends.starts ends.are (x.1).tasks ends.take keeps.expanded keeps.ordered (record s { held = Some x.1; ledger = ledger; faults = n }) refl refl refl in
       (subst (Shape lang.cmp RecordFits IsGood s.graph s.operators) (sym ends.ends) whole, subst (RunsIn lang (record s { held = Some x.1; ledger = ledger; faults = n })) (sym ends.ends) going)
   held_keeps n (Err f) ends = (tt, tt)
 
-  pub keeps_restart : (n : ℕ) (result : Result (Option ℕ × Held R K S) CoreFault) → EndsRestart lang KeyFits IsGood s.operators s.partitions s.stored s.graph s.ledger ledger result
+  pub keeps_restart : (n : ℕ) (result : Result (Option ℕ × Held R K S) CoreFault) → EndsRestart lang KeyFits RecordFits IsGood s.graph s.operators s.partitions s.stored s.ledger ledger result
       → (s.is_fresh ≡ true → Goes lang s (restarted s ledger n result)) → Keeps lang RecordFits IsGood (restarted s ledger n result)
   keeps_restart n result ends goes =
       let kept = restart_rows result ends in
       let held = held_keeps n result ends in
       record {
         expanded = keeps.expanded;
-        simple = keeps.simple;
         operators = keeps.operators;
         partitions = keeps.partitions;
         stored_tasks = keeps.stored_tasks;

@@ -52,6 +52,7 @@ pub mod CallExact
 pub mod Turns
 pub mod RestartRows
 pub mod Starts
+pub mod RestartLogs
 pub mod RestartSinks
 pub mod RestartHeld
 pub mod CallRestarts

@@ -138,20 +138,20 @@ module _ {R K S O : Type 0} (lang : Language R K S O) where
   part_said stored number task bytes p there reads =
       ap (part_in lang) there ∙ ap (λ (r : Result (Part R K S) CodecFault). (let o : Option (durable.Part R K S) = elim r [ Ok q ↦ Some (part_view lang.cmp q) | Err fault ↦ None ] in o)) reads
 
-  same_offset : (st : Start K S) (h : Holding K S) → IsTaken st h → (held_state {R = R} lang.cmp (Some h)).offset ≡ (part_view {R = R} lang.cmp (part_for st)).offset
+  same_offset : (st : Start R K S) (h : Holding K S) → IsTaken st h → (held_state {R = R} lang.cmp (Some h)).offset ≡ (part_view {R = R} lang.cmp (part_for st)).offset
   same_offset (from.Source offset) h taken = ap (λ (x : Holding K S). (held_state {R = R} lang.cmp (Some x)).offset) taken
-  same_offset (from.Operator entries) h taken = ap (λ (x : Holding K S). (held_state {R = R} lang.cmp (Some x)).offset) taken
-  same_offset (from.Sink subtask names) h taken = ap (λ (x : Holding K S). (held_state {R = R} lang.cmp (Some x)).offset) taken.1
+  same_offset (from.Operator entries logs) h taken = ap (λ (x : Holding K S). (held_state {R = R} lang.cmp (Some x)).offset) taken
+  same_offset (from.Sink subtask names logs) h taken = ap (λ (x : Holding K S). (held_state {R = R} lang.cmp (Some x)).offset) taken.1
 
-  same_states : (st : Start K S) (h : Holding K S) → IsTaken st h → (held_state {R = R} lang.cmp (Some h)).states ≡ (part_view {R = R} lang.cmp (part_for st)).states
+  same_states : (st : Start R K S) (h : Holding K S) → IsTaken st h → (held_state {R = R} lang.cmp (Some h)).states ≡ (part_view {R = R} lang.cmp (part_for st)).states
   same_states (from.Source offset) h taken = ap (λ (x : Holding K S). (held_state {R = R} lang.cmp (Some x)).states) taken
-  same_states (from.Operator entries) h taken = ap (λ (x : Holding K S). (held_state {R = R} lang.cmp (Some x)).states) taken
-  same_states (from.Sink subtask names) h taken = ap (λ (x : Holding K S). (held_state {R = R} lang.cmp (Some x)).states) taken.1
+  same_states (from.Operator entries logs) h taken = ap (λ (x : Holding K S). (held_state {R = R} lang.cmp (Some x)).states) taken
+  same_states (from.Sink subtask names logs) h taken = ap (λ (x : Holding K S). (held_state {R = R} lang.cmp (Some x)).states) taken.1
 
-  no_log : (st : Start K S) (number : ℕ) → (part_view {R = R} lang.cmp (part_for st)).logs number ≡ []
+  no_log : (st : Start R K S) (number : ℕ) → (part_view {R = R} lang.cmp (part_for st)).logs number ≡ []
   no_log (from.Source offset) number = refl
-  no_log (from.Operator entries) number = refl
-  no_log (from.Sink subtask names) number = refl
+  no_log (from.Operator entries logs) number = refl
+  no_log (from.Sink subtask names logs) number = refl
 
   no_output : (o : Option (Holding K S)) → (held_state {R = R} lang.cmp o).output ≡ []
   no_output None = refl
@@ -167,7 +167,7 @@ module _ {R K S O : Type 0} (lang : Language R K S O) where
 -- ---- the configuration
 
 module _ {R K S O : Type 0} (lang : Language R K S O) (KeyFits : K → Type 0) (IsGood : O → S → Type 0) (s : State O R K S) (expanded : IsExpanded s.graph) (operators : HaveOperators s.graph s.operators) (numbered : IsNumbered s.stored)
-    (old new : Ledger) (last : Option ℕ) (starts : List (Start K S)) (are : AreStarts lang KeyFits IsGood s.operators s.partitions s.stored s.graph last starts) (tasks : List (Holding K S))
+    (old new : Ledger) (last : Option ℕ) (starts : List (Start R K S)) (are : AreStarts lang KeyFits RecordFits IsGood s.graph s.operators s.partitions s.stored last starts) (tasks : List (Holding K S))
     (take : InTurn Takes starts (before_tasks old) (record { ledger = new; tasks = tasks })) where
   -- what the tasks hold, and nothing in the channels
   abbrev pub base : Configuration R K S
@@ -182,12 +182,12 @@ module _ {R K S O : Type 0} (lang : Language R K S O) (KeyFits : K → Type 0) (
       let nothing : (λ number. map plain_item (Rattle.job_state.specs.Sending.items_at k.channels number)) ≡ (λ number. []) = fun_ext (λ number. ap (map plain_item) (none_in (length s.graph.channels) number)) in
       ap (λ (f : ℕ → List (attempt.Item R)). (let x : Running R K S = record { attempt = record (held (started base)) { channels = f }; number = 0; named = λ task. [] } in x)) nothing
 
-  abbrev at_task : (task : ℕ) (r : Role) → slice_get s.graph.tasks task ≡ Some r → Started lang KeyFits IsGood s.operators s.partitions s.stored s.graph old new last starts are tasks take task r
-  at_task task r is = task_started lang KeyFits IsGood s.operators s.partitions s.stored s.graph old new last starts are tasks take task r is
+  abbrev at_task : (task : ℕ) (r : Role) → slice_get s.graph.tasks task ≡ Some r → Started lang KeyFits RecordFits IsGood s.graph s.operators s.partitions s.stored old new last starts are tasks take task r
+  at_task task r is = task_started lang KeyFits RecordFits IsGood s.graph s.operators s.partitions s.stored old new last starts are tasks take task r is
 
   -- a part of the last complete checkpoint is what its task has taken
   pub record Said (task : ℕ) (p : durable.Part R K S) : Type 0 where
-    pub st : Start K S
+    pub st : Start R K S
     pub h : Holding K S
     pub there : slice_get tasks task ≡ Some h
     pub taken : IsTaken st h
@@ -196,7 +196,7 @@ module _ {R K S O : Type 0} (lang : Language R K S O) (KeyFits : K → Type 0) (
   said : (n task : ℕ) (r : Role) (p : durable.Part R K S) → last ≡ Some n → slice_get s.graph.tasks task ≡ Some r → part_in lang (part_of s.stored n task) ≡ Some p → Said task p
   said n task r p e is copy =
       let x = at_task task r is in
-      let from_part : IsInPart lang KeyFits IsGood s.operators s.partitions s.stored n task r x.st = subst (λ (o : Option ℕ). IsStart lang KeyFits IsGood s.operators s.partitions s.stored o task r x.st) e (are.each task r x.st is x.at) in
+      let from_part : IsInPart lang KeyFits RecordFits IsGood s.graph s.operators s.partitions s.stored n task r x.st = subst (λ (o : Option ℕ). IsStart lang KeyFits RecordFits IsGood s.graph s.operators s.partitions s.stored o task r x.st) e (are.each task r x.st is x.at) in
       record {
         st = x.st;
         h = x.h;
@@ -228,7 +228,7 @@ module _ {R K S O : Type 0} (lang : Language R K S O) (KeyFits : K → Type 0) (
         ap (λ (f : ℕ → TaskState R K S). (let c : Configuration R K S = record { tasks = f; channels = λ channel. [] } in c)) (fun_ext (λ task. fresh_at is_none task));
     tasks = λ task none.
         ap (held_state lang.cmp) (past_end tasks task
-        (let long = one_each lang KeyFits IsGood s.operators s.partitions s.stored s.graph old new last starts are tasks take in
+        (let long = one_each lang KeyFits RecordFits IsGood s.graph s.operators s.partitions s.stored old new last starts are tasks take in
         let past = none_within s.graph.tasks task (no_role task none) in
         omega (arith, long, past)));
     outputs = λ task. no_output lang (slice_get tasks task);
@@ -248,7 +248,7 @@ module _ {R K S O : Type 0} (lang : Language R K S O) (KeyFits : K → Type 0) (
           by : (o : Option (Holding K S)) → slice_get tasks task ≡ o → held_state {R = R} lang.cmp (slice_get tasks task) ≡ fresh_task
           by None e = ap (held_state lang.cmp) e
           by (Some h) e =
-              let r = as_long tasks s.graph.tasks task h (sym (one_each lang KeyFits IsGood s.operators s.partitions s.stored s.graph old new last starts are tasks take)) e in
+              let r = as_long tasks s.graph.tasks task h (sym (one_each lang KeyFits RecordFits IsGood s.graph s.operators s.partitions s.stored old new last starts are tasks take)) e in
               let x = at_task task r.0 r.1 in
-              let first : x.st ≡ first_start r.0 = subst (λ (o : Option ℕ). IsStart lang KeyFits IsGood s.operators s.partitions s.stored o task r.0 x.st) is_none (are.each task r.0 x.st r.1 x.at) in
-              ap (held_state lang.cmp) x.there ∙ first_held lang r.0 x.h (subst (λ (y : Start K S). IsTaken y x.h) first x.taken)
+              let first : x.st ≡ first_start r.0 = subst (λ (o : Option ℕ). IsStart lang KeyFits RecordFits IsGood s.graph s.operators s.partitions s.stored o task r.0 x.st) is_none (are.each task r.0 x.st r.1 x.at) in
+              ap (held_state lang.cmp) x.there ∙ first_held lang r.0 x.h (subst (λ (y : Start R K S). IsTaken y x.h) first x.taken)

@@ -19,7 +19,7 @@ use Rattle.core_model.proofs.RestartHeld.{leaves}
 use Rattle.core_model.proofs.RestartSteps.{restart_goes, now_runs}
 
 module _ {R K S O : Type 0} (lang : Language R K S O) (KeyFits : K → Type 0) (RecordFits : R → Type 0) (IsGood : O → S → Type 0) (s : State O R K S) (keeps : Keeps lang RecordFits IsGood s) (down : s.held ≡ None) (fresh : s.is_fresh ≡ true)
-    (ledger : Ledger) (n : ℕ) (last : Option ℕ) (k : Held R K S) (ends : EndsRestart lang KeyFits IsGood s.operators s.partitions s.stored s.graph s.ledger ledger (Ok (last, k))) where
+    (ledger : Ledger) (n : ℕ) (last : Option ℕ) (k : Held R K S) (ends : EndsRestart lang KeyFits RecordFits IsGood s.graph s.operators s.partitions s.stored s.ledger ledger (Ok (last, k))) where
   abbrev new : State O R K S
   new = restarted s ledger n (Ok (last, k))
 
@@ -30,13 +30,13 @@ module _ {R K S O : Type 0} (lang : Language R K S O) (KeyFits : K → Type 0) (
   sink_there : (task subtask : ℕ) → slice_get s.graph.tasks task ≡ Some (role.Sink subtask) → (sink : Sinking) × (slice_get k.tasks task ≡ Some (holds.Sink sink)) × (sink.pending ≡ [])
   sink_there task subtask is =
       let there = (shape_of lang RecordFits IsGood new kept k refl).forms task (role.Sink subtask) is in
-      let settled = (leaves lang KeyFits IsGood s.operators s.partitions s.stored s.graph s.ledger ledger last ends.starts ends.are k.tasks ends.take keeps.expanded keeps.ordered).settled in
+      let settled = (leaves lang KeyFits RecordFits IsGood s.graph s.operators s.partitions s.stored s.ledger ledger last ends.starts ends.are k.tasks ends.take keeps.expanded keeps.ordered).settled in
       (there.0, there.1, (settled task subtask there.0 is there.1).1)
 
   pub gives_cut : GoesOnFromCut lang new last k
   gives_cut = record {
-    base = base lang KeyFits IsGood s keeps.expanded keeps.operators keeps.numbered s.ledger ledger last ends.starts ends.are k.tasks ends.take;
-    restored = seen_restored lang KeyFits IsGood s keeps.expanded keeps.operators keeps.numbered s.ledger ledger last ends.starts ends.are k.tasks ends.take;
+    base = base lang KeyFits RecordFits IsGood s keeps.expanded keeps.operators keeps.numbered s.ledger ledger last ends.starts ends.are k.tasks ends.take;
+    restored = seen_restored lang KeyFits RecordFits IsGood s keeps.expanded keeps.operators keeps.numbered s.ledger ledger last ends.starts ends.are k.tasks ends.take;
     holds = now_runs lang KeyFits RecordFits IsGood s keeps down fresh ledger n last k ends;
     latest = ends.are.latest;
     committed = λ task subtask is.

@@ -14,6 +14,7 @@ use Rattle.job_graph.specs.declared.role.Role.{Role}
 use Rattle.job_graph.specs.declared.role.Role.TheVariants as role
 use Rattle.job_state.specs.declared.holding.Holding.{Holding}
 use Rattle.job_state.specs.declared.holding.Holding.TheVariants as holds
+use Rattle.task_part.specs.Spelling.{Logs}
 use Rattle.core_model.specs.Language.{Language}
 use Rattle.core_model.specs.Restart.{InTurn, CommitsNext, AbortsNext, Settles, SettlesPartly, NamesOther, Takes, Settling}
 use Rattle.core_model.specs.State.{State}
@@ -152,25 +153,25 @@ module _ {R K S O : Type 0} (lang : Language R K S O) (s : State O R K S) (expan
   -- ---- the tasks, one after another
 
   -- each sink from this place on names what may be committed
-  abbrev pub AreNamed : List (Start K S) → Ledger → Type 0
-  AreNamed starts l = (k subtask : ℕ) (names : List ℕ) → slice_get starts k ≡ Some (start.Sink subtask names) → NamedIn line names l subtask
+  abbrev pub AreNamed : List (Start R K S) → Ledger → Type 0
+  AreNamed starts l = (k subtask : ℕ) (names : List ℕ) (logs : Logs R) → slice_get starts k ≡ Some (start.Sink subtask names logs) → NamedIn line names l subtask
 
   -- each sink before it has settled its transactions
   abbrev pub HaveSettled : ℕ → Ledger → Type 0
   HaveSettled count l = (place subtask : ℕ) → slice_get s.graph.tasks place ≡ Some (role.Sink subtask) → place < count → IsSettled (share l subtask)
 
   -- from this place on, each start is of its task's kind
-  abbrev pub AreKinds : ℕ → List (Start K S) → Type 0
-  AreKinds place starts = (k : ℕ) (r : Role) (st : Start K S) → slice_get s.graph.tasks (place + k) ≡ Some r → slice_get starts k ≡ Some st → IsOfKind r st
+  abbrev pub AreKinds : ℕ → List (Start R K S) → Type 0
+  AreKinds place starts = (k : ℕ) (r : Role) (st : Start R K S) → slice_get s.graph.tasks (place + k) ≡ Some r → slice_get starts k ≡ Some st → IsOfKind r st
 
-  pub record AreReady (place : ℕ) (starts : List (Start K S)) (l : Ledger) : Type 0 where
-    pub for : AreFor {K = K} {S = S} s.graph place starts
+  pub record AreReady (place : ℕ) (starts : List (Start R K S)) (l : Ledger) : Type 0 where
+    pub for : AreFor {R = R} {K = K} {S = S} s.graph place starts
     pub kinds : AreKinds place starts
     pub named : AreNamed starts l
     pub settled : HaveSettled place l
     pub ordered : IsOrdered l
 
-  pub record TakesTo (rest : List (Start K S)) (old new : Settling K S) : Type 0 where
+  pub record TakesTo (rest : List (Start R K S)) (old new : Settling K S) : Type 0 where
     pub goes : GoesDown old.ledger new.ledger
     pub ready : AreReady (length new.tasks) rest new.ledger
 
@@ -184,9 +185,9 @@ module _ {R K S O : Type 0} (lang : Language R K S O) (s : State O R K S) (expan
   one_longer tasks h = length-append tasks (h ∷ [])
 
   -- what is left is ready for the places behind
-  behind : (n : ℕ) (st : Start K S) (rest : List (Start K S)) (old new : Ledger) → AreReady n (st ∷ rest) old → AreNamed rest new → HaveSettled (n + 1) new → IsOrdered new → AreReady (n + 1) rest new
+  behind : (n : ℕ) (st : Start R K S) (rest : List (Start R K S)) (old new : Ledger) → AreReady n (st ∷ rest) old → AreNamed rest new → HaveSettled (n + 1) new → IsOrdered new → AreReady (n + 1) rest new
   behind n st rest old new ready named settled ordered = record {
-    for = λ k subtask names at. ap (slice_get s.graph.tasks) (sym (shift n k)) ∙ ready.for (suc k) subtask names at;
+    for = λ k subtask names logs at. ap (slice_get s.graph.tasks) (sym (shift n k)) ∙ ready.for (suc k) subtask names logs at;
     kinds = λ k r x is at. ready.kinds (suc k) r x (ap (slice_get s.graph.tasks) (shift n k) ∙ is) at;
     named = named;
     settled = settled;
@@ -194,10 +195,10 @@ module _ {R K S O : Type 0} (lang : Language R K S O) (s : State O R K S) (expan
   }
 
   -- a task that is no sink
-  other_goes : (st : Start K S) (h : Holding K S) (rest : List (Start K S)) (old new : Settling K S) → ((subtask : ℕ) → IsOfKind (role.Sink subtask) st → ⊥) → AreReady (length old.tasks) (st ∷ rest) old.ledger → new ≡ record { ledger = old.ledger; tasks = old.tasks ++ h ∷ [] } → TakesTo rest old new
+  other_goes : (st : Start R K S) (h : Holding K S) (rest : List (Start R K S)) (old new : Settling K S) → ((subtask : ℕ) → IsOfKind (role.Sink subtask) st → ⊥) → AreReady (length old.tasks) (st ∷ rest) old.ledger → new ≡ record { ledger = old.ledger; tasks = old.tasks ++ h ∷ [] } → TakesTo rest old new
   other_goes st h rest old new no_sink ready e = subst (TakesTo rest old) (sym e) (record {
     goes = down_stays old.ledger old.ledger refl;
-    ready = subst (λ (n : ℕ). AreReady n rest old.ledger) (sym (one_longer old.tasks h)) (behind (length old.tasks) st rest old.ledger old.ledger ready (λ k subtask names at. ready.named (suc k) subtask names at) settled ready.ordered);
+    ready = subst (λ (n : ℕ). AreReady n rest old.ledger) (sym (one_longer old.tasks h)) (behind (length old.tasks) st rest old.ledger old.ledger ready (λ k subtask names logs at. ready.named (suc k) subtask names logs at) settled ready.ordered);
   })
     where
       settled : HaveSettled (length old.tasks + 1) old.ledger
@@ -210,22 +211,22 @@ module _ {R K S O : Type 0} (lang : Language R K S O) (s : State O R K S) (expan
           before : (m n : ℕ) → m < n + 1 → (m ≡ n → ⊥) → m < n
           before m n lt ne = omega (arith, lt, ne)
 
-  sink_goes : (subtask : ℕ) (names : List ℕ) (rest : List (Start K S)) (old new : Settling K S) → AreReady (length old.tasks) (start.Sink subtask names ∷ rest) old.ledger → Takes (start.Sink subtask names) old new → TakesTo rest old new
-  sink_goes subtask names rest old new ready e =
-      let here : slice_get s.graph.tasks (length old.tasks) ≡ Some (role.Sink subtask) = ap (slice_get s.graph.tasks) (sym (plus_none (length old.tasks))) ∙ ready.for 0 subtask names refl in
-      let x = settles_go (length old.tasks) subtask here names e.0 old.ledger new.ledger ready.ordered (ready.named 0 subtask names refl) e.1 in
+  sink_goes : (subtask : ℕ) (names : List ℕ) (logs : Logs R) (rest : List (Start R K S)) (old new : Settling K S) → AreReady (length old.tasks) (start.Sink subtask names logs ∷ rest) old.ledger → Takes (start.Sink subtask names logs) old new → TakesTo rest old new
+  sink_goes subtask names logs rest old new ready e =
+      let here : slice_get s.graph.tasks (length old.tasks) ≡ Some (role.Sink subtask) = ap (slice_get s.graph.tasks) (sym (plus_none (length old.tasks))) ∙ ready.for 0 subtask names logs refl in
+      let x = settles_go (length old.tasks) subtask here names e.0 old.ledger new.ledger ready.ordered (ready.named 0 subtask names logs refl) e.1 in
       let long : length new.tasks ≡ length old.tasks + 1 = ap length e.2 ∙ one_longer old.tasks (holds.Sink (record { open_one = e.0; pending = [] })) in
       record {
         goes = x.reached.goes;
-        ready = subst (λ (n : ℕ). AreReady n rest new.ledger) (sym long) (behind (length old.tasks) (start.Sink subtask names) rest old.ledger new.ledger ready (named here x.reached.others) (settled here x.reached.others x.settled) x.ordered);
+        ready = subst (λ (n : ℕ). AreReady n rest new.ledger) (sym long) (behind (length old.tasks) (start.Sink subtask names logs) rest old.ledger new.ledger ready (named here x.reached.others) (settled here x.reached.others x.settled) x.ordered);
       }
     where
       named : slice_get s.graph.tasks (length old.tasks) ≡ Some (role.Sink subtask) → OthersSame subtask old.ledger new.ledger → AreNamed rest new.ledger
-      named here others k other names' at =
-          let there = ready.for (suc k) other names' at in
+      named here others k other names' logs' at =
+          let there = ready.for (suc k) other names' logs' at in
           named_same line names' old.ledger new.ledger other
           (others other (sinks_apart s.graph (length old.tasks) (length old.tasks + suc k) subtask other expanded here there (λ q. omega (arith, q))))
-          (ready.named (suc k) other names' at)
+          (ready.named (suc k) other names' logs' at)
 
       settled : slice_get s.graph.tasks (length old.tasks) ≡ Some (role.Sink subtask) → OthersSame subtask old.ledger new.ledger → IsSettled (share new.ledger subtask) → HaveSettled (length old.tasks + 1) new.ledger
       settled here others mine place other is less =
@@ -239,12 +240,12 @@ module _ {R K S O : Type 0} (lang : Language R K S O) (s : State O R K S) (expan
           before : (m n : ℕ) → m < n + 1 → (m ≡ n → ⊥) → m < n
           before m n lt ne = omega (arith, lt, ne)
 
-  one_goes : (st : Start K S) (rest : List (Start K S)) (old new : Settling K S) → AreReady (length old.tasks) (st ∷ rest) old.ledger → Takes st old new → TakesTo rest old new
+  one_goes : (st : Start R K S) (rest : List (Start R K S)) (old new : Settling K S) → AreReady (length old.tasks) (st ∷ rest) old.ledger → Takes st old new → TakesTo rest old new
   one_goes (start.Source offset) rest old new ready e = other_goes (start.Source offset) (holds.Source offset) rest old new (λ subtask kind. kind) ready e
-  one_goes (start.Operator entries) rest old new ready e = other_goes (start.Operator entries) (holds.Operator entries) rest old new (λ subtask kind. kind) ready e
-  one_goes (start.Sink subtask names) rest old new ready e = sink_goes subtask names rest old new ready e
+  one_goes (start.Operator entries logs) rest old new ready e = other_goes (start.Operator entries logs) (holds.Operator entries) rest old new (λ subtask kind. kind) ready e
+  one_goes (start.Sink subtask names logs) rest old new ready e = sink_goes subtask names logs rest old new ready e
 
-  pub takes_go : (done rest : List (Start K S)) (old new : Settling K S) → AreReady (length old.tasks) (done ++ rest) old.ledger → InTurn Takes done old new → TakesTo rest old new
+  pub takes_go : (done rest : List (Start R K S)) (old new : Settling K S) → AreReady (length old.tasks) (done ++ rest) old.ledger → InTurn Takes done old new → TakesTo rest old new
   takes_go [] rest old new ready e = subst (TakesTo rest old) (sym e) (record { goes = down_stays old.ledger old.ledger refl; ready = ready })
   takes_go (st ∷ done) rest old new ready e =
       let first = one_goes st (done ++ rest) old e.0 ready e.1 in

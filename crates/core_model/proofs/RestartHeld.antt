@@ -41,20 +41,20 @@ pub from_first : (n : ℕ) → 0 + n ≡ n
 from_first n = omega arith
 
 module _ {R K S O : Type 0} (lang : Language R K S O) (KeyFits : K → Type 0) (IsGood : O → S → Type 0) (operators : List O) (partitions : List (List R)) (stored : Stored) (graph : Expanded)
-    (old new : Ledger) (last : Option ℕ) (starts : List (Start K S)) (are : AreStarts lang KeyFits IsGood operators partitions stored graph last starts) (tasks : List (Holding K S))
+    (old new : Ledger) (last : Option ℕ) (starts : List (Start R K S)) (are : AreStarts lang KeyFits RecordFits IsGood graph operators partitions stored last starts) (tasks : List (Holding K S))
     (take : InTurn Takes starts (before_tasks old) (record { ledger = new; tasks = tasks })) where
   abbrev k : Held R K S
   k = begun tasks (length graph.channels) last
 
   pub for_sinks : AreFor {K = K} {S = S} graph 0 starts
-  for_sinks n subtask names at = ap (slice_get graph.tasks) (from_first n) ∙ sink_at lang KeyFits IsGood operators partitions stored graph last starts are n subtask names at
+  for_sinks n subtask names at = ap (slice_get graph.tasks) (from_first n) ∙ sink_at lang KeyFits RecordFits IsGood graph operators partitions stored last starts are n subtask names at
 
   pub one_each : length tasks ≡ length graph.tasks
   one_each = takes_length starts (before_tasks old) (record { ledger = new; tasks = tasks }) take ∙ from_first (length starts) ∙ are.one_each
 
   -- each task has a start, and has taken it
   pub record Started (task : ℕ) (r : Role) : Type 0 where
-    pub st : Start K S
+    pub st : Start R K S
     pub at : slice_get starts task ≡ Some st
     pub h : Holding K S
     pub there : slice_get tasks task ≡ Some h
@@ -74,13 +74,13 @@ module _ {R K S O : Type 0} (lang : Language R K S O) (KeyFits : K → Type 0) (
     acked = many (length tasks) false ∙ one_each;
     forms = λ task r is.
         let s = started task r is in
-        subst (λ (o : Option (Holding K S)). HoldsAs r o) (sym s.there) (holds_of_kind r s.st s.h (start_of_kind lang KeyFits IsGood operators partitions stored last task r s.st (are.each task r s.st is s.at)) s.taken);
+        subst (λ (o : Option (Holding K S)). HoldsAs r o) (sym s.there) (holds_of_kind r s.st s.h (start_of_kind lang KeyFits RecordFits IsGood graph operators partitions stored last task r s.st (are.each task r s.st is s.at)) s.taken);
     copy_forms = λ task r is. subst (λ (o : Option (Part R K S)). CopyAs r o) (sym (none_copied (length tasks) task)) (no_copy r);
     fit = λ number. subst (All (IfRecord RecordFits)) (sym (none_in (length graph.channels) number)) (All-nil (IfRecord RecordFits));
     good = λ task number operator entries key state is at there found.
         let s = started task (role.Operator number) is in
         let same : s.h ≡ holds.Operator entries = same_Some s.h (holds.Operator entries) (sym s.there ∙ there) in
-        good_states lang KeyFits IsGood operators partitions stored last task number s.st entries operator key state (are.each task (role.Operator number) s.st is s.at)
+        good_states lang KeyFits RecordFits IsGood graph operators partitions stored last task number s.st entries operator key state (are.each task (role.Operator number) s.st is s.at)
         (subst (Rattle.core_model.proofs.Starts.IsTaken s.st) same s.taken) at found;
   }
     where

@@ -133,10 +133,10 @@ module _ {R K S O : Type 0} (lang : Language R K S O) (RecordFits : R → Type 0
         let less = before_place is_source s.graph.tasks task (role.Source partition) refl is in
         omega (arith, n, less, keeps.partitions)
 
-    pub has_start : (task : ℕ) (r : Role) → slice_get s.graph.tasks task ≡ Some r → (st : Start K S) × IsInPart lang KeyFits (IsGoodState StateFits Suits) s.operators s.partitions s.stored last task r st
+    pub has_start : (task : ℕ) (r : Role) → slice_get s.graph.tasks task ≡ Some r → (st : Start R K S) × IsInPart lang KeyFits RecordFits (IsGoodState StateFits Suits) s.graph s.operators s.partitions s.stored last task r st
     has_start task r is = by r is (part_there task r is)
       where
-        by : (r : Role) → slice_get s.graph.tasks task ≡ Some r → PartThere task r → (st : Start K S) × IsInPart lang KeyFits (IsGoodState StateFits Suits) s.operators s.partitions s.stored last task r st
+        by : (r : Role) → slice_get s.graph.tasks task ≡ Some r → PartThere task r → (st : Start R K S) × IsInPart lang KeyFits RecordFits (IsGoodState StateFits Suits) s.graph s.operators s.partitions s.stored last task r st
         by (role.Source partition) is x =
             let offset = (x.form).0 in
             let said : (cut.tasks task).offset ≡ offset = is_cut.offsets task (part_view lang.cmp x.p) (SourceTask partition) (is_task_of task (role.Source partition) is) x.copy ∙ ap (λ (q : Part R K S). (part_view lang.cmp q).offset) (x.form).1 in (
@@ -153,7 +153,7 @@ module _ {R K S O : Type 0} (lang : Language R K S O) (RecordFits : R → Type 0
             let o = operator_at task number is in
             let kind : slice_get job.graph.tasks task ≡ Some (OperatorTask o.0) = is_task_of task (role.Operator number) is ∙ ap (λ (m : Option O). Some (operator_task m)) o.1 in
             let said : (cut.tasks task).states ≡ value_at lang.cmp entries = is_cut.states task (part_view lang.cmp x.p) (OperatorTask o.0) kind x.copy ∙ ap (λ (q : Part R K S). (part_view lang.cmp q).states) (x.form).1 in (
-              from.Operator entries,
+              from.Operator entries logs,
               record {
                 bytes = x.bytes;
                 is_part = x.there;
@@ -164,17 +164,17 @@ module _ {R K S O : Type 0} (lang : Language R K S O) (RecordFits : R → Type 0
         by (role.Sink subtask) is x =
             (from.Sink subtask (x.form).0, record { bytes = x.bytes; is_part = x.there; reads = x.reads ∙ ap Ok (x.form).1; suits = refl })
 
-  pub never_broken : (task : ℕ) → IsBroken lang KeyFits (IsGoodState StateFits Suits) s.operators s.partitions s.stored s.graph task → ⊥
+  pub never_broken : (task : ℕ) → IsBroken lang KeyFits RecordFits (IsGoodState StateFits Suits) s.graph s.operators s.partitions s.stored task → ⊥
   never_broken task b =
       let last_one = last_of_line s.stored b.last keeps.numbered b.latest.0 b.latest.1 in
       let st = has_start b.last last_one.0 last_one.1 task b.role b.is_task in
       b.no_start st.0 st.1
 
   -- no restart is refused for what the devices hold
-  pub never_bad : (ledger : Ledger) (result : Result (Option ℕ × Held R K S) CoreFault) → EndsRestart lang KeyFits (IsGoodState StateFits Suits) s.operators s.partitions s.stored s.graph s.ledger ledger result → result ≢ Err BadSnapshot
+  pub never_bad : (ledger : Ledger) (result : Result (Option ℕ × Held R K S) CoreFault) → EndsRestart lang KeyFits RecordFits (IsGoodState StateFits Suits) s.graph s.operators s.partitions s.stored s.ledger ledger result → result ≢ Err BadSnapshot
   never_bad ledger result ends e =
-      let bad : EndsRestart lang KeyFits (IsGoodState StateFits Suits) s.operators s.partitions s.stored s.graph s.ledger ledger (Err BadSnapshot) =
-      subst (EndsRestart lang KeyFits (IsGoodState StateFits Suits) s.operators s.partitions s.stored s.graph s.ledger ledger) e ends in
+      let bad : EndsRestart lang KeyFits RecordFits (IsGoodState StateFits Suits) s.graph s.operators s.partitions s.stored s.ledger ledger (Err BadSnapshot) =
+      subst (EndsRestart lang KeyFits RecordFits (IsGoodState StateFits Suits) s.graph s.operators s.partitions s.stored s.ledger ledger) e ends in
       elim bad [
         | inl broken ↦ never_broken broken.0.0 broken.0.1
         | inr p ↦ never_until lang KeyFits RecordFits (IsGoodState StateFits Suits) s keeps down fresh p.last p.starts ledger p.are p.then_ends

@@ -14,6 +14,7 @@ use Rattle.job_graph.specs.Expanded.{Expanded, IsExpanded}
 use Rattle.job_graph.specs.declared.role.Role.TheVariants as role
 use Rattle.job_state.specs.declared.holding.Holding.{Holding}
 use Rattle.job_state.specs.declared.holding.Holding.TheVariants as holds
+use Rattle.task_part.specs.Spelling.{Logs}
 use Rattle.core_model.specs.Keeps.{SinkIn}
 use Rattle.core_model.specs.Restart.{InTurn, CommitsNext, AbortsNext, Settles, SettlesPartly, NamesOther, Takes, Settling}
 use Rattle.core_model.specs.declared.start.Start.{Start}
@@ -192,18 +193,19 @@ module _ {K S : Type 0} (graph : Expanded) where
   abbrev pub AreSettled : Settling K S → Type 0
   AreSettled s = (place subtask : ℕ) (sink : Sinking) → slice_get graph.tasks place ≡ Some (role.Sink subtask) → slice_get s.tasks place ≡ Some (holds.Sink sink) → SinkIn s.ledger subtask sink × (sink.pending ≡ [])
 
-  -- a start of a sink, from this place on, is for the task of its subtask
-  abbrev pub AreFor : ℕ → List (Start K S) → Type 0
-  AreFor place starts = (k subtask : ℕ) (names : List ℕ) → slice_get starts k ≡ Some (start.Sink subtask names) → slice_get graph.tasks (place + k) ≡ Some (role.Sink subtask)
-
   pub record TakesLeave (old new : Settling K S) : Type 0 where
     pub rows : KeepsRows old.ledger new.ledger
     pub settled : AreSettled new
 
-module _ {K S : Type 0} (graph : Expanded) (expanded : IsExpanded graph) where
-  same_sink : (x y : Sinking) → ◌≡◌ {A = Holding K S} (holds.Sink x) (holds.Sink y) → x ≡ y
-  same_sink x y e = cc
+module _ {R K S : Type 0} (graph : Expanded) where
+  -- a start of a sink, from this place on, is for the task of its subtask
+  abbrev pub AreFor : ℕ → List (Start R K S) → Type 0
+  AreFor place starts = (k subtask : ℕ) (names : List ℕ) (logs : Logs R) → slice_get starts k ≡ Some (start.Sink subtask names logs) → slice_get graph.tasks (place + k) ≡ Some (role.Sink subtask)
 
+same_sink : {K S : Type 0} (x y : Sinking) → ◌≡◌ {A = Holding K S} (holds.Sink x) (holds.Sink y) → x ≡ y
+same_sink x y e = cc
+
+module _ {K S : Type 0} (graph : Expanded) (expanded : IsExpanded graph) where
   -- a task that is no sink
   holds_other : (h : Holding K S) (old new : Settling K S) → ((sink : Sinking) → h ≡ holds.Sink sink → ⊥) → IsOrdered old.ledger → AreSettled graph old → new ≡ record { ledger = old.ledger; tasks = old.tasks ++ h ∷ [] } → TakesLeave graph old new
   holds_other h old new no_sink ordered settled e = subst (TakesLeave graph old) (sym e) (record {
@@ -215,14 +217,15 @@ module _ {K S : Type 0} (graph : Expanded) (expanded : IsExpanded graph) where
         ];
   })
 
-  takes_one_leaves : (st : Start K S) (old new : Settling K S) → ((subtask : ℕ) (names : List ℕ) → st ≡ start.Sink subtask names → slice_get graph.tasks (length old.tasks) ≡ Some (role.Sink subtask))
+module _ {R K S : Type 0} (graph : Expanded) (expanded : IsExpanded graph) where
+  takes_one_leaves : (st : Start R K S) (old new : Settling K S) → ((subtask : ℕ) (names : List ℕ) (logs : Logs R) → st ≡ start.Sink subtask names logs → slice_get graph.tasks (length old.tasks) ≡ Some (role.Sink subtask))
       → IsOrdered old.ledger → AreSettled graph old → Takes st old new → TakesLeave graph old new
-  takes_one_leaves (start.Source offset) old new for ordered settled e = holds_other (holds.Source offset) old new (λ sink h. absurd cc) ordered settled e
-  takes_one_leaves (start.Operator entries) old new for ordered settled e = holds_other (holds.Operator entries) old new (λ sink h. absurd cc) ordered settled e
-  takes_one_leaves (start.Sink subtask names) old new for ordered settled e =
+  takes_one_leaves (start.Source offset) old new for ordered settled e = holds_other graph expanded (holds.Source offset) old new (λ sink h. absurd cc) ordered settled e
+  takes_one_leaves (start.Operator entries logs) old new for ordered settled e = holds_other graph expanded (holds.Operator entries) old new (λ sink h. absurd cc) ordered settled e
+  takes_one_leaves (start.Sink subtask names logs) old new for ordered settled e =
       let left = settles_leave names subtask e.0 old.ledger new.ledger ordered e.1 in
       let mine : Sinking = record { open_one = e.0; pending = [] } in
-      let here = for subtask names refl in
+      let here = for subtask names logs refl in
       record {
         rows = left.leaves.rows;
         settled = λ place other sink is at.
@@ -233,21 +236,21 @@ module _ {K S : Type 0} (graph : Expanded) (expanded : IsExpanded graph) where
                   let apart = sinks_apart graph (length old.tasks) place subtask other expanded here is (λ q. omega (arith, less, q)) in
                   (left.leaves.others other sink apart before.1 before.0, before.1)
               | inr new_one ↦
-                  let k : mine ≡ sink = same_sink mine sink new_one.1 in
+                  let k : mine ≡ sink = same_sink {K = K} {S = S} mine sink new_one.1 in
                   let n : subtask ≡ other = same_subtask subtask other (same_Some (role.Sink subtask) (role.Sink other) (sym here ∙ ap (slice_get graph.tasks) (sym new_one.0) ∙ is)) in
                   (subst (λ (m : ℕ). SinkIn new.ledger m sink) n (subst (λ (x : Sinking). SinkIn new.ledger subtask x) k left.sink_in), ap (λ (x : Sinking). x.pending) (sym k))
             ];
       }
 
-  pub takes_leave : (starts : List (Start K S)) (old new : Settling K S) → AreFor graph (length old.tasks) starts → IsOrdered old.ledger → AreSettled graph old → InTurn Takes starts old new → TakesLeave graph old new
+  pub takes_leave : (starts : List (Start R K S)) (old new : Settling K S) → AreFor graph (length old.tasks) starts → IsOrdered old.ledger → AreSettled graph old → InTurn Takes starts old new → TakesLeave graph old new
   takes_leave [] old new for ordered settled e = subst (TakesLeave graph old) (sym e) (record { rows = rows_same old.ledger old.ledger ordered refl; settled = settled })
   takes_leave (st ∷ starts) old new for ordered settled e =
       let middle = e.0 in
       let none : length old.tasks + 0 ≡ length old.tasks = omega arith in
-      let first = takes_one_leaves st old middle (λ subtask names is. subst (λ (k : ℕ). slice_get graph.tasks k ≡ Some (role.Sink subtask)) none (for 0 subtask names (ap (λ (x : Start K S). Some x) is))) ordered settled e.1 in
+      let first = takes_one_leaves st old middle (λ subtask names logs is. subst (λ (k : ℕ). slice_get graph.tasks k ≡ Some (role.Sink subtask)) none (for 0 subtask names logs (ap (λ (x : Start R K S). Some x) is))) ordered settled e.1 in
       let one = takes_one st old middle e.1 in
       let long = ap length one.1 in
       let more = length-append old.tasks (one.0 ∷ []) in
       let plus : (k : ℕ) → length old.tasks + suc k ≡ length middle.tasks + k = λ k. omega (arith, long, more) in
-      let rest = takes_leave starts middle new (λ k subtask names at. subst (λ (m : ℕ). slice_get graph.tasks m ≡ Some (role.Sink subtask)) (plus k) (for (suc k) subtask names at)) first.rows.ordered first.settled e.2 in
+      let rest = takes_leave starts middle new (λ k subtask names logs at. subst (λ (m : ℕ). slice_get graph.tasks m ≡ Some (role.Sink subtask)) (plus k) (for (suc k) subtask names logs at)) first.rows.ordered first.settled e.2 in
       record { rows = rows_then old.ledger middle.ledger new.ledger first.rows rest.rows; settled = rest.settled }
