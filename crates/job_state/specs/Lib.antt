@@ -1,2 +1,3 @@
 pub mod Sending
 pub mod Held
+pub mod Inside

@@ -1,0 +1,107 @@
+-- Channels, as items are put into them.
+use Rattle.std.proofs.Common.{◌≡◌, ◌<◌, ◌≤◌, ◌+◌, ◌-◌, ◌==◌, ℕ, List, [], ◌∷◌, ◌++◌, length, map, filter, take, drop, get_or, Option, Some, slice_get, slice_set, unwrap_or, All, subst, sym, ap, ◌∙◌, arith, inl, inr}
+use Rattle.std.specs.Option.{option_map, option_map_or}
+use Rattle.std.proofs.lemmas.Bool.Decides.{eqb_tells}
+use Rattle.std.proofs.lemmas.List.{map-set, map-append, append-nil, take_all, set_past, length-map}
+use Rattle.std.proofs.lemmas.List.Elements.{filter-append}
+use Rattle.std.proofs.lemmas.Option.{slice_get-map}
+use Rattle.channels.specs.Channel.{Contents}
+use Rattle.channels.specs.declared.item.Item.{Item}
+use Rattle.channels.specs.declared.item.Item.TheVariants.{Record}
+use Rattle.dataflow_model.specs.Graph.{Meaning}
+use Rattle.job_graph.specs.Expanded.{Expanded, meets, takes, outlets_of}
+use Rattle.job_graph.proofs.Targets.{targets_are}
+use Rattle.job_state.specs.Sending.{items_at, put_into, contents_items, room_at, AreChannels, HasRoom, Puts, without_head, delivered_last, deliveries_of_one}
+use Rattle.job_state.proofs.Places.{get_set_same, get_set_other, set_same}
+
+module _ {R : Type 0} where
+  -- the same items, and as many channels
+  pub are_channels : {puts made : List (ℕ × Item R)} {count counted : ℕ} → puts ≡ made → count ≡ counted → AreChannels counted made → AreChannels count puts
+  are_channels {puts} {made} {count} {counted} same many all = subst (λ n. AreChannels n puts) (sym many) (subst (AreChannels counted) (sym same) all)
+
+  pub put_into_append : (k : ℕ) (xs ys : List (ℕ × Item R)) → put_into k (xs ++ ys) ≡ put_into k xs ++ put_into k ys
+  put_into_append k xs ys = ap (map (λ p. p.1)) (filter-append (λ p. p.0 == k) xs ys) ∙ map-append (λ p. p.1) (filter (λ p. p.0 == k) xs) (filter (λ p. p.0 == k) ys)
+
+  -- what stands in a channel that was read
+  pub items_here : (channels : List (Contents R)) (n : ℕ) (was : Contents R) → slice_get channels n ≡ Some was → items_at (contents_items channels) n ≡ was.items
+  items_here channels n was is = ap (λ o. unwrap_or o []) (slice_get-map (λ c. c.items) channels n ∙ ap (option_map (λ c. c.items)) is)
+
+  -- a channel that holds what the one before it held
+  pub items_kept : (channels : List (Contents R)) (n : ℕ) (was new : Contents R) → slice_get channels n ≡ Some was → new.items ≡ was.items → contents_items (slice_set channels n new) ≡ contents_items channels
+  items_kept channels n was new is same =
+      map-set (λ c. c.items) channels n new ∙ ap (λ x. slice_set (contents_items channels) n x) same ∙ set_same (contents_items channels) n was.items (slice_get-map (λ c. c.items) channels n ∙ ap (option_map (λ c. c.items)) is)
+
+  -- the first item of a channel was taken
+  pub head_taken : (channels : List (Contents R)) (n : ℕ) (was new : Contents R) → slice_get channels n ≡ Some was → new.items ≡ drop 1 was.items → contents_items (slice_set channels n new) ≡ without_head n (contents_items channels)
+  head_taken channels n was new is taken =
+      map-set (λ c. c.items) channels n new ∙ ap (λ x. slice_set (contents_items channels) n x) (taken ∙ ap (λ l. drop 1 l) (sym (items_here channels n was is)))
+
+  -- there is no such channel
+  pub none_taken : (channels : List (Contents R)) (n : ℕ) → length channels ≤ n → contents_items channels ≡ without_head n (contents_items channels)
+  none_taken channels n past = sym (set_past (contents_items channels) n _ (omega (arith, past, length-map channels (λ c. c.items))))
+
+  -- what was put, as it is seen
+  pub puts_from : (middle after : List (Contents R)) (before : List (List (Item R))) (puts : List (ℕ × Item R)) (items : ℕ → List (Item R)) → contents_items middle ≡ before → length after ≡ length middle →
+      ((k : ℕ) → items_at (contents_items after) k ≡ items_at (contents_items middle) k ++ put_into k puts) → ((k : ℕ) → put_into k puts ≡ items k) → Puts items before (contents_items after)
+  puts_from middle after before puts items is same each put = record {
+    same_length = length-map after (λ c. c.items) ∙ same ∙ sym (length-map middle (λ c. c.items)) ∙ ap (λ l. length l) is;
+    each = λ k. each k ∙ ap (λ l. items_at l k ++ put_into k puts) is ∙ ap (λ l. items_at before k ++ l) (put k);
+  }
+
+  pub puts_same : {before middle after : List (List (Item R))} {puts : ℕ → List (Item R)} (input : ℕ) (items : ℕ → List (Item R)) → middle ≡ before → Puts puts (without_head input middle) after → ((k : ℕ) → puts k ≡ items k) → Puts items (without_head input before) after
+  puts_same {before} {middle} {after} {puts} input items same put equal = record {
+    same_length = put.same_length ∙ ap (λ l. length (without_head input l)) same;
+    each = λ k. put.each k ∙ ap (λ l. items_at (without_head input l) k ++ puts k) same ∙ ap (λ l. items_at (without_head input before) k ++ l) (equal k);
+  }
+
+  -- an item was put last into one channel
+  pub items_pushed : (channels : List (Contents R)) (n : ℕ) (was new : Contents R) (item : Item R) → n < length channels → slice_get channels n ≡ Some was → new ≡ record { items = was.items ++ item ∷ []; room = was.room - 1 } →
+      (k : ℕ) → items_at (contents_items (slice_set channels n new)) k ≡ items_at (contents_items channels) k ++ put_into k ((n, item) ∷ [])
+  items_pushed channels n was new item within is pushed k =
+      ap (λ l. items_at l k) (map-set (λ c. c.items) channels n new) ∙
+      elim (eqb_tells n k) [
+        | inl h ↦ rw h.0 (ap (items_at (slice_set (contents_items channels) n new.items)) (sym h.1) ∙ here ∙ ap (λ j. items_at (contents_items channels) j ++ item ∷ []) h.1)
+        | inr h ↦ rw h.0 (ap (λ o. unwrap_or o []) (get_set_other (contents_items channels) n k new.items (λ e. h.1 (sym e))) ∙ sym (append-nil (items_at (contents_items channels) k)))
+      ]
+    where
+      here : items_at (slice_set (contents_items channels) n new.items) n ≡ items_at (contents_items channels) n ++ item ∷ []
+      here =
+          ap (λ l. items_at l n) (sym (map-set (λ c. c.items) channels n new)) ∙ items_here (slice_set channels n new) n new (get_set_same channels n new within) ∙ ap (λ c. c.items) pushed ∙ ap (λ l. l ++ item ∷ []) (sym (items_here channels n was is))
+
+  -- one channel's room grows, or falls by so much at most
+  pub room_moved : (channels : List (Contents R)) (n : ℕ) (was new : Contents R) (by : ℕ) → n < length channels → slice_get channels n ≡ Some was → was.room ≤ new.room + by → (k : ℕ) → room_at channels k ≤ room_at (slice_set channels n new) k + by
+  room_moved channels n was new by within is falls k =
+      elim (eqb_tells k n) [
+        | inl h ↦ omega (arith, falls, ap (room_at channels) h.1, ap (room_at (slice_set channels n new)) h.1, ap (λ o. option_map_or (λ c. c.room) o 0) is, ap (λ o. option_map_or (λ c. c.room) o 0) (get_set_same channels n new within))
+        | inr h ↦ omega (arith, ap (λ o. option_map_or (λ c. c.room) o 0) (get_set_other channels n k new h.1))
+      ]
+
+  pub has_room_at : {channels was : List (Contents R)} (puts : List (ℕ × Item R)) → channels ≡ was → HasRoom was puts → HasRoom channels puts
+  has_room_at puts same room = subst (λ (l : List (Contents R)). HasRoom l puts) (sym same) room
+
+  pub room_here : (channels : List (Contents R)) (n : ℕ) (was : Contents R) → slice_get channels n ≡ Some was → room_at channels n ≡ was.room
+  room_here channels n was is = ap (λ o. option_map_or (λ c. c.room) o 0) is
+
+module _ {R : Type 0} where
+  -- the number of one of the items is that of a channel
+  pub is_there : (count : ℕ) (puts : List (ℕ × Item R)) (i : ℕ) (p : ℕ × Item R) → AreChannels count puts → i < length puts → p ≡ get_or puts i p → p.0 < count
+  is_there count puts i p all within is = omega (arith, all i p within, ap (λ q. q.0) is)
+
+  pub room_pushed : (channels : List (Contents R)) (n : ℕ) (was new : Contents R) (item : Item R) → n < length channels → slice_get channels n ≡ Some was → 0 < was.room → new ≡ record { items = was.items ++ item ∷ []; room = was.room - 1 } → (k : ℕ) → room_at channels k ≤ room_at (slice_set channels n new) k + 1
+  room_pushed channels n was new item within is room pushed = room_moved channels n was new 1 within is (omega (arith, room, ap (λ c. c.room) pushed))
+
+  pub has_room : (channels : List (Contents R)) (met : ℕ) (puts : List (ℕ × Item R)) (p : ℕ × Item R) (was : Contents R) → All (λ q. length puts ≤ room_at channels q.0 + met) puts → met < length puts → p ≡ get_or puts met p → slice_get channels p.0 ≡ Some was → 0 < was.room
+  has_room channels met puts p was room within is here = omega (arith, room met p within, ap (λ q. room_at channels q.0) is, room_here channels p.0 was here)
+
+pub all_of_take : {X : Type 0} (P : X → Type 0) (xs : List X) (i : ℕ) → length xs ≤ i → All P (take i xs) → All P xs
+all_of_take P xs i past all = subst (All P) (take_all i xs past) all
+
+module _ {R K S O : Type 0} where
+  -- the last target has the record itself, the others have copies
+  pub delivered : (meaning : Meaning R K S O) (graph : Expanded) (task port : ℕ) (row : R) (items : List ℕ) (index : ℕ) (before puts : List (ℕ × Item R)) (last : Option ℕ) →
+      items ≡ outlets_of graph task port → length items ≤ index →
+      puts ++ delivered_last row last ≡ before ++ map (λ n. (n, Record row)) (filter (meets (takes (meaning.lane row)) graph.channels) (take index items)) →
+      puts ++ delivered_last row last ≡ before ++ deliveries_of_one meaning graph task (port, row)
+  delivered meaning graph task port row items index before puts last are all e =
+      e ∙ ap (λ l. before ++ map (λ n. (n, Record row)) (filter (meets (takes (meaning.lane row)) graph.channels) l)) (take_all index items all ∙ are)
+      ∙ ap (λ l. before ++ map (λ n. (n, Record row)) l) (sym (targets_are graph task port (meaning.lane row)))

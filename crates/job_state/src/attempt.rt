@@ -1,0 +1,226 @@
+//! The attempt.
+
+ghost use Rattle.std.specs.Prelude.{◌≡◌, ◌<◌, ◌^◌, ◌↔◌, false, length, slice_get, Some, None, IfOk, IsTrue};
+ghost use Rattle.std.specs.Option.{option_copied};
+ghost use Rattle.alignment.specs.Inputs as gates;
+ghost use Rattle.alignment.specs.Table.{effect_of, is_blocked};
+ghost use Rattle.alignment.specs.declared.input.Phase.TheVariants.{AtRest};
+ghost use Rattle.coordinator.specs.Coordinator.{has_acked, IsReady, ack_refusal, complete_refusal};
+
+use crate::deliveries::first;
+use crate::gates::fresh_gates;
+use crate::holding::Holding;
+use crate::logs::{open_logs, reopen};
+use crate::openings::opened_channels;
+use crate::parts::{clear, forget_oldest, no_copies};
+use abs_codec::{Items, NoMemory};
+use alignment::{Effect, Gate, Phase};
+use backedge_log::Logs;
+use channels::{Channel, Item};
+use coordinator::Coordinator;
+use job_graph::Graph;
+use operators::Operator;
+use std::alloc::Global;
+use std::marker::Model;
+use task_part::Part;
+
+/// What a running job holds in memory.
+#[derive(Drop)]
+pub struct Attempt<O: Operator> {
+    pub(crate) alloc: Global,
+    pub(crate) tasks: Vec<Holding<O::Key, O::State>>,
+    pub(crate) channels: Vec<Channel<O::Record>>,
+    pub(crate) gates: Vec<Gate>,
+    /// A channel's log is open as long as the pending checkpoint's barrier has not come from it.
+    pub(crate) logs: Logs<O::Record>,
+    pub(crate) copies: Vec<Option<Part<O::Record, O::Key, O::State>>>,
+    pub(crate) coordinator: Coordinator,
+}
+
+impl<O: Operator> Model for Attempt<O> {
+    ghost use Rattle.job_state.specs.Held.{Held};
+    ghost use Rattle.job_state.specs.Inside.{came_of, records_of};
+    ghost use Rattle.job_state.specs.Sending.{contents_items};
+
+    ghost Value = { Held O.Record O.Key O.State };
+
+    ghost view = { λ a. record {
+      tasks = a.tasks.items;
+      channels = contents_items a.channels.items;
+      gates = a.gates.items;
+      came = came_of a.logs;
+      logs = records_of a.logs;
+      copies = a.copies.items;
+      coordination = a.coordinator;
+    } };
+}
+
+impl<O: Operator> Attempt<O> {
+    ghost use Rattle.commit_sink.specs.Sink.{Sinking};
+    ghost use Rattle.job_state.specs.declared.holding.Holding.TheVariants as Holding;
+    ghost use Rattle.job_state.specs.Sending.{items_at};
+    ghost use Rattle.job_state.specs.Held.{copy_at, gate_at, came_at, logged_at, begun, oldest_forgotten, with_started, with_acknowledged, with_completed};
+
+    /// An attempt that begins: these tasks, these records in the channels, and no checkpoint pending. Records that are for no channel are dropped.
+    pub fn new(
+        alloc: Global,
+        graph: &Graph,
+        tasks: Vec<Holding<O::Key, O::State>>,
+        openings: Vec<(u32, Items<O::Record>)>,
+        last_complete: Option<u64>,
+    ) -> Result<Self, NoMemory>
+        requires { length tasks.items < 2 ^ 32 }
+        ensures { IfOk result (λ a. a ≡ begun graph.now tasks.items openings.items last_complete) }
+    {
+        let count = tasks.len() as u32;
+        let channels = opened_channels(alloc, graph.channels(), openings)?;
+        let gates = fresh_gates(alloc, graph, count)?;
+        let logs = open_logs(alloc, graph.channels())?;
+        let copies = no_copies(alloc, count)?;
+        let coordinator = Coordinator::new(alloc, count)?.with_last_complete(last_complete);
+        Ok(Attempt {
+            alloc,
+            tasks,
+            channels,
+            gates,
+            logs,
+            copies,
+            coordinator,
+        })
+    }
+
+    /// What a task holds; `None` if there is no such task.
+    pub fn holding(&self, task: u32) -> Option<&Holding<O::Key, O::State>>
+        ensures { option_copied result ≡ slice_get self.now.tasks task }
+    {
+        self.tasks.get(task as usize)
+    }
+
+    /// The item that stands first in a channel.
+    pub fn head(&self, channel: u32) -> Option<&Item<O::Record>>
+        ensures { option_copied result ≡ slice_get (items_at self.now.channels channel) 0 }
+    {
+        first(&self.channels, channel)
+    }
+
+    /// Whether a task's input is blocked: its barrier has come, and the task waits for others.
+    pub fn is_blocked(&self, task: u32, input: u32) -> bool
+        requires { input < length (gate_at self.now task).inputs }
+        ensures { result ≡ is_blocked (gate_at self.now task) input }
+    {
+        match self.gates.get(task as usize) {
+            Some(gate) => !gate.may_take(input),
+            None => false,
+        }
+    }
+
+    /// What the barrier of a task's input would bring about.
+    pub fn effect(&self, task: u32, input: u32) -> Effect
+        requires within { input < length (gate_at self.now task).inputs }
+        requires awaited { (gates.input_at (gate_at self.now task).inputs input).came ≡ false }
+        ensures { result ≡ effect_of (gate_at self.now task) input }
+    {
+        self.gates[task as usize].effect_at(input)
+    }
+
+    /// Whether a task's gate is at rest: it logs nothing, and waits for no barrier.
+    pub fn is_closed(&self, task: u32) -> bool
+        ensures { IsTrue result ↔ ((gate_at self.now task).phase ≡ AtRest) }
+    {
+        match self.gates.get(task as usize) {
+            Some(gate) => gate.phase() == Phase::AtRest,
+            None => true,
+        }
+    }
+
+    /// Whether the pending checkpoint's barrier was taken from a channel.
+    pub fn came(&self, channel: u32) -> bool
+        ensures { result ≡ came_at self.now channel }
+    {
+        (channel as usize) < self.logs.channels() && !self.logs.is_open(channel)
+    }
+
+    /// The records that are logged for a channel.
+    pub fn logged(&self, channel: u32) -> &[O::Record]
+        ensures { result.now ≡ logged_at self.now channel }
+    {
+        if (channel as usize) < self.logs.channels() {
+            self.logs.records(channel)
+        } else {
+            &[]
+        }
+    }
+
+    /// A task's copy for the pending checkpoint. Its logs stand by channel.
+    pub fn copy(&self, task: u32) -> Option<&Part<O::Record, O::Key, O::State>>
+        ensures { option_copied result ≡ copy_at self.now task }
+    {
+        self.copies.get(task as usize)?.as_ref()
+    }
+
+    /// The number of the pending checkpoint.
+    pub fn pending(&self) -> Option<u64>
+        ensures { result ≡ self.now.coordination.pending }
+    {
+        self.coordinator.pending()
+    }
+
+    /// The last number that is complete.
+    pub fn last_complete(&self) -> Option<u64>
+        ensures { result ≡ self.now.coordination.last_complete }
+    {
+        self.coordinator.last_complete()
+    }
+
+    /// Whether a checkpoint is pending and the task has acknowledged it.
+    pub fn has_acked(&self, task: u32) -> bool
+        requires { task < length self.now.coordination.acked }
+        ensures { result ≡ has_acked self.now.coordination task }
+    {
+        self.coordinator.has_acked(task)
+    }
+
+    /// Whether a checkpoint is pending and every task has acknowledged it.
+    pub fn ready(&self) -> bool
+        ensures { IsTrue result ↔ IsReady self.now.coordination }
+    {
+        self.coordinator.ready()
+    }
+
+    /// A sink's oldest pre-committed transaction is committed, and forgotten here. It takes no memory.
+    pub fn forget_oldest(&mut self, task: u32)
+        requires { task < length self.old.tasks }
+        ensures { (sink : Sinking) → slice_get self.old.tasks task ≡ Some (Holding.Sink sink) → self.new ≡ oldest_forgotten task sink self.old }
+    {
+        forget_oldest(&mut self.tasks[task as usize]);
+    }
+
+    /// A checkpoint is pending from now on, for which no task has copied and no barrier has come. It takes no memory.
+    pub fn start(&mut self, checkpoint: u64)
+        requires { self.old.coordination.pending ≡ None }
+        ensures { self.new ≡ with_started checkpoint self.old }
+    {
+        let _ = self.coordinator.start(checkpoint);
+        clear(&mut self.copies);
+        reopen(&mut self.logs);
+    }
+
+    /// A task acknowledges the pending checkpoint. It takes no memory.
+    pub fn acknowledge(&mut self, checkpoint: u64, task: u32)
+        requires task { task < length self.old.coordination.acked }
+        requires may { ack_refusal self.old.coordination checkpoint task ≡ None }
+        ensures { self.new ≡ with_acknowledged task self.old }
+    {
+        let _ = self.coordinator.ack(checkpoint, task);
+    }
+
+    /// The pending checkpoint is complete, and the copies and logs are dropped. It takes no memory.
+    pub fn complete(&mut self, checkpoint: u64)
+        requires { complete_refusal self.old.coordination checkpoint ≡ None }
+        ensures { self.new ≡ with_completed checkpoint self.old }
+    {
+        let _ = self.coordinator.complete(checkpoint);
+        clear(&mut self.copies);
+        reopen(&mut self.logs);
+    }
+}

@@ -1,0 +1,103 @@
+//! Records that are sent, taken and logged.
+
+ghost use Rattle.std.specs.Prelude.{◌≡◌, ◌<◌, ◌+◌, ◌^◌, ℕ, List, length, slice_get, Some, OnOk, OnErr};
+ghost use Rattle.channels.specs.declared.item.Item.TheVariants as Item;
+
+use crate::attempt::Attempt;
+use crate::deliveries::{first, pass_on, reserve_deliveries, send_records, take_head};
+use crate::gates::is_logged;
+use crate::holding::Holding;
+use crate::logs::{drop_last, log_copy, log_taken, reserve_log};
+use crate::parts::keep;
+use abs_codec::NoMemory;
+use job_graph::Graph;
+use operators::Operator;
+
+impl<O: Operator> Attempt<O> {
+    ghost use Rattle.job_state.specs.declared.holding.Holding.TheVariants as Holding;
+    ghost use Rattle.job_state.specs.Sending.{items_at, without_head};
+    ghost use Rattle.job_state.specs.Held.{Held, gate_at, Reads, Operates, record_logged};
+
+    /// A source, which holds this offset, sends its next record.
+    pub fn read(
+        &mut self,
+        graph: &Graph,
+        task: u32,
+        offset: u64,
+        row: O::Record,
+    ) -> Result<(), NoMemory>
+        requires holds { slice_get self.old.tasks task ≡ Some (Holding.Source offset) }
+        requires in_range { offset + 1 < 2 ^ 64 }
+        requires channels { length self.old.channels ≡ length graph.now.channels }
+        ensures ok { OnOk result (Reads O.meaning graph.now task offset row self.old self.new) }
+        ensures err { OnErr result (self.new ≡ self.old) }
+    {
+        let mut sent = Vec::new(self.alloc);
+        sent.push((0, row))?;
+        send_records::<O>(self.alloc, &mut self.channels, graph, task, sent)?;
+        self.tasks[task as usize] = Holding::Source(offset + 1);
+        Ok(())
+    }
+
+    /// An operator takes the record at the head of an input, which is this channel, keeps the state under the key, if there is one, and sends.
+    /// The record is logged where the task's gate logs the input.
+    pub fn operate(
+        &mut self,
+        graph: &Graph,
+        task: u32,
+        input: u32,
+        channel: u32,
+        key: Option<O::Key>,
+        state: O::State,
+        sent: Vec<(u32, O::Record)>,
+    ) -> Result<(), NoMemory>
+        requires holds { (entries : List (O.Key × O.State)) × (slice_get self.old.tasks task ≡ Some (Holding.Operator entries)) }
+        requires within { input < length (gate_at self.old task).inputs }
+        requires logs { channel < length self.old.logs }
+        requires taken { (row : O.Record) × (slice_get (items_at self.old.channels channel) 0 ≡ Some (Item.Record row)) }
+        requires channels { length self.old.channels ≡ length graph.now.channels }
+        ensures ok { OnOk result ((row : O.Record) → slice_get (items_at self.old.channels channel) 0 ≡ Some (Item.Record row)
+            → Operates O.meaning O.Key.cmp graph.now task input channel row key state sent.items self.old self.new) }
+        ensures err { OnErr result (self.new ≡ self.old) }
+    {
+        let logged = is_logged(&self.gates, task, input);
+        reserve_log(&mut self.logs, channel, logged)?;
+        let puts = reserve_deliveries::<O>(self.alloc, &mut self.channels, graph, task, sent)?;
+        keep::<O>(&mut self.tasks[task as usize], key, state)?;
+        let taken = pass_on(&mut self.channels, channel, puts);
+        log_taken(&mut self.logs, channel, logged, taken);
+        Ok(())
+    }
+
+    /// Logs a copy of the record at the head of an input, which is this channel, where the task's gate logs the input.
+    pub fn log_head(&mut self, task: u32, input: u32, channel: u32) -> Result<(), NoMemory>
+        requires within { input < length (gate_at self.old task).inputs }
+        requires logs { channel < length self.old.logs }
+        ensures ok { OnOk result ((row : O.Record) → slice_get (items_at self.old.channels channel) 0 ≡ Some (Item.Record row)
+            → self.new ≡ record_logged task input channel row self.old) }
+        ensures err { OnErr result (self.new ≡ self.old) }
+    {
+        if is_logged(&self.gates, task, input) {
+            log_copy(&mut self.logs, channel, first(&self.channels, channel))?;
+        }
+        Ok(())
+    }
+
+    /// The record that `log_head` logged is not logged. It takes no memory.
+    pub fn unlog(&mut self, task: u32, input: u32, channel: u32)
+        requires within { input < length (gate_at self.old task).inputs }
+        requires logs { channel < length self.old.logs }
+        ensures { (before : Held O.Record O.Key O.State) (row : O.Record) → self.old ≡ record_logged task input channel row before → self.new ≡ before }
+    {
+        if is_logged(&self.gates, task, input) {
+            drop_last(&mut self.logs, channel);
+        }
+    }
+
+    /// Takes the first item of a channel. It takes no memory.
+    pub fn take(&mut self, channel: u32)
+        ensures { self.new ≡ record self.old { channels = without_head channel self.old.channels } }
+    {
+        let _ = take_head(&mut self.channels, channel);
+    }
+}
