@@ -1,5 +1,6 @@
 pub mod Lists
 pub mod Fitting
+pub mod Gates
 pub mod Shapes
 pub mod ShapeCalls
 pub mod Items

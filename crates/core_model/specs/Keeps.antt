@@ -109,10 +109,10 @@ module _ {R K S : Type 0} (graph : Expanded) (held : Held R K S) (task : ℕ) wh
   NotesBarriers inputs = (input number : ℕ) → slice_get (inputs_of graph task) input ≡ Some number → (gates.input_at inputs input).came ≡ came_at held number
 
   -- How far a task's gate is. At rest: its task has not copied and no barrier was taken, or it has, and all were. Aligning for the pending
-  -- checkpoint: it has not copied. Copied for it: it has.
+  -- checkpoint: it has inputs, and has not copied. Copied for it: it has.
   abbrev pub StandsAs : Phase → List Input → Type 0
   StandsAs AtRest inputs = (input number : ℕ) → slice_get (inputs_of graph task) input ≡ Some number → came_at held number ≡ is_some (copy_at held task)
-  StandsAs (Aligning checkpoint) inputs = (held.coordination.pending ≡ Some checkpoint) × (copy_at held task ≡ None) × NotesBarriers inputs
+  StandsAs (Aligning checkpoint) inputs = (held.coordination.pending ≡ Some checkpoint) × (copy_at held task ≡ None) × NotesBarriers inputs × (0 < length inputs)
   StandsAs (Copied checkpoint) inputs = (held.coordination.pending ≡ Some checkpoint) × (copy_at held task ≢ None) × NotesBarriers inputs
 
   -- A task's gate has the task's inputs and their marks, and stands with the task's copy and the barriers that were taken. A task that has
