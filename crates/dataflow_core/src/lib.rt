@@ -6,10 +6,12 @@
 #![tactic(auto)]
 
 mod engine;
+mod faults;
 mod rows;
 mod steps;
 mod tasks;
 
 pub use core_model::CoreFault;
 pub use engine::Core;
+pub use faults::DeviceCall;
 pub use steps::{Reply, Step};
