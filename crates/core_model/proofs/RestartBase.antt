@@ -21,19 +21,22 @@ use Rattle.job_graph.specs.PlainGraph.{task_of, operator_task, HaveOperators}
 use Rattle.job_graph.specs.declared.role.Role.{Role}
 use Rattle.job_graph.specs.declared.role.Role.TheVariants as role
 use Rattle.job_graph.proofs.PlainTasks.{tasks-graph_of}
-use Rattle.job_state.specs.Held.{Held, begun}
+use Rattle.job_state.specs.Held.{Held, begun, opened}
+use Rattle.job_state.specs.Sending.{items_at}
 use Rattle.job_state.specs.declared.holding.Holding.{Holding}
 use Rattle.job_state.specs.declared.holding.Holding.TheVariants as holds
 use Rattle.snapshot_store.specs.Store.{Stored, IsLatest, IsNumbered, is_complete, part_of}
 use Rattle.task_part.specs.declared.part.Part.{Part}
 use Rattle.core_model.specs.Language.{Language}
-use Rattle.core_model.specs.Restart.{InTurn, IsInPart, IsStart, AreStarts, Takes, before_tasks, first_start, part_for}
+use Rattle.core_model.specs.Restart.{InTurn, IsInPart, IsStart, AreStarts, Takes, before_tasks, first_start, part_for, openings_of}
 use Rattle.core_model.specs.State.{State}
 use Rattle.core_model.specs.View.{plain_item, held_state, part_view, part_in, run_of, job_of}
 use Rattle.core_model.specs.declared.start.Start.{Start}
 use Rattle.core_model.specs.declared.start.Start.TheVariants as from
+use Rattle.core_model.proofs.Items.{plain_records}
 use Rattle.core_model.proofs.LedgerDevices.{devices_with}
-use Rattle.core_model.proofs.RestartHeld.{none_in, one_each, Started, started as task_started}
+use Rattle.core_model.proofs.RestartHeld.{one_each, channels_are, Started, started as task_started}
+use Rattle.core_model.proofs.RestartLogs.{past_end, view_logs, openings_at, openings_past, openings_first}
 use Rattle.core_model.proofs.Starts.{as_long, IsTaken}
 use Rattle.core_model.proofs.StoreView.{line_of, last_of_line}
 
@@ -87,11 +90,6 @@ pub is_within : {A : Type 0} (xs : List A) (i : ℕ) → i < length xs → (x : 
 is_within [] i within = absurd (omega (arith, within))
 is_within (x ∷ xs) zero within = (x, refl)
 is_within (x ∷ xs) (suc i) within = is_within xs i (omega (arith, within))
-
-past_end : {A : Type 0} (xs : List A) (i : ℕ) → length xs ≤ i → slice_get xs i ≡ None
-past_end [] i past = refl
-past_end (x ∷ xs) zero past = absurd (omega (arith, past))
-past_end (x ∷ xs) (suc i) past = past_end xs i (omega (arith, past))
 
 none_within : {A : Type 0} (xs : List A) (i : ℕ) → slice_get xs i ≡ None → length xs ≤ i
 none_within [] i none = omega arith
@@ -148,39 +146,35 @@ module _ {R K S O : Type 0} (lang : Language R K S O) where
   same_states (from.Operator entries logs) h taken = ap (λ (x : Holding K S). (held_state {R = R} lang.cmp (Some x)).states) taken
   same_states (from.Sink subtask names logs) h taken = ap (λ (x : Holding K S). (held_state {R = R} lang.cmp (Some x)).states) taken.1
 
-  no_log : (st : Start R K S) (number : ℕ) → (part_view {R = R} lang.cmp (part_for st)).logs number ≡ []
-  no_log (from.Source offset) number = refl
-  no_log (from.Operator entries logs) number = refl
-  no_log (from.Sink subtask names logs) number = refl
-
   no_output : (o : Option (Holding K S)) → (held_state {R = R} lang.cmp o).output ≡ []
   no_output None = refl
   no_output (Some (holds.Source offset)) = refl
   no_output (Some (holds.Operator entries)) = refl
   no_output (Some (holds.Sink sink)) = refl
 
-  first_held : (r : Role) (h : Holding K S) → IsTaken (first_start r) h → held_state {R = R} lang.cmp (Some h) ≡ fresh_task
+  first_held : (r : Role) (h : Holding K S) → IsTaken {R = R} (first_start r) h → held_state {R = R} lang.cmp (Some h) ≡ fresh_task
   first_held (role.Source p) h taken = ap (λ (x : Holding K S). held_state {R = R} lang.cmp (Some x)) taken
   first_held (role.Operator n) h taken = ap (λ (x : Holding K S). held_state {R = R} lang.cmp (Some x)) taken
   first_held (role.Sink n) h taken = ap (λ (x : Holding K S). held_state {R = R} lang.cmp (Some x)) taken.1
 
 -- ---- the configuration
 
-module _ {R K S O : Type 0} (lang : Language R K S O) (KeyFits : K → Type 0) (IsGood : O → S → Type 0) (s : State O R K S) (expanded : IsExpanded s.graph) (operators : HaveOperators s.graph s.operators) (numbered : IsNumbered s.stored)
+module _ {R K S O : Type 0} (lang : Language R K S O) (KeyFits : K → Type 0) (RecordFits : R → Type 0) (IsGood : O → S → Type 0) (s : State O R K S) (expanded : IsExpanded s.graph) (operators : HaveOperators s.graph s.operators) (numbered : IsNumbered s.stored)
     (old new : Ledger) (last : Option ℕ) (starts : List (Start R K S)) (are : AreStarts lang KeyFits RecordFits IsGood s.graph s.operators s.partitions s.stored last starts) (tasks : List (Holding K S))
     (take : InTurn Takes starts (before_tasks old) (record { ledger = new; tasks = tasks })) where
-  -- what the tasks hold, and nothing in the channels
+  -- what the tasks hold, and the logs in the channels
   abbrev pub base : Configuration R K S
-  base = record { tasks = λ task. held_state lang.cmp (slice_get tasks task); channels = λ channel. [] }
+  base = record { tasks = λ task. held_state lang.cmp (slice_get tasks task); channels = λ number. opened (openings_of starts) number }
 
   abbrev k : Held R K S
-  k = begun tasks (length s.graph.channels) last
+  k = begun s.graph tasks (openings_of starts) last
 
   -- the attempt begins there
   pub begins_there : held_run (run_of lang.cmp s.graph k) ≡ held_start base
   begins_there =
-      let nothing : (λ number. map plain_item (Rattle.job_state.specs.Sending.items_at k.channels number)) ≡ (λ number. []) = fun_ext (λ number. ap (map plain_item) (none_in (length s.graph.channels) number)) in
-      ap (λ (f : ℕ → List (attempt.Item R)). (let x : Running R K S = record { attempt = record (held (started base)) { channels = f }; number = 0; named = λ task. [] } in x)) nothing
+      let plainly : (λ number. map plain_item (items_at k.channels number)) ≡ (λ number. map attempt.Record (base.channels number)) =
+      fun_ext (λ number. ap (map plain_item) (channels_are lang KeyFits RecordFits IsGood s.graph s.operators s.partitions s.stored old new last starts are tasks take number) ∙ plain_records (opened (openings_of starts) number)) in
+      ap (λ (f : ℕ → List (attempt.Item R)). (let x : Running R K S = record { attempt = record (held (started base)) { channels = f }; number = 0; named = λ task. [] } in x)) plainly
 
   abbrev at_task : (task : ℕ) (r : Role) → slice_get s.graph.tasks task ≡ Some r → Started lang KeyFits RecordFits IsGood s.graph s.operators s.partitions s.stored old new last starts are tasks take task r
   at_task task r is = task_started lang KeyFits RecordFits IsGood s.graph s.operators s.partitions s.stored old new last starts are tasks take task r is
@@ -188,6 +182,7 @@ module _ {R K S O : Type 0} (lang : Language R K S O) (KeyFits : K → Type 0) (
   -- a part of the last complete checkpoint is what its task has taken
   pub record Said (task : ℕ) (p : durable.Part R K S) : Type 0 where
     pub st : Start R K S
+    pub at : slice_get starts task ≡ Some st
     pub h : Holding K S
     pub there : slice_get tasks task ≡ Some h
     pub taken : IsTaken st h
@@ -199,6 +194,7 @@ module _ {R K S O : Type 0} (lang : Language R K S O) (KeyFits : K → Type 0) (
       let from_part : IsInPart lang KeyFits RecordFits IsGood s.graph s.operators s.partitions s.stored n task r x.st = subst (λ (o : Option ℕ). IsStart lang KeyFits RecordFits IsGood s.graph s.operators s.partitions s.stored o task r x.st) e (are.each task r x.st is x.at) in
       record {
         st = x.st;
+        at = x.at;
         h = x.h;
         there = x.there;
         taken = x.taken;
@@ -221,20 +217,24 @@ module _ {R K S O : Type 0} (lang : Language R K S O) (KeyFits : K → Type 0) (
           channels = λ number channel p is copy.
               let r = (expanded.joined number channel is).receiver in
               let x = said n channel.receiver r.role p is_last r.is copy in
-              sym (ap (λ (q : durable.Part R K S). q.logs number) x.is ∙ no_log lang x.st number);
+              openings_at lang KeyFits RecordFits IsGood s.graph s.operators s.partitions s.stored last starts are number channel x.st is x.at ∙ view_logs lang.cmp x.st number ∙ sym (ap (λ (q : durable.Part R K S). q.logs number) x.is);
         };
     from_start = λ e.
         let is_none = latest_none s.stored last numbered are.latest e in
-        ap (λ (f : ℕ → TaskState R K S). (let c : Configuration R K S = record { tasks = f; channels = λ channel. [] } in c)) (fun_ext (λ task. fresh_at is_none task));
+        ap (λ (f : ℕ → TaskState R K S). (let c : Configuration R K S = record { tasks = f; channels = λ number. opened (openings_of starts) number } in c)) (fun_ext (λ task. fresh_at is_none task))
+        ∙ ap (λ (g : ℕ → List R). (let c : Configuration R K S = record { tasks = λ task. fresh_task; channels = g } in c)) (fun_ext (λ number. openings_first lang KeyFits RecordFits IsGood s.graph s.operators s.partitions s.stored last starts are is_none number));
     tasks = λ task none.
         ap (held_state lang.cmp) (past_end tasks task
         (let long = one_each lang KeyFits RecordFits IsGood s.graph s.operators s.partitions s.stored old new last starts are tasks take in
         let past = none_within s.graph.tasks task (no_role task none) in
         omega (arith, long, past)));
     outputs = λ task. no_output lang (slice_get tasks task);
-    channels = λ number none. refl;
+    channels = λ number none. openings_past lang KeyFits RecordFits IsGood s.graph s.operators s.partitions s.stored last starts are number (no_channel number none);
   }
     where
+      no_channel : (number : ℕ) → slice_get (job_of lang s).graph.channels number ≡ None → slice_get s.graph.channels number ≡ None
+      no_channel number none = none
+
       no_role : (task : ℕ) → slice_get (job_of lang s).graph.tasks task ≡ None → slice_get s.graph.tasks task ≡ None
       no_role task none = by (slice_get s.graph.tasks task) refl
         where

@@ -28,6 +28,12 @@ use Rattle.job_graph.specs.declared.role.Role.TheVariants as role
 use Rattle.snapshot_store.specs.Store.{Stored}
 use Rattle.core_model.proofs.Starts.{as_long}
 
+-- nothing stands past the end
+pub past_end : {A : Type 0} (xs : List A) (i : ℕ) → length xs ≤ i → slice_get xs i ≡ None
+past_end [] i past = refl
+past_end (x ∷ xs) zero past = absurd (omega (arith, past))
+past_end (x ∷ xs) (suc i) past = past_end xs i (omega (arith, past))
+
 -- ---- rising numbers
 
 -- the numbers rise, from this one on

@@ -19,7 +19,7 @@ use Rattle.operators.specs.Operator.{IsGoodState}
 use Rattle.snapshot_store.specs.Store.{part_of}
 use Rattle.source_log.specs.Partitions.{records_at}
 use Rattle.task_part.specs.declared.part.Part.{Part}
-use Rattle.core_model.specs.Keeps.{CopyAs, Keeps}
+use Rattle.core_model.specs.Keeps.{PartAs, Keeps}
 use Rattle.core_model.specs.Language.{Language}
 use Rattle.commit_sink.specs.Ledger.{Ledger}
 use Rattle.job_state.specs.Held.{Held}
@@ -105,7 +105,7 @@ module _ {R K S O : Type 0} (lang : Language R K S O) (RecordFits : R → Type 0
       pub there : part_of s.stored last task ≡ Some bytes
       pub p : Part R K S
       pub reads : Rattle.abs_codec.specs.Reading.whole_of lang.read_part bytes ≡ Ok p
-      pub form : CopyAs r (Some p)
+      pub form : PartAs RecordFits s.graph task r p
       pub copy : (devices_of lang s).store.parts last task ≡ Some (part_view lang.cmp p)
 
     part_there : (task : ℕ) (r : Role) → slice_get s.graph.tasks task ≡ Some r → PartThere task r
@@ -152,17 +152,17 @@ module _ {R K S O : Type 0} (lang : Language R K S O) (RecordFits : R → Type 0
             let entries = (x.form).0 in
             let o = operator_at task number is in
             let kind : slice_get job.graph.tasks task ≡ Some (OperatorTask o.0) = is_task_of task (role.Operator number) is ∙ ap (λ (m : Option O). Some (operator_task m)) o.1 in
-            let said : (cut.tasks task).states ≡ value_at lang.cmp entries = is_cut.states task (part_view lang.cmp x.p) (OperatorTask o.0) kind x.copy ∙ ap (λ (q : Part R K S). (part_view lang.cmp q).states) (x.form).1 in (
-              from.Operator entries logs,
+            let said : (cut.tasks task).states ≡ value_at lang.cmp entries = is_cut.states task (part_view lang.cmp x.p) (OperatorTask o.0) kind x.copy ∙ ap (λ (q : Part R K S). (part_view lang.cmp q).states) (x.form).2 in (
+              from.Operator entries (x.form).1,
               record {
                 bytes = x.bytes;
                 is_part = x.there;
-                reads = x.reads ∙ ap Ok (x.form).1;
-                suits = (o.0, o.1, λ key state found. good.states task o.0 key state kind (ap (λ (f : K → Option S). f key) said ∙ found));
+                reads = x.reads ∙ ap Ok (x.form).2;
+                suits = (o.0, o.1, λ key state found. good.states task o.0 key state kind (ap (λ (f : K → Option S). f key) said ∙ found), (x.form).3);
               },
             )
         by (role.Sink subtask) is x =
-            (from.Sink subtask (x.form).0, record { bytes = x.bytes; is_part = x.there; reads = x.reads ∙ ap Ok (x.form).1; suits = refl })
+            (from.Sink subtask (x.form).0 (x.form).1, record { bytes = x.bytes; is_part = x.there; reads = x.reads ∙ ap Ok (x.form).2; suits = (refl, (x.form).3) })
 
   pub never_broken : (task : ℕ) → IsBroken lang KeyFits RecordFits (IsGoodState StateFits Suits) s.graph s.operators s.partitions s.stored task → ⊥
   never_broken task b =
