@@ -9,6 +9,8 @@ mod faults;
 #[cfg(test)]
 mod jobs;
 #[cfg(test)]
+mod loops;
+#[cfg(test)]
 mod parts;
 #[cfg(test)]
 mod refusals;
