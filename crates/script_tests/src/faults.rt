@@ -206,7 +206,12 @@ fn sinks_commit_apart(rt: HostRuntime) -> Result<(), Fail> {
         &answers,
         "sink 0 rows 1\n{\"k\":\"a\",\"v\":1}\nsink 1 rows 2\n{\"k\":\"a\",\"v\":1}\n{\"k\":\"b\",\"v\":2}\n",
     )?;
-    let text = script_text(alloc, TWO_SINKS, r#"[{"k":"a","v":1},{"k":"b","v":2}]"#, &steps)?;
+    let text = script_text(
+        alloc,
+        TWO_SINKS,
+        r#"[{"k":"a","v":1},{"k":"b","v":2}]"#,
+        &steps,
+    )?;
     expect_script(&rt, alloc, text.as_bytes(), written(&out));
     Ok(())
 }
