@@ -1,5 +1,5 @@
 -- What is read of a part is what was written.
-use Rattle.std.proofs.Common.{◌≡◌, ◌<◌, ◌^◌, ℕ, zero, suc, List, [], ◌∷◌, ◌++◌, Ok, Err, refl, sym, ap, subst, ◌∙◌, append_assoc, arith, inl, inr, ◌⊎◌}
+use Rattle.std.proofs.Common.{◌≡◌, ◌<◌, ◌^◌, ℕ, zero, suc, List, [], ◌∷◌, ◌++◌, Ok, Err, refl, sym, ap, subst, ◌∙◌, append_assoc, inl, inr, ◌⊎◌}
 use Rattle.std.specs.Int.{to_be_bytes, w32, w64}
 use Rattle.std.specs.Cmp.{IsTotalOrder}
 use Rattle.std.specs.declared.cmp.Ordering.{Ordering}
@@ -12,7 +12,7 @@ use Rattle.abs_codec.specs.declared.fault.CodecFault.{CodecFault}
 use Rattle.abs_codec.specs.declared.fault.CodecFault.TheVariants.{Short}
 use Rattle.task_part.specs.declared.part.Part.{Part}
 use Rattle.task_part.specs.declared.part.Part.TheVariants.{Source, Operator, Sink}
-use Rattle.task_part.specs.Spelling.{Logs, logs_spelling, LogsAreSpelled, logs_at, part_spelling, PartIsSpelled, part_at}
+use Rattle.task_part.specs.Spelling.{logs_spelling, LogsAreSpelled, logs_at, part_spelling, PartIsSpelled, part_at}
 
 u64_code : IsCode (λ n. n < 2 ^ 64) (to_be_bytes w64) (number_at w64)
 u64_code = number_code w64 (2 ^ 64) wide64

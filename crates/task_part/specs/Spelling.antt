@@ -1,5 +1,6 @@
 -- How a part is spelled and read: the task's kind, what it held, and its logs.
-use Rattle.std.specs.Prelude.{◌≡◌, ◌<◌, ◌^◌, ℕ, zero, suc, List, [], ◌∷◌, ◌++◌, Ok, Err}
+use Rattle.std.specs.Prelude.{◌<◌, ◌^◌, ℕ, zero, suc, List, [], ◌∷◌, ◌++◌, map, Ok, Err}
+use Rattle.std.specs.Borrow.{Bor}
 use Rattle.std.specs.Int.{to_be_bytes, w32, w64}
 use Rattle.std.specs.declared.cmp.Ordering.{Ordering}
 use Rattle.abs_codec.specs.declared.fault.CodecFault.TheVariants.{Short, BadTag}
@@ -13,16 +14,36 @@ abbrev pub Logs : Type 0 → Type 0
 Logs R = List (ℕ × List R)
 
 module _ {R : Type 0} where
+  -- a channel and its log
+  abbrev pub log_spelling : (R → List ℕ) → ℕ × List R → List ℕ
+  log_spelling records = pair_spelling (to_be_bytes w32) (list_spelling records)
+
+  abbrev pub LogIsSpelled : (R → Type 0) → ℕ × List R → Type 0
+  LogIsSpelled Record = PairIsSpelled (λ n. n < 2 ^ 32) (AreSpelled Record)
+
   abbrev pub logs_spelling : (R → List ℕ) → Logs R → List ℕ
-  logs_spelling records = list_spelling (pair_spelling (to_be_bytes w32) (list_spelling records))
+  logs_spelling records = list_spelling (log_spelling records)
 
   abbrev pub LogsAreSpelled : (R → Type 0) → Logs R → Type 0
-  LogsAreSpelled Record = AreSpelled (PairIsSpelled (λ n. n < 2 ^ 32) (AreSpelled Record))
+  LogsAreSpelled Record = AreSpelled (LogIsSpelled Record)
 
   abbrev pub logs_at : (List ℕ → Reading R) → List ℕ → Reading (Logs R)
   logs_at records = list_at (pair_at (number_at w32) (list_at records))
 
+-- a channel and its log, whose records stand behind a reference
+abbrev pub log_now : {R : Type 0} → ℕ × Bor (List R) → ℕ × List R
+log_now log = (log.0, log.1.now)
+
+abbrev pub logs_now : {R : Type 0} → List (ℕ × Bor (List R)) → Logs R
+logs_now logs = map log_now logs
+
 module _ {R K S : Type 0} where
+  -- a copy with these logs, in place of its own
+  abbrev pub with_logs : Logs R → Part R K S → Part R K S
+  with_logs logs (Source offset) = Source offset
+  with_logs logs (Operator map none) = Operator map logs
+  with_logs logs (Sink transactions none) = Sink transactions logs
+
   abbrev pub part_spelling : (R → List ℕ) → (K → List ℕ) → (S → List ℕ) → Part R K S → List ℕ
   part_spelling records keys states (Source offset) = 0 ∷ to_be_bytes w64 offset
   part_spelling records keys states (Operator map logs) = 1 ∷ (list_spelling (pair_spelling keys states) map ++ logs_spelling records logs)

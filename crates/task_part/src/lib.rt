@@ -5,5 +5,7 @@
 #![tactic(auto)]
 
 mod part;
+mod spell;
 
 pub use part::Part;
+pub use spell::write_with_logs;
