@@ -48,10 +48,10 @@ module _ {R K S O : Type 0} (lang : Language R K S O) (RecordFits : R → Type 0
     keeps_complete (Err NotAllAcked) e = keeps_refused lang RecordFits IsGood s keeps h k stored s.ledger n was e.2 e.3 refl
     keeps_complete (Err Device) e =
         elim e.3 [
-          | inl same ↦ keeps_down lang RecordFits IsGood s keeps stored s.ledger n (ap (λ (x : Stored). x.tasks) same) numbered (λ fresh. subst (PartsAreFormed lang s.graph) (sym same) (keeps.formed fresh)) refl keeps.ordered (goes_down lang s stored s.ledger n same refl)
+          | inl same ↦ keeps_down lang RecordFits IsGood s keeps stored s.ledger n (ap (λ (x : Stored). x.tasks) same) numbered (λ fresh. subst (PartsAreFormed lang RecordFits s.graph) (sym same) (keeps.formed fresh)) refl keeps.ordered (goes_down lang s stored s.ledger n same refl)
           | inr done ↦
               let goes = goes_then_down lang s (Some (with_completed e.0 h)) (completed s.stored e.0) s.ledger n (goes_completed e.0 n e.1 e.2) in
-              keeps_down lang RecordFits IsGood s keeps stored s.ledger n (ap (λ (x : Stored). x.tasks) done) numbered (λ fresh. subst (PartsAreFormed lang s.graph) (sym done) (keeps.formed fresh)) refl keeps.ordered
+              keeps_down lang RecordFits IsGood s keeps stored s.ledger n (ap (λ (x : Stored). x.tasks) done) numbered (λ fresh. subst (PartsAreFormed lang RecordFits s.graph) (sym done) (keeps.formed fresh)) refl keeps.ordered
               (subst (λ (x : Stored). Goes lang s (after s None x s.ledger n)) (sym done) goes)
         ]
     keeps_complete (Err other) e = absurd e

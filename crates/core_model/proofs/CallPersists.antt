@@ -3,18 +3,21 @@ use Rattle.std.proofs.Common.{◌≡◌, ◌<◌, inl, inr, Option, Some, None, 
 use Rattle.std.proofs.lemmas.Option.{none-some}
 use Rattle.abs_codec.specs.Reading.{whole_of}
 use Rattle.checkpoint_model.specs.Headline.{PersistsAPart}
-use Rattle.job_state.specs.Held.{Held, copy_at, with_acknowledged}
+use Rattle.job_state.specs.Held.{Held, copy_at, logs_of, with_logs, with_acknowledged}
 use Rattle.snapshot_store.specs.Store.{Stored, IsNumbered, with_part}
+use Rattle.job_graph.specs.declared.role.Role.{Role}
 use Rattle.task_part.specs.declared.part.Part.{Part}
 use Rattle.core_model.specs.Language.{Language}
 use Rattle.core_model.specs.State.{State}
 use Rattle.core_model.specs.View.{run_of, transactions_at}
-use Rattle.core_model.specs.Keeps.{PartsAreFormed, CopyAs, Keeps}
-use Rattle.core_model.specs.Calls.{EndsPersist, WhereReached, left_by}
+use Rattle.core_model.specs.Keeps.{PartsAreFormed, CopyAs, Shape, Keeps}
+use Rattle.core_model.specs.Calls.{IsPersistNext, EndsPersist, WhereReached, left_by}
 use Rattle.core_model.specs.Goes.{Goes}
 use Rattle.core_model.specs.declared.fault.CoreFault.{CoreFault}
 use Rattle.core_model.specs.declared.fault.CoreFault.TheVariants.{NoSuchTask, NotReady, NoCheckpoint, Memory, Device}
 use Rattle.core_model.proofs.ShapeCalls.{shape_acknowledged}
+use Rattle.core_model.proofs.StoreLogs.{logs_suit}
+use Rattle.core_model.proofs.StorePart.{part_of_form, have_come}
 use Rattle.core_model.proofs.StoreSteps.{engine_persists}
 use Rattle.core_model.proofs.StoreRuns.{runs_put}
 use Rattle.core_model.proofs.StoreFormed.{formed_put}
@@ -36,52 +39,65 @@ copy_within {R} {K} {S} h task p is = of h.copies task is
     of (x ∷ xs) (suc i) e = let rest = of xs i e in omega (arith, rest)
 
 module _ {R K S O : Type 0} (lang : Language R K S O) (RecordFits : R → Type 0) (IsGood : O → S → Type 0) (s : State O R K S) (keeps : Keeps lang RecordFits IsGood s) (h : Held R K S) (was : s.held ≡ Some h) where
-  module _ (task checkpoint : ℕ) (p : Part R K S) (bytes : List ℕ) (pending : h.coordination.pending ≡ Some checkpoint) (copied : copy_at h task ≡ Some p) (reads : whole_of lang.read_part bytes ≡ Ok p) where
+  abbrev shape : Shape lang.cmp RecordFits IsGood s.graph s.operators h
+  shape = shape_of lang RecordFits IsGood s keeps h was
+
+  module _ (task : ℕ) (k : Held R K S) (checkpoint : ℕ) (p : Part R K S) (bytes : List ℕ) (next : IsPersistNext s.graph task h k checkpoint p) (reads : whole_of lang.read_part bytes ≡ Ok (with_logs (logs_of s.graph h task) p)) where
     abbrev put : Stored
     put = with_part s.stored checkpoint task bytes
 
     within : task < length s.graph.tasks
-    within = subst (λ m. task < m) (shape_of lang RecordFits IsGood s keeps h was).copies (copy_within h task p copied)
+    within = subst (λ m. task < m) shape.copies (copy_within h task p next.copied)
 
-    put_formed : s.is_fresh ≡ true → PartsAreFormed lang s.graph put
-    put_formed fresh = formed_put lang s.graph s.stored checkpoint task bytes p reads (λ r is. subst (CopyAs r) copied ((shape_of lang RecordFits IsGood s keeps h was).copy_forms task r is)) (keeps.formed fresh)
+    form : (r : Role) → slice_get s.graph.tasks task ≡ Some r → CopyAs r (Some p)
+    form r is = subst (CopyAs r) next.copied (shape.copy_forms task r is)
+
+    put_formed : s.is_fresh ≡ true → PartsAreFormed lang RecordFits s.graph put
+    put_formed fresh =
+        formed_put lang RecordFits s.graph s.stored checkpoint task bytes (with_logs (logs_of s.graph h task) p) reads
+        (λ r is. part_of_form RecordFits s.graph task (logs_of s.graph h task) r p (logs_suit s.graph h RecordFits task shape.logs_fit) (form r is)) (keeps.formed fresh)
 
     goes_put : (n : ℕ) → Goes lang s (after s (Some (with_acknowledged task h)) put s.ledger n)
     goes_put n =
         let r = found s.graph.tasks task within in
-        let form : CopyAs r.0 (Some p) = subst (CopyAs r.0) copied ((shape_of lang RecordFits IsGood s keeps h was).copy_forms task r.0 r.1) in
         goes_by lang s h (with_acknowledged task h) put s.ledger n (run_of lang.cmp s.graph (with_acknowledged task h)) was refl
-        (PersistsAPart task (engine_persists lang s h s.stored (λ t. transactions_at s.ledger (slice_get s.graph.tasks t)) checkpoint task bytes r.0 p pending r.1 copied form reads))
+        (PersistsAPart task (engine_persists lang s h s.stored (λ t. transactions_at s.ledger (slice_get s.graph.tasks t)) checkpoint task bytes r.0 p next.pending r.1 next.copied (form r.0 r.1)
+        (have_come s.graph h task p (shape.gate_fits task within) next.closed next.copied) shape.only_marked keeps.expanded reads))
 
     keeps_put : (n : ℕ) → IsNumbered put → KeepsAndGoes lang RecordFits IsGood s (after s (Some (with_acknowledged task h)) put s.ledger n)
     keeps_put n numbered =
         goes_keeps lang RecordFits IsGood s keeps (Some (with_acknowledged task h)) put s.ledger n refl numbered put_formed refl keeps.ordered
-        (shape_acknowledged lang.cmp RecordFits IsGood s.graph s.operators h (shape_of lang RecordFits IsGood s keeps h was) task)
+        (shape_acknowledged lang.cmp RecordFits IsGood s.graph s.operators h shape task ?)
         (runs_same lang (record s { stored = put }) (after s (Some (with_acknowledged task h)) put s.ledger n) (with_acknowledged task h) refl refl refl
-        (runs_put lang s h (runs_of lang RecordFits IsGood s keeps h was) checkpoint task bytes p pending (subst (λ m. task < m) (sym (shape_of lang RecordFits IsGood s keeps h was).acked) within) copied reads))
+        (runs_put lang s h (runs_of lang RecordFits IsGood s keeps h was) checkpoint task bytes p next.pending (subst (λ m. task < m) (sym shape.acked) within) next.copied reads))
         (goes_put n)
 
   module _ (task : ℕ) (k : Held R K S) (stored : Stored) (n : ℕ) (spelling : Part R K S → List ℕ) (numbered : IsNumbered stored) where
-    -- what spells the copy is read again
+    -- the copy with its logs
+    abbrev full : Part R K S → Part R K S
+    full p = with_logs (logs_of s.graph h task) p
+
+    -- what spells it is read again
     abbrev pub IsReadable : Type 0
-    IsReadable = (p : Part R K S) → copy_at h task ≡ Some p → whole_of lang.read_part (spelling p) ≡ Ok p
+    IsReadable = (p : Part R K S) → copy_at h task ≡ Some p → whole_of lang.read_part (spelling (full p)) ≡ Ok (full p)
 
     pub keeps_persist : (result : Result Unit CoreFault) → WhereReached result IsReadable → EndsPersist s.graph task h k s.stored stored spelling result
         → Keeps lang RecordFits IsGood (record s { held = left_by result (Some k); stored = stored; faults = n }) × Goes lang s (record s { held = left_by result (Some k); stored = stored; faults = n })
     keeps_persist (Ok u) spells e =
-        let made = keeps_put task e.0 e.1 (spelling e.1) e.2 e.3 (spells e.1 e.3) n (subst IsNumbered e.5 numbered) in
-        subst (λ (x : Held R K S). KeepsAndGoes lang RecordFits IsGood s (after s (Some x) stored s.ledger n)) (sym e.6)
-        (subst (λ (x : Stored). KeepsAndGoes lang RecordFits IsGood s (after s (Some (with_acknowledged task h)) x s.ledger n)) (sym e.5) made)
+        let made = keeps_put task k e.0 e.1 (spelling (full e.1)) e.2 (spells e.1 e.2.copied) n (subst IsNumbered e.3 numbered) in
+        subst (λ (x : Held R K S). KeepsAndGoes lang RecordFits IsGood s (after s (Some x) stored s.ledger n)) (sym e.4)
+        (subst (λ (x : Stored). KeepsAndGoes lang RecordFits IsGood s (after s (Some (with_acknowledged task h)) x s.ledger n)) (sym e.3) made)
     keeps_persist (Err NoSuchTask) spells e = keeps_refused lang RecordFits IsGood s keeps h k stored s.ledger n was e.1 e.2 refl
     keeps_persist (Err NoCheckpoint) spells e = keeps_refused lang RecordFits IsGood s keeps h k stored s.ledger n was e.2 e.3 refl
     keeps_persist (Err NotReady) spells e = keeps_refused lang RecordFits IsGood s keeps h k stored s.ledger n was e.2 e.3 refl
     keeps_persist (Err Memory) spells e = keeps_refused lang RecordFits IsGood s keeps h k stored s.ledger n was e.0 e.1 refl
     keeps_persist (Err Device) spells e =
-        elim e.5 [
-          | inl same ↦ keeps_down lang RecordFits IsGood s keeps stored s.ledger n (ap (λ (x : Stored). x.tasks) same) numbered (λ fresh. subst (PartsAreFormed lang s.graph) (sym same) (keeps.formed fresh)) refl keeps.ordered (goes_down lang s stored s.ledger n same refl)
+        let reads = spells e.1 e.2.copied in
+        elim e.3 [
+          | inl same ↦ keeps_down lang RecordFits IsGood s keeps stored s.ledger n (ap (λ (x : Stored). x.tasks) same) numbered (λ fresh. subst (PartsAreFormed lang RecordFits s.graph) (sym same) (keeps.formed fresh)) refl keeps.ordered (goes_down lang s stored s.ledger n same refl)
           | inr done ↦
-              let goes = goes_then_down lang s (Some (with_acknowledged task h)) (with_part s.stored e.0 task (spelling e.1)) s.ledger n (goes_put task e.0 e.1 (spelling e.1) e.2 e.3 (spells e.1 e.3) n) in
-              keeps_down lang RecordFits IsGood s keeps stored s.ledger n (ap (λ (x : Stored). x.tasks) done) numbered (λ fresh. subst (PartsAreFormed lang s.graph) (sym done) (put_formed task e.0 e.1 (spelling e.1) e.2 e.3 (spells e.1 e.3) fresh)) refl keeps.ordered
+              let goes = goes_then_down lang s (Some (with_acknowledged task h)) (with_part s.stored e.0 task (spelling (full e.1))) s.ledger n (goes_put task k e.0 e.1 (spelling (full e.1)) e.2 reads n) in
+              keeps_down lang RecordFits IsGood s keeps stored s.ledger n (ap (λ (x : Stored). x.tasks) done) numbered (λ fresh. subst (PartsAreFormed lang RecordFits s.graph) (sym done) (put_formed task k e.0 e.1 (spelling (full e.1)) e.2 reads fresh)) refl keeps.ordered
               (subst (λ (x : Stored). Goes lang s (after s None x s.ledger n)) (sym done) goes)
         ]
     keeps_persist (Err other) spells e = absurd e

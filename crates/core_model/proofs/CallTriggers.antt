@@ -34,8 +34,8 @@ module _ {R K S O : Type 0} (lang : Language R K S O) (RecordFits : R → Type 0
   abbrev tidy : Stored
   tidy = tidied h.coordination.last_complete s.stored
 
-  tidy_formed : s.is_fresh ≡ true → PartsAreFormed lang s.graph tidy
-  tidy_formed fresh = formed_tidied lang s.graph h.coordination.last_complete s.stored (keeps.formed fresh)
+  tidy_formed : s.is_fresh ≡ true → PartsAreFormed lang RecordFits s.graph tidy
+  tidy_formed fresh = formed_tidied lang RecordFits s.graph h.coordination.last_complete s.stored (keeps.formed fresh)
 
   tidies : (n : ℕ) → Goes lang s (after s (Some h) tidy s.ledger n)
   tidies n = goes_tidied n h.coordination.last_complete (runs_of lang RecordFits IsGood s keeps h was).last_complete
@@ -69,9 +69,9 @@ module _ {R K S O : Type 0} (lang : Language R K S O) (RecordFits : R → Type 0
     abbrev Kept : Option (Held R K S) → Stored → Type 0
     Kept held store = KeepsAndGoes lang RecordFits IsGood s (after s held store s.ledger n)
 
-    falls : (held : Option (Held R K S)) (store : Stored) → Goes lang s (after s held store s.ledger n) → store.tasks ≡ s.stored.tasks → (s.is_fresh ≡ true → PartsAreFormed lang s.graph store) → stored ≡ store → Kept None stored
+    falls : (held : Option (Held R K S)) (store : Stored) → Goes lang s (after s held store s.ledger n) → store.tasks ≡ s.stored.tasks → (s.is_fresh ≡ true → PartsAreFormed lang RecordFits s.graph store) → stored ≡ store → Kept None stored
     falls held store goes tasks formed is =
-        keeps_down lang RecordFits IsGood s keeps stored s.ledger n (ap (λ (x : Stored). x.tasks) is ∙ tasks) numbered (λ fresh. subst (PartsAreFormed lang s.graph) (sym is) (formed fresh)) refl keeps.ordered
+        keeps_down lang RecordFits IsGood s keeps stored s.ledger n (ap (λ (x : Stored). x.tasks) is ∙ tasks) numbered (λ fresh. subst (PartsAreFormed lang RecordFits s.graph) (sym is) (formed fresh)) refl keeps.ordered
         (subst (λ (x : Stored). Goes lang s (after s None x s.ledger n)) (sym is) (goes_then_down lang s held store s.ledger n goes))
 
     pub keeps_trigger : (result : Result ℕ CoreFault) → EndsTrigger h k s.stored stored result
@@ -86,7 +86,7 @@ module _ {R K S O : Type 0} (lang : Language R K S O) (RecordFits : R → Type 0
     keeps_trigger (Err Device) e =
         elim e.1 [
           | inl early ↦ elim early [
-            | inl same ↦ keeps_down lang RecordFits IsGood s keeps stored s.ledger n (ap (λ (x : Stored). x.tasks) same) numbered (λ fresh. subst (PartsAreFormed lang s.graph) (sym same) (keeps.formed fresh)) refl keeps.ordered (goes_down lang s stored s.ledger n same refl)
+            | inl same ↦ keeps_down lang RecordFits IsGood s keeps stored s.ledger n (ap (λ (x : Stored). x.tasks) same) numbered (λ fresh. subst (PartsAreFormed lang RecordFits s.graph) (sym same) (keeps.formed fresh)) refl keeps.ordered (goes_down lang s stored s.ledger n same refl)
             | inr tidies_only ↦ falls (Some h) tidy (tidies n) (tidied_tasks h.coordination.last_complete s.stored) tidy_formed tidies_only
           ]
           | inr done ↦ falls (Some (with_started s.stored.next h)) (reserved tidy) (goes_started n e.0) (tidied_tasks h.coordination.last_complete s.stored) (λ fresh. tidy_formed fresh) done

@@ -23,6 +23,7 @@ pub mod StorePut
 pub mod StoreComplete
 pub mod StoreTrigger
 pub mod StoreFormed
+pub mod StoreLogs
 pub mod StorePart
 pub mod StoreWhole
 pub mod StoreSteps

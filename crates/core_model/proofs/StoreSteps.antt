@@ -16,11 +16,11 @@ use Rattle.checkpoint_model.proofs.Seen.{same_attempt}
 use Rattle.coordinator.specs.Coordinator.{IsReady}
 use Rattle.dataflow_model.specs.Graph.{Channel}
 use Rattle.dataflow_model.specs.Machine.{fresh_task}
-use Rattle.job_graph.specs.Expanded.{Expanded}
+use Rattle.job_graph.specs.Expanded.{Expanded, IsExpanded}
 use Rattle.job_graph.specs.PlainGraph.{task_of}
 use Rattle.job_graph.specs.declared.role.Role.{Role}
 use Rattle.job_graph.specs.declared.role.Role.TheVariants as role
-use Rattle.job_state.specs.Held.{Held, copy_at, with_started, with_acknowledged, with_completed}
+use Rattle.job_state.specs.Held.{Held, copy_at, came_at, logged_at, logs_of, with_logs, with_started, with_acknowledged, with_completed}
 use Rattle.job_state.specs.declared.holding.Holding.{Holding}
 use Rattle.job_state.specs.declared.holding.Holding.TheVariants as holds
 use Rattle.snapshot_store.specs.Store.{Stored, IsNumbered, is_complete, with_part, completed, reserved, discarded_below}
@@ -28,23 +28,22 @@ use Rattle.task_part.specs.declared.part.Part.{Part}
 use Rattle.task_part.specs.declared.part.Part.TheVariants as part
 use Rattle.core_model.specs.Language.{Language}
 use Rattle.core_model.specs.State.{State}
-use Rattle.core_model.specs.View.{held_state, copied_state, names_in, named_by, came_at, part_view, run_of, job_of}
+use Rattle.core_model.specs.View.{held_state, copied_state, names_in, named_by, part_view, run_of, job_of}
 use Rattle.core_model.specs.Keeps.{CopyAs, PendingIn}
 use Rattle.core_model.proofs.StoreView.{store_of, last_of_line}
 use Rattle.core_model.proofs.StorePut.{store_put}
 use Rattle.core_model.proofs.StoreComplete.{store_completed, ready_has_parts}
 use Rattle.core_model.proofs.StoreTrigger.{store_reserved, store_discarded}
-use Rattle.core_model.proofs.StorePart.{part_of_copy}
+use Rattle.core_model.proofs.StoreLogs.{OnlyMarked}
+use Rattle.core_model.proofs.StorePart.{HaveCome, part_of_copy}
 
 -- ---- what is held of a run
 
-abbrev nothing : (A : Type 0) → Option A
-nothing A = None
-
-none_of : {A : Type 0} (n task : ℕ) → unwrap_or (slice_get (replicate n (nothing A)) task) None ≡ None
-none_of zero task = refl
-none_of (suc n) zero = refl
-none_of (suc n) (suc task) = none_of n task
+-- each place has the value, and so has what is past the end
+same_each : {A : Type 0} (x : A) (n i : ℕ) → unwrap_or (slice_get (replicate n x) i) x ≡ x
+same_each x zero i = refl
+same_each x (suc n) zero = refl
+same_each x (suc n) (suc i) = same_each x n i
 
 module _ {R K S : Type 0} (cmp : K → K → Ordering) where
   -- what is held of a task has no output
@@ -85,17 +84,10 @@ module _ {R K S : Type 0} (cmp : K → K → Ordering) where
         let attempts : (held_run run).attempt ≡ run.attempt =
         same_attempt (held_run run).attempt run.attempt (λ t. bare (slice_get h.tasks t)) (λ c. refl) refl
         (λ t. ap (λ (b : Bool). b && is_some (copy_at h t)) yes_pending) (λ t. bare_copy (is_some h.coordination.pending) (copy_at h t) yes_pending)
-        (λ c. ap (λ (b : Bool). b && came_at graph h c) yes_pending) (λ c. ap (λ (b : Bool). if b then [] else []) yes_pending) in
+        (λ c. ap (λ (b : Bool). b && came_at h c) yes_pending) (λ c. ap (λ (b : Bool). if b then logged_at h c else []) yes_pending) in
         let number : (held_run run).number ≡ run.number = ap (λ (b : Bool). if b then run.number else 0) yes_pending in
         let named : (held_run run).named ≡ run.named = fun_ext (λ t. named_copy (is_some h.coordination.pending) (slice_get graph.tasks t) (copy_at h t) yes_pending) in
         λ i. record { attempt = attempts i; number = number i; named = named i }
-
-    none_came : (k : Held R K S) → ((t : ℕ) → copy_at k t ≡ None) → (c : ℕ) → false ≡ came_at graph k c
-    none_came k none c = of (slice_get graph.channels c)
-      where
-        of : (o : Option Channel) → false ≡ option_map_or (λ channel. is_some (copy_at k channel.receiver)) o false
-        of None = refl
-        of (Some channel) = sym (ap is_some (none channel.receiver))
 
     -- the run of which the checkpoint is complete
     abbrev pub run_completed : Running R K S → Running R K S
@@ -104,12 +96,12 @@ module _ {R K S : Type 0} (cmp : K → K → Ordering) where
     pub held_completed : (n : ℕ) → held_run (run_completed (run_of cmp graph h)) ≡ run_of cmp graph (with_completed n h)
     held_completed n =
         let k : Held R K S = with_completed n h in
-        let none : (t : ℕ) → copy_at k t ≡ None = λ t. none_of (length h.copies) t in
+        let none : (t : ℕ) → copy_at k t ≡ None = λ t. same_each None (length h.copies) t in
         let old : Running R K S = held_run (run_completed (run_of cmp graph h)) in
         let new : Running R K S = run_of cmp graph k in
         let attempts : old.attempt ≡ new.attempt =
         same_attempt old.attempt new.attempt (λ t. bare (slice_get h.tasks t)) (λ c. refl) refl (λ t. sym (ap is_some (none t)))
-        (λ t. sym (ap (copied_state cmp) (none t))) (λ c. none_came k none c) (λ c. refl) in
+        (λ t. sym (ap (copied_state cmp) (none t))) (λ c. sym (same_each false (length h.came) c)) (λ c. sym (same_each [] (length h.logs) c)) in
         let named : old.named ≡ new.named = fun_ext (λ t. none_named (slice_get graph.tasks t) (copy_at k t) (none t)) in
         λ i. record { attempt = attempts i; number = 0; named = named i }
 
@@ -121,12 +113,12 @@ module _ {R K S : Type 0} (cmp : K → K → Ordering) where
         → held_run (run_started n run) ≡ run_of cmp graph (with_started n h)
     held_begun n run tasks channels =
         let k : Held R K S = with_started n h in
-        let none : (t : ℕ) → copy_at k t ≡ None = λ t. none_of (length h.copies) t in
+        let none : (t : ℕ) → copy_at k t ≡ None = λ t. same_each None (length h.copies) t in
         let old : Running R K S = held_run (run_started n run) in
         let new : Running R K S = run_of cmp graph k in
         let attempts : old.attempt ≡ new.attempt =
         same_attempt old.attempt new.attempt tasks (λ c. ap (λ (f : ℕ → List (attempt.Item R)). f c) channels) refl (λ t. sym (ap is_some (none t)))
-        (λ t. sym (ap (copied_state cmp) (none t))) (λ c. none_came k none c) (λ c. refl) in
+        (λ t. sym (ap (copied_state cmp) (none t))) (λ c. sym (same_each false (length h.came) c)) (λ c. sym (same_each [] (length h.logs) c)) in
         let named : old.named ≡ new.named = fun_ext (λ t. none_named (slice_get graph.tasks t) (copy_at k t) (none t)) in
         λ i. record { attempt = attempts i; number = n; named = named i }
 
@@ -145,27 +137,29 @@ module _ {R K S O B : Type 0} (lang : Language R K S O) (s : State O R K S) (h :
   devices store = record { store = store_of lang store; sinks = sinks }
 
   pub engine_persists : (n task : ℕ) (bytes : List ℕ) (r : Role) (p : Part R K S) → h.coordination.pending ≡ Some n → slice_get s.graph.tasks task ≡ Some r → copy_at h task ≡ Some p → CopyAs r (Some p)
-      → whole_of lang.read_part bytes ≡ Ok p
+      → HaveCome s.graph h task → OnlyMarked s.graph h → IsExpanded s.graph → whole_of lang.read_part bytes ≡ Ok (with_logs (logs_of s.graph h task) p)
       → EnginePersists (job_of lang s) task (devices stored) (devices (with_part stored n task bytes)) (run_of lang.cmp s.graph h) (run_of lang.cmp s.graph (with_acknowledged task h))
-  engine_persists n task bytes r p is role_is copied form reads = record {
+  engine_persists n task bytes r p is role_is copied form come only expanded reads = record {
     is_pending = ap is_some is;
-    part = part_view lang.cmp p;
-    is_part = part_of_copy lang s h task r p role_is copied form;
+    part = part_view lang.cmp (with_logs (logs_of s.graph h task) p);
+    is_part = part_of_copy lang s h task r p expanded role_is copied form come only;
     puts = record {
-      store_is = store_put lang stored n task bytes p reads ∙ ap (λ (o : Option ℕ). durable.with_part (unwrap_or o 0) task (part_view lang.cmp p) (store_of lang stored)) (sym is);
+      store_is =
+          store_put lang stored n task bytes (with_logs (logs_of s.graph h task) p) reads
+          ∙ ap (λ (o : Option ℕ). durable.with_part (unwrap_or o 0) task (part_view lang.cmp (with_logs (logs_of s.graph h task) p)) (store_of lang stored)) (sym is);
       sinks = refl;
     };
     ends = refl;
   }
 
-  pub engine_completes : (n : ℕ) → PendingIn lang stored h n → h.coordination.pending ≡ Some n → IsReady h.coordination → length h.coordination.acked ≡ stored.tasks → stored.tasks ≡ length s.graph.tasks
+  pub engine_completes : (n : ℕ) → PendingIn lang s.graph stored h n → h.coordination.pending ≡ Some n → IsReady h.coordination → length h.coordination.acked ≡ stored.tasks → stored.tasks ≡ length s.graph.tasks
       → EngineCompletes (job_of lang s) (devices stored) (devices (completed stored n)) (run_of lang.cmp s.graph h) (run_completed lang.cmp s.graph h (run_of lang.cmp s.graph h))
   engine_completes n pending is ready acked tasks = record {
     is_pending = ap is_some is;
     has_parts = subst (λ (o : Option ℕ). HasParts (job_of lang s) (store_of lang stored) (unwrap_or o 0)) (sym is)
-        (ready_has_parts lang stored h n pending ready acked (job_of lang s) (length-map s.graph.tasks (task_of s.operators) ∙ sym tasks));
+        (ready_has_parts lang s.graph stored h n pending ready acked (job_of lang s) (length-map s.graph.tasks (task_of s.operators) ∙ sym tasks));
     completes = record {
-      store_is = store_completed lang stored h n pending ∙ ap (λ (o : Option ℕ). durable.with_complete (unwrap_or o 0) (store_of lang stored)) (sym is);
+      store_is = store_completed lang s.graph stored h n pending ∙ ap (λ (o : Option ℕ). durable.with_complete (unwrap_or o 0) (store_of lang stored)) (sym is);
       sinks = refl;
     };
     ends = refl;
