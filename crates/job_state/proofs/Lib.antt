@@ -1,4 +1,6 @@
 pub mod Places
 pub mod Putting
 pub mod Received
+pub mod Logging
+pub mod Opening
 pub mod Holds

@@ -1,7 +1,6 @@
 //! The logs of the channels.
 
 ghost use Rattle.std.specs.Prelude.{◌≡◌, ◌<◌, [], true, false, Some, length, replicate, slice_set, slice_get, unwrap_or, OnOk, OnErr, IfOk};
-ghost use Rattle.std.specs.Option.{option_copied};
 ghost use Rattle.backedge_log.specs.Recorded.{log_at, without_last};
 ghost use Rattle.channels.specs.declared.item.Item.TheVariants.{Record};
 ghost use Rattle.job_state.specs.Held.{log_with};
@@ -66,22 +65,16 @@ pub(crate) fn log_taken<R: Drop>(
     }
 }
 
-/// Logs a copy of the record that stands first in the channel, if a record stands there.
-pub(crate) fn log_copy<R: Codec>(
-    logs: &mut Logs<R>,
-    channel: u32,
-    head: Option<&Item<R>>,
-) -> Result<(), NoMemory>
+/// Logs a copy of a record.
+pub(crate) fn log_copy<R: Codec>(logs: &mut Logs<R>, channel: u32, row: &R) -> Result<(), NoMemory>
     requires { channel < length logs.old }
     ensures came { came_of logs.new ≡ came_of logs.old }
-    ensures ok { OnOk result ((row : R) → option_copied head ≡ Some (Record row) → records_of logs.new ≡ log_with true channel row (records_of logs.old)) }
+    ensures ok { OnOk result (records_of logs.new ≡ log_with true channel row.now (records_of logs.old)) }
     ensures err { OnErr result (records_of logs.new ≡ records_of logs.old) }
 {
-    if let Some(Item::Record(row)) = head {
-        let row = row.copied()?;
-        logs.reserve(channel)?;
-        logs.push_reserved(channel, row);
-    }
+    let row = row.copied()?;
+    logs.reserve(channel)?;
+    logs.push_reserved(channel, row);
     Ok(())
 }
 

@@ -10,6 +10,7 @@ use crate::holding::Holding;
 use crate::logs::{drop_last, log_copy, log_taken, reserve_log};
 use crate::parts::keep;
 use abs_codec::NoMemory;
+use channels::Item;
 use job_graph::Graph;
 use operators::Operator;
 
@@ -78,7 +79,9 @@ impl<O: Operator> Attempt<O> {
         ensures err { OnErr result (self.new ≡ self.old) }
     {
         if is_logged(&self.gates, task, input) {
-            log_copy(&mut self.logs, channel, first(&self.channels, channel))?;
+            if let Some(Item::Record(row)) = first(&self.channels, channel) {
+                log_copy(&mut self.logs, channel, row)?;
+            }
         }
         Ok(())
     }
