@@ -40,7 +40,6 @@ module _ {R K S O : Type 0} (lang : Language R K S O) (RecordFits : R → Type 0
   pub keeps_grown : (partitions : List (List R)) → length partitions ≡ length s.partitions → ((p : ℕ) → Begins (records_at s.partitions p) (records_at partitions p)) → Keeps lang RecordFits IsGood (record s { partitions = partitions; faults = n })
   keeps_grown partitions same grown = record {
     expanded = keeps.expanded;
-    simple = keeps.simple;
     operators = keeps.operators;
     partitions = same ∙ keeps.partitions;
     stored_tasks = keeps.stored_tasks;

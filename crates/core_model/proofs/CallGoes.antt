@@ -97,13 +97,12 @@ module _ {R K S O : Type 0} (lang : Language R K S O) where
         (receiver-graph_of s.graph s.operators keeps.expanded) goes.1 (keeps.fresh fresh)
 
     -- what an engine keeps, by its steps and what the devices and the job keep
-    pub goes_keeps : stored.tasks ≡ s.stored.tasks → IsNumbered stored → (s.is_fresh ≡ true → PartsAreFormed lang s.graph stored) → ledger.subtasks ≡ s.ledger.subtasks → IsOrdered ledger
+    pub goes_keeps : stored.tasks ≡ s.stored.tasks → IsNumbered stored → (s.is_fresh ≡ true → PartsAreFormed lang RecordFits s.graph stored) → ledger.subtasks ≡ s.ledger.subtasks → IsOrdered ledger
         → MatchOption held (Unit {0}) (Shape lang.cmp RecordFits IsGood s.graph s.operators) → MatchOption held (Unit {0}) (RunsIn lang (after s held stored ledger n)) → Goes lang s (after s held stored ledger n)
         → Keeps lang RecordFits IsGood (after s held stored ledger n) × Goes lang s (after s held stored ledger n)
     goes_keeps tasks numbered formed subtasks ordered shape runs goes = (
       record {
         expanded = keeps.expanded;
-        simple = keeps.simple;
         operators = keeps.operators;
         partitions = keeps.partitions;
         stored_tasks = tasks ∙ keeps.stored_tasks;
@@ -154,13 +153,13 @@ module _ {R K S O : Type 0} (lang : Language R K S O) where
       keeps_refused h k stored ledger n was same same_stored same_ledger =
           let is : Some k ≡ s.held = ap (λ (x : Held R K S). Some x) same ∙ sym was in
           goes_keeps RecordFits IsGood s keeps (Some k) stored ledger n (ap (λ (x : Stored). x.tasks) same_stored) (subst IsNumbered (sym same_stored) keeps.numbered)
-          (λ fresh. subst (PartsAreFormed lang s.graph) (sym same_stored) (keeps.formed fresh))
+          (λ fresh. subst (PartsAreFormed lang RecordFits s.graph) (sym same_stored) (keeps.formed fresh))
           (ap (λ (x : Ledger). x.subtasks) same_ledger) (subst IsOrdered (sym same_ledger) keeps.ordered)
           (subst (Shape lang.cmp RecordFits IsGood s.graph s.operators) (sym same) (shape_of h was))
           (runs_same s (after s (Some k) stored ledger n) k refl same_stored same_ledger (subst (RunsIn lang s) (sym same) (runs_of h was)))
           (goes_nowhere s (after s (Some k) stored ledger n) (λ i. engine_of lang (record s { held = is i; stored = same_stored i; ledger = same_ledger i })))
 
       -- a call that took the job down
-      pub keeps_down : (stored : Stored) (ledger : Ledger) (n : ℕ) → stored.tasks ≡ s.stored.tasks → IsNumbered stored → (s.is_fresh ≡ true → PartsAreFormed lang s.graph stored) → ledger.subtasks ≡ s.ledger.subtasks → IsOrdered ledger → Goes lang s (after s None stored ledger n)
+      pub keeps_down : (stored : Stored) (ledger : Ledger) (n : ℕ) → stored.tasks ≡ s.stored.tasks → IsNumbered stored → (s.is_fresh ≡ true → PartsAreFormed lang RecordFits s.graph stored) → ledger.subtasks ≡ s.ledger.subtasks → IsOrdered ledger → Goes lang s (after s None stored ledger n)
           → KeepsAndGoes s (after s None stored ledger n)
       keeps_down stored ledger n tasks numbered formed subtasks ordered goes = goes_keeps RecordFits IsGood s keeps None stored ledger n tasks numbered formed subtasks ordered tt tt goes

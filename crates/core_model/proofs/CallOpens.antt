@@ -16,7 +16,7 @@ use Rattle.snapshot_store.specs.Store.{Stored, IsNumbered}
 use Rattle.core_model.specs.Language.{Language}
 use Rattle.core_model.specs.State.{State}
 use Rattle.core_model.specs.View.{store_of, transactions_at, run_of, job_of, is_logged_in, devices_of}
-use Rattle.core_model.specs.Keeps.{IsSimple, Shape, RunsIn, AllOrNone, Keeps, PartsAreFormed}
+use Rattle.core_model.specs.Keeps.{Shape, RunsIn, AllOrNone, Keeps, PartsAreFormed}
 use Rattle.core_model.proofs.StoreFormed.{formed_blank}
 use Rattle.core_model.proofs.StoreTrigger.{store_blank}
 use Rattle.core_model.proofs.StoreWhole.{whole_new}
@@ -36,13 +36,12 @@ module _ {R K S O : Type 0} (lang : Language R K S O) (s : State O R K S) where
       fun_ext (λ task. ap (λ (l : Ledger). transactions_at l (slice_get s.graph.tasks task)) ledger ∙ no_shares subtasks (slice_get s.graph.tasks task)) in
       λ i. record { store = store i; sinks = sinks i }
 
-  module _ (RecordFits : R → Type 0) (IsGood : O → S → Type 0) (expanded : IsExpanded s.graph) (simple : IsSimple s.graph) (operators : HaveOperators s.graph s.operators) (partitions : length s.partitions ≡ count_by is_source s.graph.tasks)
+  module _ (RecordFits : R → Type 0) (IsGood : O → S → Type 0) (expanded : IsExpanded s.graph) (operators : HaveOperators s.graph s.operators) (partitions : length s.partitions ≡ count_by is_source s.graph.tasks)
       (stored_tasks : s.stored.tasks ≡ length s.graph.tasks) (numbered : IsNumbered s.stored) (subtasks : s.ledger.subtasks ≡ count_by is_sink s.graph.tasks) (ordered : IsOrdered s.ledger) (down : s.held ≡ None)
       (new : s.is_fresh ≡ true → (s.stored ≡ stores.blank (length s.graph.tasks)) × (s.ledger ≡ ledgers.blank (count_by is_sink s.graph.tasks))) where
     pub keeps_open : Keeps lang RecordFits IsGood s
     keeps_open = record {
       expanded = expanded;
-      simple = simple;
       operators = operators;
       partitions = partitions;
       stored_tasks = stored_tasks;
@@ -59,5 +58,5 @@ module _ {R K S O : Type 0} (lang : Language R K S O) (s : State O R K S) where
       whole = λ fresh.
           let blank : store_of lang s.stored ≡ (new_devices {R = R} {K = K} {S = S} {B = List ℕ}).store = ap (store_of lang) (new fresh).0 ∙ store_blank lang (List ℕ) (length s.graph.tasks) in
           subst (AllOrNone (job_of lang s)) (sym blank) (whole_new (List ℕ) (job_of lang s));
-      formed = λ fresh. subst (PartsAreFormed lang s.graph) (sym (new fresh).0) (formed_blank lang s.graph (length s.graph.tasks));
+      formed = λ fresh. subst (PartsAreFormed lang RecordFits s.graph) (sym (new fresh).0) (formed_blank lang RecordFits s.graph (length s.graph.tasks));
     }

@@ -119,7 +119,6 @@ module _ {R K S O : Type 0} (lang : Language R K S O) (RecordFits : R → Type 0
     goes_keeps ledger held n subtasks ordered shape runs goes = (
       record {
         expanded = keeps.expanded;
-        simple = keeps.simple;
         operators = keeps.operators;
         partitions = keeps.partitions;
         stored_tasks = keeps.stored_tasks;

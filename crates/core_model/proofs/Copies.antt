@@ -1,27 +1,30 @@
 -- What an attempt does when a task copies is what the model's attempt does: it takes the barrier, and then copies.
-use Rattle.std.proofs.Common.{◌≡◌, ◌<◌, ◌==◌, ◌++◌, inl, inr, if◌then◌else◌, Option, Some, None, slice_get, slice_set, unwrap_or, length, drop, ℕ, Bool, true, false, List, [], refl, sym, ap, ap₂, ◌∙◌, is_some}
-use Rattle.std.specs.Option.{option_map_or}
+use Rattle.std.proofs.Common.{◌≡◌, ◌<◌, ◌==◌, ◌++◌, inl, inr, if◌then◌else◌, Option, Some, None, slice_get, slice_set, unwrap_or, length, ℕ, Bool, true, false, List, [], refl, sym, ap, subst, ◌∙◌, is_some}
 use Rattle.std.proofs.lemmas.Bool.Decides.{eqb_tells}
 use Rattle.std.proofs.lemmas.Option.{slice_get_within, same_Some}
 use Rattle.std.proofs.lemmas.List.{append-nil}
+use Rattle.alignment.specs.Table.{effect_of}
 use Rattle.channels.specs.declared.item.Item.TheVariants.{Barrier}
 use Rattle.commit_sink.specs.Sink.{Sinking}
 use Rattle.checkpoint_model.specs.Attempt as attempt
-use Rattle.checkpoint_model.specs.Attempt.{Attempt, TakesBarrier, barrier_taken, Copies, task_copied, barrier_of}
+use Rattle.checkpoint_model.specs.Attempt.{Attempt, TakesBarrier, Copies, task_copied}
 use Rattle.checkpoint_model.proofs.Seen.{same_attempt}
 use Rattle.dataflow_model.specs.Graph.{Channel}
-use Rattle.job_graph.specs.Expanded.{IsExpanded, IsChannel, is_source, is_sink}
+use Rattle.job_graph.specs.Expanded.{IsExpanded, IsChannel, is_source, is_sink, is_marked, meets}
 use Rattle.job_graph.specs.declared.role.Role.TheVariants as role
-use Rattle.job_state.specs.Held.{Held, copy_at, CopiesSource, CopiesOperator, sink_copied}
+use Rattle.job_state.specs.Held.{Held, copy_at, came_at, gate_at, logged_at, barrier_taken, CopiesSource, CopiesOperator, sink_copied}
 use Rattle.job_state.specs.Sending.{items_at, barrier_into, without_head}
 use Rattle.job_state.specs.declared.holding.Holding.TheVariants as holds
 use Rattle.task_part.specs.declared.part.Part.{Part}
 use Rattle.task_part.specs.declared.part.Part.TheVariants as part
-use Rattle.core_model.specs.Keeps.{IsSimple}
+use Rattle.core_model.specs.Calls.{input_at, is_copy, IsBarrierNext}
+use Rattle.core_model.specs.Keeps.{GateFits}
 use Rattle.core_model.specs.Language.{Language}
 use Rattle.core_model.specs.State.{State}
-use Rattle.core_model.specs.View.{held_state, copied_state, attempt_of, came_at, job_of, is_logged_in}
+use Rattle.core_model.specs.View.{held_state, copied_state, attempt_of, job_of, is_logged_in}
 use Rattle.core_model.proofs.Lists.{get_set_same, get_set_other}
+use Rattle.core_model.proofs.CallTasks.{LeadsTo, input_leads}
+use Rattle.core_model.proofs.Gates.{copy_is_first, unmarked_came, input_of_channel}
 use Rattle.core_model.proofs.Items.{plain, plain_barriers, plain_put, taken, first_barrier}
 
 module _ {P : Type 0} where
@@ -71,27 +74,6 @@ module _ {R K S O : Type 0} (lang : Language R K S O) (s : State O R K S) (h : H
           | inr other ↦ rw other.0 (ap (λ (o : Option (Option (Part R K S))). copied_state lang.cmp (unwrap_or o None)) (get_set_other h.copies task t (Some p) other.1))
         ]
 
-    abbrev came_in : Option Channel → Bool
-    came_in o = option_map_or (λ channel. is_some (unwrap_or (slice_get copies_set channel.receiver) None)) o false
-
-    -- a channel that leads elsewhere
-    came_other : (o : Option Channel) → ((channel : Channel) → o ≡ Some channel → channel.receiver ≡ task → ⊥) → came_in o ≡ option_map_or (λ channel. is_some (copy_at h channel.receiver)) o false
-    came_other None apart = refl
-    came_other (Some channel) apart = ap (λ (o : Option (Option (Part R K S))). is_some (unwrap_or o None)) (get_set_other h.copies task channel.receiver (Some p) (apart channel refl))
-
-    -- the channel that leads to the task
-    came_here : (o : Option Channel) (channel : Channel) → o ≡ Some channel → channel.receiver ≡ task → came_in o ≡ true
-    came_here o channel is to =
-        ap came_in is ∙ ap (λ (n : ℕ). is_some (unwrap_or (slice_get copies_set n) None)) to ∙ ap (λ (o : Option (Option (Part R K S))). is_some (unwrap_or o None)) (get_set_same h.copies task (Some p) within)
-
-    module _ (input : ℕ) (channel : Channel) (simple : IsSimple s.graph) (leads : slice_get s.graph.channels input ≡ Some channel) (to : channel.receiver ≡ task) where
-      came_eq : (c : ℕ) → came_in (slice_get s.graph.channels c) ≡ (if c == input then true else came_at s.graph h c)
-      came_eq c =
-          elim (eqb_tells c input) [
-            | inl same ↦ rw same.0 (came_here (slice_get s.graph.channels c) channel (ap (slice_get s.graph.channels) same.1 ∙ leads) to)
-            | inr other ↦ rw other.0 (came_other (slice_get s.graph.channels c) (λ another is there. other.1 (simple.one_input c input another channel is leads (there ∙ sym to))))
-          ]
-
   module _ (k : Held R K S) (task partition offset checkpoint : ℕ) (expanded : IsExpanded s.graph) (is : slice_get s.graph.tasks task ≡ Some (role.Source partition)) (at : slice_get h.tasks task ≡ Some (holds.Source offset))
       (pending : h.coordination.pending ≡ Some checkpoint) (none : copy_at h task ≡ None) (within : task < length h.copies) (copies : CopiesSource s.graph task offset checkpoint h k) where
     pub source_copies : Copies (job_of lang s) (is_logged_in s) task before (attempt_of lang.cmp k)
@@ -106,88 +88,110 @@ module _ {R K S O : Type 0} (lang : Language R K S O) (s : State O R K S) (h : H
           (ap (λ (x : Held R K S). is_some x.coordination.pending) copies.ends)
           (λ t. ap (λ (x : Held R K S). is_some (copy_at x t)) copies.ends ∙ copied_eq task (part.Source offset) within t)
           (λ t. ap (λ (x : Held R K S). copied_state lang.cmp (copy_at x t)) copies.ends ∙ copies_eq task (part.Source offset) within (ap (held_state lang.cmp) (sym at)) t)
-          (λ c. ap (λ (x : Held R K S). came_at s.graph x c) copies.ends ∙ came_other task (part.Source offset) within (slice_get s.graph.channels c) (λ channel leads to. not_source expanded task partition c channel is leads to))
-          (λ c. refl);
+          (λ c. ap (λ (x : Held R K S). came_at x c) copies.ends)
+          (λ c. ap (λ (x : Held R K S). logged_at x c) copies.ends);
     }
 
-  module _ (k : Held R K S) (task input checkpoint : ℕ) (channel : Channel) (simple : IsSimple s.graph) (leads : slice_get s.graph.channels input ≡ Some channel) (to : channel.receiver ≡ task)
-      (head : slice_get (items_at h.channels input) 0 ≡ Some (Barrier checkpoint)) (pending : h.coordination.pending ≡ Some checkpoint) (none : copy_at h task ≡ None) (within : task < length h.copies) where
-    -- the barrier is taken
+  module _ (k : Held R K S) (task input channel checkpoint : ℕ) (leads : input_at s.graph task input ≡ Some channel) (fits : GateFits s.graph h task) (came_each : length h.came ≡ length s.graph.channels) (barrier : IsBarrierNext h channel checkpoint) where
+    -- what the task holds once it has taken the barrier
+    abbrev pub taken_held : Held R K S
+    taken_held = barrier_taken task input channel checkpoint h
+
     abbrev pub middle : Attempt R K S
-    middle = barrier_taken input before
+    middle = attempt_of lang.cmp taken_held
 
-    pub takes_barrier : TakesBarrier input before middle
-    takes_barrier = record { is_first = first_barrier (items_at h.channels input) checkpoint head; ends = refl }
+    within_came : channel < length h.came
+    within_came =
+        let to : LeadsTo s.graph task channel = input_leads s.graph task input channel leads in
+        subst (λ (m : ℕ). channel < m) (sym came_each) (slice_get_within s.graph.channels channel to.channel to.is)
 
-    middle_came : (number : ℕ) (other : Channel) → slice_get s.graph.channels number ≡ Some other → other.receiver ≡ task → middle.came number ≡ true
-    middle_came number other is there =
-        let same : number ≡ input = simple.one_input number input other channel is leads (there ∙ sym to) in
-        elim (eqb_tells number input) [ inl h ↦ rw h.0 refl | inr h ↦ absurd (h.1 same) ]
+    came_now : (c : ℕ) → came_at taken_held c ≡ (if c == channel then true else came_at h c)
+    came_now c =
+        elim (eqb_tells c channel) [
+          | inl same ↦ rw same.0 (ap (λ (n : ℕ). unwrap_or (slice_get (slice_set h.came channel true) n) false) same.1 ∙ ap (λ (o : Option Bool). unwrap_or o false) (get_set_same h.came channel true within_came))
+          | inr other ↦ rw other.0 (ap (λ (o : Option Bool). unwrap_or o false) (get_set_other h.came channel c true other.1))
+        ]
 
-    pub operator_copies : CopiesOperator s.graph task input checkpoint h k → Copies (job_of lang s) (is_logged_in s) task middle (attempt_of lang.cmp k)
-    operator_copies copies = record {
-      is_pending = ap is_some pending;
-      is_first = ap is_some none;
-      all_came = λ number other is there unlogged. middle_came number other is there;
-      ends =
-          same_attempt (attempt_of lang.cmp k) (task_copied (job_of lang s) task middle)
-          (λ t. ap (λ (x : Held R K S). held_state lang.cmp (slice_get x.tasks t)) copies.ends)
-          (λ c.
-          plain_put (λ n. barrier_into checkpoint task (slice_get s.graph.channels n)) (without_head input h.channels) k.channels copies.sent c
-          ∙ ap₂ (λ (x y : List (attempt.Item R)). x ++ y) (taken input h.channels c) (plain_barriers checkpoint task (slice_get s.graph.channels c)))
-          (ap (λ (x : Held R K S). is_some x.coordination.pending) copies.ends)
-          (λ t. ap (λ (x : Held R K S). is_some (copy_at x t)) copies.ends ∙ copied_eq task (part.Operator copies.entries []) within t)
-          (λ t. ap (λ (x : Held R K S). copied_state lang.cmp (copy_at x t)) copies.ends ∙ copies_eq task (part.Operator copies.entries []) within (ap (held_state lang.cmp) (sym copies.was)) t)
-          (λ c. ap (λ (x : Held R K S). came_at s.graph x c) copies.ends ∙ came_eq task (part.Operator copies.entries []) within input channel simple leads to c)
-          (λ c. refl);
+    pub takes_barrier : TakesBarrier channel before middle
+    takes_barrier = record {
+      is_first = first_barrier (items_at h.channels channel) checkpoint barrier.0;
+      ends = same_attempt middle (attempt.barrier_taken channel before) (λ t. refl) (λ c. taken channel h.channels c) refl (λ t. refl) (λ t. refl) came_now (λ c. refl);
     }
 
-    -- no barrier goes on from a sink
-    no_outputs : IsExpanded s.graph → (subtask : ℕ) → slice_get s.graph.tasks task ≡ Some (role.Sink subtask) → (number : ℕ) → attempt.barrier_of {R = R} task (slice_get s.graph.channels number) ≡ []
-    no_outputs expanded subtask is number = of (slice_get s.graph.channels number) (λ other there. expanded.joined number other there)
-      where
-        at_sink : (other : Channel) → IsChannel s.graph.tasks other → other.sender ≡ task → ⊥
-        at_sink other joined from =
-            let same : joined.sender.role ≡ role.Sink subtask = same_Some joined.sender.role (role.Sink subtask) (sym joined.sender.is ∙ ap (slice_get s.graph.tasks) from ∙ is) in
-            let e : true ≡ false = ap is_sink (sym same) ∙ joined.sender.sends in
-            cc
+    module _ (within : task < length h.copies) (is_copying : is_copy (effect_of (gate_at h task) input) ≡ true) where
+      -- the task has not copied yet
+      pub not_copied : copy_at h task ≡ None
+      not_copied = copy_is_first s.graph h task fits input channel leads checkpoint barrier.1 barrier.2 is_copying
 
-        by_test : (other : Channel) → IsChannel s.graph.tasks other → attempt.barrier_of {R = R} task (Some other) ≡ []
-        by_test other joined = elim (eqb_tells other.sender task) [ inl h ↦ absurd (at_sink other joined h.1) | inr h ↦ rw h.0 refl ]
+      -- the barriers of all its unmarked inputs have come
+      middle_came : (number : ℕ) (other : Channel) → slice_get s.graph.channels number ≡ Some other → other.receiver ≡ task → is_logged_in s number ≡ false → middle.came number ≡ true
+      middle_came number other is there unlogged =
+          let place = input_of_channel s.graph number other is in
+          unmarked_came s.graph h task fits input channel leads checkpoint barrier.1 barrier.2 within_came is_copying place.0 number (subst (λ (t : ℕ). input_at s.graph t place.0 ≡ Some number) there place.1) unlogged
 
-        of : (o : Option Channel) → ((other : Channel) → o ≡ Some other → IsChannel s.graph.tasks other) → attempt.barrier_of {R = R} task o ≡ []
-        of None joined = refl
-        of (Some other) joined = by_test other (joined other refl)
+      pub operator_copies : CopiesOperator s.graph task input channel checkpoint h k → Copies (job_of lang s) (is_logged_in s) task middle (attempt_of lang.cmp k)
+      operator_copies copies = record {
+        is_pending = ap is_some barrier.1;
+        is_first = ap is_some not_copied;
+        all_came = middle_came;
+        ends =
+            same_attempt (attempt_of lang.cmp k) (task_copied (job_of lang s) task middle)
+            (λ t. ap (λ (x : Held R K S). held_state lang.cmp (slice_get x.tasks t)) copies.ends)
+            (λ c.
+            plain_put (λ n. barrier_into checkpoint task (slice_get s.graph.channels n)) taken_held.channels k.channels copies.sent c
+            ∙ ap (λ items. plain (items_at taken_held.channels c) ++ items) (plain_barriers checkpoint task (slice_get s.graph.channels c)))
+            (ap (λ (x : Held R K S). is_some x.coordination.pending) copies.ends)
+            (λ t. ap (λ (x : Held R K S). is_some (copy_at x t)) copies.ends ∙ copied_eq task (part.Operator copies.entries []) within t)
+            (λ t. ap (λ (x : Held R K S). copied_state lang.cmp (copy_at x t)) copies.ends ∙ copies_eq task (part.Operator copies.entries []) within (ap (held_state lang.cmp) (sym copies.was)) t)
+            (λ c. ap (λ (x : Held R K S). came_at x c) copies.ends)
+            (λ c. ap (λ (x : Held R K S). logged_at x c) copies.ends);
+      }
 
-    pub sink_copies : IsExpanded s.graph → (subtask : ℕ) (names : List ℕ) (sink sink' : Sinking) → slice_get s.graph.tasks task ≡ Some (role.Sink subtask) → slice_get h.tasks task ≡ Some (holds.Sink sink) → k ≡ sink_copied task input names sink' h →
-        Copies (job_of lang s) (is_logged_in s) task middle (attempt_of lang.cmp k)
-    sink_copies expanded subtask names sink sink' is was ends = record {
-      is_pending = ap is_some pending;
-      is_first = ap is_some none;
-      all_came = λ number other leads there unlogged. middle_came number other leads there;
-      ends =
-          same_attempt (attempt_of lang.cmp k) (task_copied (job_of lang s) task middle)
-          (λ t. ap (λ (x : Held R K S). held_state lang.cmp (slice_get x.tasks t)) ends ∙ sink_stays t)
-          (λ c.
-          ap (λ (x : Held R K S). plain (items_at x.channels c)) ends ∙ taken input h.channels c
-          ∙ (sym (append-nil (if c == input then drop 1 (plain (items_at h.channels c)) else plain (items_at h.channels c)))
-          ∙ ap (λ (l : List (attempt.Item R)). (if c == input then drop 1 (plain (items_at h.channels c)) else plain (items_at h.channels c)) ++ l) (sym (no_outputs expanded subtask is c))))
-          (ap (λ (x : Held R K S). is_some x.coordination.pending) ends)
-          (λ t. ap (λ (x : Held R K S). is_some (copy_at x t)) ends ∙ copied_eq task (part.Sink names []) within t)
-          (λ t. ap (λ (x : Held R K S). copied_state lang.cmp (copy_at x t)) ends ∙ copies_eq task (part.Sink names []) within (ap (held_state lang.cmp) (sym was)) t)
-          (λ c. ap (λ (x : Held R K S). came_at s.graph x c) ends ∙ came_eq task (part.Sink names []) within input channel simple leads to c)
-          (λ c. refl);
-    }
-      where
-        here : task < length h.tasks
-        here = slice_get_within h.tasks task (holds.Sink sink) was
+      -- no barrier goes on from a sink
+      no_outputs : IsExpanded s.graph → (subtask : ℕ) → slice_get s.graph.tasks task ≡ Some (role.Sink subtask) → (number : ℕ) → attempt.barrier_of {R = R} task (slice_get s.graph.channels number) ≡ []
+      no_outputs expanded subtask is number = of (slice_get s.graph.channels number) (λ other there. expanded.joined number other there)
+        where
+          at_sink : (other : Channel) → IsChannel s.graph.tasks other → other.sender ≡ task → ⊥
+          at_sink other joined from =
+              let same : joined.sender.role ≡ role.Sink subtask = same_Some joined.sender.role (role.Sink subtask) (sym joined.sender.is ∙ ap (slice_get s.graph.tasks) from ∙ is) in
+              let e : true ≡ false = ap is_sink (sym same) ∙ joined.sender.sends in
+              cc
 
-        -- a sink's state is the same, whatever transactions it holds
-        sink_stays : (t : ℕ) → held_state {R = R} lang.cmp (slice_get (slice_set h.tasks task (holds.Sink sink')) t) ≡ held_state lang.cmp (slice_get h.tasks t)
-        sink_stays t =
-            elim (eqb_tells t task) [
-              | inl same ↦
-                  ap (λ (n : ℕ). held_state {R = R} lang.cmp (slice_get (slice_set h.tasks task (holds.Sink sink')) n)) same.1 ∙ ap (held_state lang.cmp) (get_set_same h.tasks task (holds.Sink sink') here ∙ refl)
-                  ∙ ap (held_state lang.cmp) (sym was) ∙ ap (λ (n : ℕ). held_state {R = R} lang.cmp (slice_get h.tasks n)) (sym same.1)
-              | inr other ↦ ap (held_state lang.cmp) (get_set_other h.tasks task t (holds.Sink sink') other.1)
-            ]
+          by_test : (other : Channel) → IsChannel s.graph.tasks other → attempt.barrier_of {R = R} task (Some other) ≡ []
+          by_test other joined = elim (eqb_tells other.sender task) [ inl h ↦ absurd (at_sink other joined h.1) | inr h ↦ rw h.0 refl ]
+
+          of : (o : Option Channel) → ((other : Channel) → o ≡ Some other → IsChannel s.graph.tasks other) → attempt.barrier_of {R = R} task o ≡ []
+          of None joined = refl
+          of (Some other) joined = by_test other (joined other refl)
+
+      pub sink_copies : IsExpanded s.graph → (subtask : ℕ) (names : List ℕ) (sink sink' : Sinking) → slice_get s.graph.tasks task ≡ Some (role.Sink subtask) → slice_get h.tasks task ≡ Some (holds.Sink sink) → k ≡ sink_copied task input channel checkpoint names sink' h →
+          Copies (job_of lang s) (is_logged_in s) task middle (attempt_of lang.cmp k)
+      sink_copies expanded subtask names sink sink' is was ends = record {
+        is_pending = ap is_some barrier.1;
+        is_first = ap is_some not_copied;
+        all_came = middle_came;
+        ends =
+            same_attempt (attempt_of lang.cmp k) (task_copied (job_of lang s) task middle)
+            (λ t. ap (λ (x : Held R K S). held_state lang.cmp (slice_get x.tasks t)) ends ∙ sink_stays t)
+            (λ c.
+            ap (λ (x : Held R K S). plain (items_at x.channels c)) ends
+            ∙ (sym (append-nil (plain (items_at taken_held.channels c))) ∙ ap (λ (l : List (attempt.Item R)). plain (items_at taken_held.channels c) ++ l) (sym (no_outputs expanded subtask is c))))
+            (ap (λ (x : Held R K S). is_some x.coordination.pending) ends)
+            (λ t. ap (λ (x : Held R K S). is_some (copy_at x t)) ends ∙ copied_eq task (part.Sink names []) within t)
+            (λ t. ap (λ (x : Held R K S). copied_state lang.cmp (copy_at x t)) ends ∙ copies_eq task (part.Sink names []) within (ap (held_state lang.cmp) (sym was)) t)
+            (λ c. ap (λ (x : Held R K S). came_at x c) ends)
+            (λ c. ap (λ (x : Held R K S). logged_at x c) ends);
+      }
+        where
+          here : task < length h.tasks
+          here = slice_get_within h.tasks task (holds.Sink sink) was
+
+          -- a sink's state is the same, whatever transactions it holds
+          sink_stays : (t : ℕ) → held_state {R = R} lang.cmp (slice_get (slice_set h.tasks task (holds.Sink sink')) t) ≡ held_state lang.cmp (slice_get h.tasks t)
+          sink_stays t =
+              elim (eqb_tells t task) [
+                | inl same ↦
+                    ap (λ (n : ℕ). held_state {R = R} lang.cmp (slice_get (slice_set h.tasks task (holds.Sink sink')) n)) same.1 ∙ ap (held_state lang.cmp) (get_set_same h.tasks task (holds.Sink sink') here ∙ refl)
+                    ∙ ap (held_state lang.cmp) (sym was) ∙ ap (λ (n : ℕ). held_state {R = R} lang.cmp (slice_get h.tasks n)) (sym same.1)
+                | inr other ↦ ap (held_state lang.cmp) (get_set_other h.tasks task t (holds.Sink sink') other.1)
+              ]

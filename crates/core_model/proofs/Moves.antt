@@ -1,29 +1,48 @@
 -- What an attempt does when records move is a move of the model's attempt.
-use Rattle.std.proofs.Common.{◌≡◌, ◌<◌, ◌+◌, ◌==◌, ◌++◌, inl, inr, if◌then◌else◌, Option, Some, slice_get, slice_set, length, map, drop, ℕ, Bool, true, false, not, ◌&&◌, List, [], ◌∷◌, refl, sym, ap, ap₂, ◌∙◌, is_some}
-use Rattle.std.specs.Option.{option_map, option_map_or}
+use Rattle.std.proofs.Common.{◌≡◌, ◌<◌, ◌+◌, ◌==◌, ◌++◌, inl, inr, if◌then◌else◌, Option, Some, slice_get, slice_set, unwrap_or, length, map, drop, ℕ, Bool, true, false, not, ◌&&◌, List, [], ◌∷◌, refl, sym, ap, ap₂, subst, ◌∙◌, is_some}
+use Rattle.std.specs.Option.{option_map}
 use Rattle.std.proofs.lemmas.Bool.Decides.{eqb_tells}
 use Rattle.std.proofs.lemmas.Option.{slice_get_within, same_Some}
 use mathlib.Core.Path.{fun_ext}
 use Rattle.abs_codec.specs.Entries.{value_at}
+use Rattle.alignment.specs.Table.{is_logged}
 use Rattle.channels.specs.declared.item.Item.TheVariants.{Record}
 use Rattle.checkpoint_model.specs.Attempt as attempt
 use Rattle.checkpoint_model.specs.Attempt.{Attempt, Moves, moved, logs_after, TakesFirst}
 use Rattle.checkpoint_model.proofs.Seen.{same_attempt}
-use Rattle.dataflow_model.specs.Graph.{Outcome, SourceTask, OperatorTask, Channel}
+use Rattle.dataflow_model.specs.Graph.{Outcome, SourceTask, OperatorTask}
 use Rattle.dataflow_model.specs.Machine.{TaskState, Effect, Read, Work, handled, received, kept_under, state_under}
 use Rattle.job_graph.specs.declared.role.Role.TheVariants as role
 use Rattle.job_graph.specs.PlainGraph.{task_of, operator_task}
 use Rattle.job_graph.proofs.PlainTasks.{tasks-graph_of}
-use Rattle.job_state.specs.Held.{Held, copy_at, Reads, Operates}
+use Rattle.job_state.specs.Held.{Held, copy_at, came_at, gate_at, logged_at, log_with, record_taken, Reads, Operates}
 use Rattle.job_state.specs.Sending.{items_at, without_head}
 use Rattle.job_state.specs.declared.holding.Holding.{Holding}
 use Rattle.job_state.specs.declared.holding.Holding.TheVariants as holds
 use Rattle.source_log.specs.Partitions.{records_at}
+use Rattle.core_model.specs.Calls.{input_at, IsBlocked}
+use Rattle.core_model.specs.Keeps.{GateFits}
 use Rattle.core_model.specs.Language.{Language}
 use Rattle.core_model.specs.State.{State}
-use Rattle.core_model.specs.View.{held_state, copied_state, attempt_of, came_at, job_of}
+use Rattle.core_model.specs.View.{held_state, copied_state, attempt_of, job_of}
 use Rattle.core_model.proofs.Lists.{get_set_same, get_set_other}
+use Rattle.core_model.proofs.CallTasks.{LeadsTo, input_leads}
+use Rattle.core_model.proofs.Gates.{free_not_came, logs_when}
 use Rattle.core_model.proofs.Items.{plain, plain_records, plain_put, taken, first_record}
+
+-- the logs with one record more
+logs_with : {R : Type 0} (b : Bool) (channel : ℕ) (row : R) (logs : List (List R)) → channel < length logs → (c : ℕ) →
+    unwrap_or (slice_get (log_with b channel row logs) c) [] ≡ (if (c == channel) && b then unwrap_or (slice_get logs c) [] ++ row ∷ [] else unwrap_or (slice_get logs c) [])
+logs_with {R} true channel row logs within c =
+    let more : List R = unwrap_or (slice_get logs channel) [] ++ row ∷ [] in
+    elim (eqb_tells c channel) [
+      | inl same ↦
+          rw same.0
+          (ap (λ (n : ℕ). unwrap_or (slice_get (slice_set logs channel more) n) []) same.1 ∙ ap (λ (o : Option (List R)). unwrap_or o []) (get_set_same logs channel more within)
+          ∙ ap (λ (n : ℕ). unwrap_or (slice_get logs n) [] ++ row ∷ []) (sym same.1))
+      | inr other ↦ rw other.0 (ap (λ (o : Option (List R)). unwrap_or o []) (get_set_other logs channel c more other.1))
+    ]
+logs_with false channel row logs within c = elim (eqb_tells c channel) [ inl same ↦ rw same.0 refl | inr other ↦ rw other.0 refl ]
 
 module _ {R K S O : Type 0} (lang : Language R K S O) (s : State O R K S) (h k : Held R K S) where
   abbrev before : Attempt R K S
@@ -56,35 +75,40 @@ module _ {R K S O : Type 0} (lang : Language R K S O) (s : State O R K S) (h k :
           (ap (λ (x : Held R K S). is_some x.coordination.pending) reads.ends)
           (λ t. ap (λ (x : Held R K S). is_some (copy_at x t)) reads.ends)
           (λ t. ap (λ (x : Held R K S). copied_state lang.cmp (copy_at x t)) reads.ends)
-          (λ c. ap (λ (x : Held R K S). came_at s.graph x c) reads.ends)
-          (λ c. refl);
+          (λ c. ap (λ (x : Held R K S). came_at x c) reads.ends)
+          (λ c. ap (λ (x : Held R K S). logged_at x c) reads.ends);
     }
       where
         risen : Option (Holding K S) → TaskState R K S
         risen o = record (held_state lang.cmp o) { offset = (held_state {R = R} lang.cmp o).offset + 1 }
 
-  and_not : (b : Bool) → (b && not b) ≡ false
-  and_not true = refl
-  and_not false = refl
+  -- a task that takes a record from an input, which is this channel
+  module _ (task input channel : ℕ) (leads : input_at s.graph task input ≡ Some channel) (fits : GateFits s.graph h task) (log_each : length h.logs ≡ length s.graph.channels) where
+    pub leads_to : LeadsTo s.graph task channel
+    leads_to = input_leads s.graph task input channel leads
 
-  came_is_copied : (task input : ℕ) (channel : Channel) → slice_get s.graph.channels input ≡ Some channel → channel.receiver ≡ task → came_at s.graph h input ≡ is_some (copy_at h task)
-  came_is_copied task input channel leads to = ap (λ (o : Option Channel). option_map_or (λ c. is_some (copy_at h c.receiver)) o false) leads ∙ ap (λ n. is_some (copy_at h n)) to
+    within_logs : channel < length h.logs
+    within_logs = subst (λ (m : ℕ). channel < m) (sym log_each) (slice_get_within s.graph.channels channel leads_to.channel leads_to.is)
 
-  -- nothing is logged: the barrier of a task's input came before its copy
-  pub no_log : (task input : ℕ) (channel : Channel) → slice_get s.graph.channels input ≡ Some channel → channel.receiver ≡ task → (row : R) (c : ℕ) → logs_after (Work task input) row before c ≡ []
-  no_log task input channel leads to row c =
-      elim (eqb_tells c input) [
-        | inl same ↦
-            rw (same.0, ap (λ (n : ℕ). came_at s.graph h n) same.1, came_is_copied task input channel leads to, and_not (is_some (copy_at h task))) refl
-        | inr other ↦ rw other.0 refl
-      ]
+    -- the logs are the model's
+    pub same_logs : (row : R) (c : ℕ) → logged_at (record_taken task input channel row h) c ≡ logs_after (Work task channel) row before c
+    same_logs row c =
+        logs_with (is_logged (gate_at h task) input) channel row h.logs within_logs c
+        ∙ elim (eqb_tells c channel) [
+          | inl same ↦
+              rw same.0
+              (ap (λ (b : Bool). if b then logged_at h c ++ row ∷ [] else logged_at h c)
+              (logs_when s.graph h task fits input channel leads ∙ ap (λ (n : ℕ). is_some (copy_at h task) && not (came_at h n)) (sym same.1)))
+          | inr other ↦ rw other.0 refl
+        ]
 
-  module _ (task number input : ℕ) (channel : Channel) (operator : O) (row : R) (entries : List (K × S)) (is : slice_get s.graph.tasks task ≡ Some (role.Operator number)) (op : slice_get s.operators number ≡ Some operator)
-      (leads : slice_get s.graph.channels input ≡ Some channel) (to : channel.receiver ≡ task) (head : slice_get (items_at h.channels input) 0 ≡ Some (Record row)) (was : slice_get h.tasks task ≡ Some (holds.Operator entries)) where
+  module _ (task number input channel : ℕ) (operator : O) (row : R) (entries : List (K × S)) (is : slice_get s.graph.tasks task ≡ Some (role.Operator number)) (op : slice_get s.operators number ≡ Some operator)
+      (leads : input_at s.graph task input ≡ Some channel) (fits : GateFits s.graph h task) (log_each : length h.logs ≡ length s.graph.channels) (free : IsBlocked task input h → ⊥)
+      (head : slice_get (items_at h.channels channel) 0 ≡ Some (Record row)) (was : slice_get h.tasks task ≡ Some (holds.Operator entries)) where
     abbrev outcome : Outcome R S
     outcome = lang.meaning.apply operator (state_under (lang.meaning.key operator row) (lang.meaning.fresh operator) (value_at lang.cmp entries)) row
 
-    module _ (operates : Operates lang.meaning lang.cmp s.graph task input (lang.meaning.key operator row) outcome.state outcome.sent h k) where
+    module _ (operates : Operates lang.meaning lang.cmp s.graph task input channel row (lang.meaning.key operator row) outcome.state outcome.sent h k) where
       pub same_entries : operates.entries ≡ entries
       same_entries = operator_entries operates.entries entries (same_Some (holds.Operator operates.entries) (holds.Operator entries) (sym operates.was ∙ was))
         where
@@ -95,24 +119,27 @@ module _ {R K S O : Type 0} (lang : Language R K S O) (s : State O R K S) (h k :
       abbrev pub effect : Effect R K S
       effect = handled lang.meaning (OperatorTask operator) (before.tasks task) row
 
-      unfoldable pub operates_move : Moves (job_of lang s) (Work task input) before now
+      abbrev to : LeadsTo s.graph task channel
+      to = leads_to task input channel leads fits log_each
+
+      unfoldable pub operates_move : Moves (job_of lang s) (Work task channel) before now
       operates_move = record {
         kind = OperatorTask operator;
         taken = row;
         is_task = tasks-graph_of s.graph s.operators task ∙ ap (option_map (task_of s.operators)) is ∙ ap (λ (o : Option O). Some (operator_task o)) op;
-        takes = (channel, tt, leads, to, first_record (items_at h.channels input) row head, λ none. ap (λ (o : Option Channel). option_map_or (λ c. is_some (copy_at h c.receiver)) o false) leads ∙ ap (λ n. is_some (copy_at h n)) to ∙ none);
+        takes = (to.channel, tt, to.is, to.to, first_record (items_at h.channels channel) row head, free_not_came s.graph h task fits input channel leads free);
         ends =
-            same_attempt now (moved (job_of lang s) (Work task input) row effect before)
+            same_attempt now (moved (job_of lang s) (Work task channel) row effect before)
             (λ t. ap (λ (x : Held R K S). held_state lang.cmp (slice_get x.tasks t)) operates.ends ∙ tasks_changed h.tasks task (holds.Operator operates.kept) effect.held (slice_get_within h.tasks task (holds.Operator entries) was) (states_kept ∙ ap (λ o. (handling o).held) (sym was)) t)
             (λ c.
-            plain_put (λ n. map Record (received lang.meaning task outcome.sent (slice_get s.graph.channels n))) (without_head input h.channels) k.channels operates.puts c
-            ∙ ap₂ (λ (x y : List (attempt.Item R)). x ++ y) (taken input h.channels c) (plain_records (received lang.meaning task outcome.sent (slice_get s.graph.channels c)))
-            ∙ ap (λ (o : Option (Holding K S)). (if c == input then drop 1 (plain (items_at h.channels c)) else plain (items_at h.channels c)) ++ map attempt.Record (received lang.meaning task (handling o).sent (slice_get s.graph.channels c))) (sym was))
+            plain_put (λ n. map Record (received lang.meaning task outcome.sent (slice_get s.graph.channels n))) (without_head channel h.channels) k.channels operates.puts c
+            ∙ ap₂ (λ (x y : List (attempt.Item R)). x ++ y) (taken channel h.channels c) (plain_records (received lang.meaning task outcome.sent (slice_get s.graph.channels c)))
+            ∙ ap (λ (o : Option (Holding K S)). (if c == channel then drop 1 (plain (items_at h.channels c)) else plain (items_at h.channels c)) ++ map attempt.Record (received lang.meaning task (handling o).sent (slice_get s.graph.channels c))) (sym was))
             (ap (λ (x : Held R K S). is_some x.coordination.pending) operates.ends)
             (λ t. ap (λ (x : Held R K S). is_some (copy_at x t)) operates.ends)
             (λ t. ap (λ (x : Held R K S). copied_state lang.cmp (copy_at x t)) operates.ends)
-            (λ c. ap (λ (x : Held R K S). came_at s.graph x c) operates.ends)
-            (λ c. sym (no_log task input channel leads to row c));
+            (λ c. ap (λ (x : Held R K S). came_at x c) operates.ends)
+            (λ c. ap (λ (x : Held R K S). logged_at x c) operates.ends ∙ same_logs task input channel leads fits log_each row c);
       }
         where
           handling : Option (Holding K S) → Effect R K S

@@ -1,34 +1,36 @@
 -- Each call of a running job, as steps of the model's engine.
-use Rattle.std.proofs.Common.{◌≡◌, ◌<◌, inl, inr, Option, Some, None, slice_get, slice_set, unwrap_or, length, ℕ, List, [], refl, sym, ap, ◌∙◌}
+use Rattle.std.proofs.Common.{◌≡◌, ◌<◌, inl, inr, Option, Some, None, slice_get, slice_set, unwrap_or, length, ℕ, true, List, [], refl, sym, ap, ◌∙◌}
 use Rattle.std.specs.Option.{option_map}
 use Rattle.std.proofs.lemmas.Bool.Decides.{eqb_tells}
 use Rattle.abs_codec.specs.Entries.{value_at}
-use Rattle.channels.specs.declared.item.Item.TheVariants.{Record, Barrier}
+use Rattle.alignment.specs.Table.{effect_of}
+use Rattle.channels.specs.declared.item.Item.TheVariants.{Record}
 use Rattle.checkpoint_model.specs.Attempt.{Attempt}
 use Rattle.checkpoint_model.specs.Engine.{Running}
 use Rattle.checkpoint_model.specs.EngineLaws.{with_attempt}
 use Rattle.checkpoint_model.specs.Headline.{RunningStep, MovesPlainly, TakesABarrier, CopiesATask}
 use Rattle.checkpoint_model.proofs.HeldViews.{same_run}
-use Rattle.dataflow_model.specs.Graph.{Outcome, Task, SourceTask, OperatorTask, SinkTask, Channel}
+use Rattle.dataflow_model.specs.Graph.{Outcome, Task, SourceTask, OperatorTask, SinkTask}
 use Rattle.dataflow_model.specs.Machine.{Read, Work, state_under}
 use Rattle.job_graph.specs.Expanded.{IsExpanded}
 use Rattle.job_graph.specs.declared.role.Role.{Role}
 use Rattle.job_graph.specs.declared.role.Role.TheVariants as role
 use Rattle.job_graph.specs.PlainGraph.{task_of, operator_task}
 use Rattle.job_graph.proofs.PlainTasks.{tasks-graph_of}
-use Rattle.job_state.specs.Held.{Held, copy_at, Reads, Operates, CopiesSource, CopiesOperator}
+use Rattle.job_state.specs.Held.{Held, copy_at, gate_at, Reads, Operates, CopiesSource, CopiesOperator}
 use Rattle.job_state.specs.Sending.{items_at}
 use Rattle.job_state.specs.declared.holding.Holding.TheVariants as holds
 use Rattle.source_log.specs.Partitions.{records_at}
 use Rattle.task_part.specs.declared.part.Part.{Part}
 use Rattle.task_part.specs.declared.part.Part.TheVariants as part
-use Rattle.core_model.specs.Keeps.{IsSimple}
+use Rattle.core_model.specs.Calls.{input_at, is_copy, IsBlocked, IsBarrierNext}
+use Rattle.core_model.specs.Keeps.{GateFits}
 use Rattle.core_model.specs.Language.{Language}
 use Rattle.core_model.specs.State.{State}
 use Rattle.core_model.specs.View.{named_by, attempt_of, run_of, job_of, is_logged_in, devices_of}
 use Rattle.core_model.proofs.Lists.{get_set_other}
 use Rattle.core_model.proofs.Moves.{reads_move, operates_move}
-use Rattle.core_model.proofs.Copies.{source_copies, takes_barrier, middle, operator_copies}
+use Rattle.core_model.proofs.Copies.{source_copies, taken_held, takes_barrier, operator_copies}
 
 source_is_none : {O : Type 0} (p : ℕ) → ◌≡◌ {A = Task O} (SourceTask p) SinkTask → ⊥
 source_is_none p e = cc
@@ -68,17 +70,18 @@ module _ {R K S O : Type 0} (lang : Language R K S O) (s : State O R K S) (h k :
         ends = with_same (ap (λ (x : Held R K S). x.copies) reads.ends) (ap (λ (x : Held R K S). x.coordination) reads.ends);
       })
 
-  module _ (task number input : ℕ) (channel : Channel) (operator : O) (row : R) (entries : List (K × S)) (is : slice_get s.graph.tasks task ≡ Some (role.Operator number)) (op : slice_get s.operators number ≡ Some operator)
-      (leads : slice_get s.graph.channels input ≡ Some channel) (to : channel.receiver ≡ task) (head : slice_get (items_at h.channels input) 0 ≡ Some (Record row)) (was : slice_get h.tasks task ≡ Some (holds.Operator entries)) where
+  module _ (task number input channel : ℕ) (operator : O) (row : R) (entries : List (K × S)) (is : slice_get s.graph.tasks task ≡ Some (role.Operator number)) (op : slice_get s.operators number ≡ Some operator)
+      (leads : input_at s.graph task input ≡ Some channel) (fits : GateFits s.graph h task) (log_each : length h.logs ≡ length s.graph.channels) (free : IsBlocked task input h → ⊥)
+      (head : slice_get (items_at h.channels channel) 0 ≡ Some (Record row)) (was : slice_get h.tasks task ≡ Some (holds.Operator entries)) where
     abbrev outcome : Outcome R S
     outcome = lang.meaning.apply operator (state_under (lang.meaning.key operator row) (lang.meaning.fresh operator) (value_at lang.cmp entries)) row
 
-    pub operate_runs : Operates lang.meaning lang.cmp s.graph task input (lang.meaning.key operator row) outcome.state outcome.sent h k → StepsAlone before now
+    pub operate_runs : Operates lang.meaning lang.cmp s.graph task input channel row (lang.meaning.key operator row) outcome.state outcome.sent h k → StepsAlone before now
     unfolding operates_move
     operate_runs operates =
-        MovesPlainly (Work task input) (record {
+        MovesPlainly (Work task channel) (record {
           attempt = attempt_of lang.cmp k;
-          moves = operates_move lang s h k task number input channel operator row entries is op leads to head was operates;
+          moves = operates_move lang s h k task number input channel operator row entries is op leads fits log_each free head was operates;
           at_sink = λ e. absurd (operator_is_none operator e);
           elsewhere = λ not_sink. refl;
           ends = with_same (ap (λ (x : Held R K S). x.copies) operates.ends) (ap (λ (x : Held R K S). x.coordination) operates.ends);
@@ -109,20 +112,20 @@ module _ {R K S O : Type 0} (lang : Language R K S O) (s : State O R K S) (h k :
         at_sink = λ e. absurd (source_is_none partition e);
       })
 
-  module _ (task input checkpoint : ℕ) (channel : Channel) (simple : IsSimple s.graph) (leads : slice_get s.graph.channels input ≡ Some channel) (to : channel.receiver ≡ task)
-      (head : slice_get (items_at h.channels input) 0 ≡ Some (Barrier checkpoint)) (pending : h.coordination.pending ≡ Some checkpoint) (none : copy_at h task ≡ None) (within : task < length h.copies) where
+  module _ (task input channel checkpoint : ℕ) (leads : input_at s.graph task input ≡ Some channel) (fits : GateFits s.graph h task) (came_each : length h.came ≡ length s.graph.channels) (barrier : IsBarrierNext h channel checkpoint) where
     -- the barrier is taken
     abbrev pub between : Running R K S
-    between = with_attempt (middle lang s h k task input checkpoint channel simple leads to head pending none within) before
+    between = run_of lang.cmp s.graph (taken_held lang s h k task input channel checkpoint leads fits came_each barrier)
 
     pub barrier_runs : StepsAlone before between
-    barrier_runs = TakesABarrier input (record { attempt = between.attempt; takes = takes_barrier lang s h k task input checkpoint channel simple leads to head pending none within; same = refl; ends = refl })
+    barrier_runs = TakesABarrier channel (record { attempt = between.attempt; takes = takes_barrier lang s h k task input channel checkpoint leads fits came_each barrier; same = refl; ends = refl })
 
-    pub operator_copy_runs : (number : ℕ) (operator : O) → slice_get s.graph.tasks task ≡ Some (role.Operator number) → slice_get s.operators number ≡ Some operator → CopiesOperator s.graph task input checkpoint h k → StepsAlone between now
-    operator_copy_runs number operator is op copies =
+    pub operator_copy_runs : (number : ℕ) (operator : O) → slice_get s.graph.tasks task ≡ Some (role.Operator number) → slice_get s.operators number ≡ Some operator → task < length h.copies → is_copy (effect_of (gate_at h task) input) ≡ true
+        → CopiesOperator s.graph task input channel checkpoint h k → StepsAlone between now
+    operator_copy_runs number operator is op within is_copying copies =
         CopiesATask task (record {
           attempt = attempt_of lang.cmp k;
-          copies = operator_copies lang s h k task input checkpoint channel simple leads to head pending none within copies;
+          copies = operator_copies lang s h k task input channel checkpoint leads fits came_each barrier within is_copying copies;
           kind = OperatorTask operator;
           is_task = tasks-graph_of s.graph s.operators task ∙ ap (option_map (task_of s.operators)) is ∙ ap (λ (o : Option O). Some (operator_task o)) op;
           elsewhere = λ not_sink. (refl, with_copy task (role.Operator number) (part.Operator copies.entries []) between.attempt within is (λ copy. refl) (ap (λ (x : Held R K S). x.copies) copies.ends) (ap (λ (x : Held R K S). x.coordination) copies.ends));
