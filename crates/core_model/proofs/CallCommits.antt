@@ -171,7 +171,7 @@ module _ {R K S O : Type 0} (lang : Language R K S O) (RecordFits : R → Type 0
         where
           moved : (o : Option ℕ) → MatchOption o (Unit {0}) (PendingIn lang s.graph s.stored h) → MatchOption o (Unit {0}) (PendingIn lang s.graph s.stored k)
           moved None m = tt
-          moved (Some number) m = pending_moved lang s.stored h k number m refl refl
+          moved (Some number) m = pending_moved lang s.graph s.stored h k number m keeps.numbered refl refl (λ t acked. refl)
 
           every : (P : Pending → Type 0) (t : ℕ) (now : Sinking) → slice_get tasks t ≡ Some (holds.Sink now) → All P sink.pending → (slice_get h.tasks t ≡ Some (holds.Sink now) → All P now.pending) → All P now.pending
           every P t now held here others =

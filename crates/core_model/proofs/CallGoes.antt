@@ -123,7 +123,7 @@ module _ {R K S O : Type 0} (lang : Language R K S O) where
   -- what a running job keeps is not of the devices' faults
   pub runs_same : (s new : State O R K S) (h : Held R K S) → new.graph ≡ s.graph → new.stored ≡ s.stored → new.ledger ≡ s.ledger → RunsIn lang s h → RunsIn lang new h
   runs_same s new h graph stored ledger runs = record {
-    pending = rw stored (runs.pending);
+    pending = rw (graph, stored) (runs.pending);
     last_complete = rw stored (runs.last_complete);
     sinks = rw (graph, ledger) (runs.sinks);
     checkpoints = rw stored (runs.checkpoints);

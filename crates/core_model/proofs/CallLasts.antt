@@ -146,7 +146,7 @@ module _ {R K S O : Type 0} (lang : Language R K S O) (RecordFits : R → Type 0
             | inl same ↦
                 let now : h.coordination.pending ≡ Some p.checkpoint = is ∙ ap (λ (n : ℕ). Some n) same.1 in
                 let alone : rest ≡ [] = only_one h.coordination.pending p rest (subst (NoneAfter h.coordination.pending) e (runs.last_pending task sink at)) now in
-                let incomplete : P p = pending_incomplete lang s.stored h p.checkpoint (runs_pending lang s h runs p.checkpoint now) in
+                let incomplete : P p = pending_incomplete lang s.graph s.stored h p.checkpoint (runs_pending lang s h runs p.checkpoint now) in
                 subst (All P) (sym (e ∙ ap (λ (l : List Pending). p ∷ l) alone)) (All-cons P p [] incomplete (All-nil P))
             | inr apart ↦ absurd (oldest_is_next p rest e (λ same. apart.1 (same_Some number p.checkpoint (sym is ∙ same))))
           ]

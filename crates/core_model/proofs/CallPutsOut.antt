@@ -1,7 +1,8 @@
 -- A sink puts its first record last in its open transaction.
-use Rattle.std.proofs.Common.{◌≡◌, ◌==◌, ◌++◌, if◌then◌else◌, inl, inr, Option, Some, None, Result, Ok, Err, slice_get, map, drop, is_some, ℕ, Bool, true, false, List, [], refl, sym, ap, subst, ◌∙◌}
-use Rattle.std.specs.Option.{option_map, option_map_or}
+use Rattle.std.proofs.Common.{◌≡◌, ◌<◌, ◌==◌, ◌++◌, if◌then◌else◌, inl, inr, Option, Some, None, Result, Ok, Err, slice_get, length, map, drop, is_some, ℕ, Bool, true, false, List, [], refl, sym, ap, subst, ◌∙◌}
+use Rattle.std.specs.Option.{option_map}
 use Rattle.std.proofs.lemmas.Bool.Decides.{eqb_tells}
+use Rattle.std.proofs.lemmas.Option.{slice_get_within}
 use Rattle.std.proofs.lemmas.List.{append-nil}
 use Rattle.channels.specs.declared.item.Item.TheVariants.{Record}
 use Rattle.checkpoint_model.specs.Attempt as attempt
@@ -22,23 +23,25 @@ use Rattle.job_graph.proofs.PlainTasks.{tasks-graph_of}
 use Rattle.job_graph.specs.Expanded.{IsExpanded}
 use Rattle.job_graph.specs.PlainGraph.{task_of}
 use Rattle.job_graph.specs.declared.role.Role.TheVariants as role
-use Rattle.job_state.specs.Held.{Held, copy_at}
-use Rattle.job_state.specs.Sending.{items_at, without_head}
+use Rattle.job_state.specs.Held.{Held, record_taken}
+use Rattle.job_state.specs.Sending.{items_at}
 use Rattle.job_state.specs.declared.holding.Holding.TheVariants as holds
-use Rattle.core_model.specs.Calls.{EndsPutOut, PutsOut, FailsToPutOut, input_at, left_by}
-use Rattle.core_model.specs.Keeps.{Keeps}
+use Rattle.core_model.specs.Calls.{EndsPutOut, PutsOut, FailsToPutOut, IsBlocked, input_at, left_by}
+use Rattle.core_model.specs.Keeps.{Keeps, GateFits}
 use Rattle.core_model.specs.Language.{Language}
 use Rattle.core_model.specs.State.{State}
 use Rattle.core_model.specs.View.{held_state, run_of, job_of}
 use Rattle.core_model.specs.declared.fault.CoreFault.{CoreFault}
-use Rattle.core_model.specs.declared.fault.CoreFault.TheVariants.{NotReady, Memory, Device}
+use Rattle.core_model.specs.declared.fault.CoreFault.TheVariants.{NotReady, ChannelBlocked, Memory, Device}
 use Rattle.core_model.proofs.Items.{plain, taken, first_record}
-use Rattle.core_model.proofs.Moves.{no_log}
-use Rattle.core_model.proofs.ShapeCalls.{shape_taken}
+use Rattle.core_model.proofs.Gates.{free_not_came, logs_stay}
+use Rattle.core_model.proofs.Moves.{leads_to, same_logs}
+use Rattle.core_model.proofs.ShapeCalls.{shape_puts_out}
 use Rattle.core_model.proofs.LedgerAppend.{Appended, append_in}
 use Rattle.core_model.proofs.CallSteps.{after, Steps, KeepsAndGoes, goes_keeps, goes_one, goes_down_once, keeps_still, keeps_down, shape_at, runs_at}
 use Rattle.core_model.proofs.CallRuns.{runs_moved}
-use Rattle.core_model.proofs.CallTasks.{LeadsTo, input_leads}
+use Rattle.core_model.proofs.CallOperates.{first_fits}
+use Rattle.core_model.proofs.CallTasks.{LeadsTo}
 use Rattle.core_model.proofs.CallSinks.{devices_with, changes_sink, sinks_in, appended_subtasks}
 
 -- nothing was sent
@@ -50,12 +53,13 @@ received_none meaning task (Some channel) = of (channel.sender == task)
     of true = refl
     of false = refl
 
-module _ {R K S O : Type 0} (lang : Language R K S O) (s : State O R K S) (h : Held R K S) (task subtask channel : ℕ) (at_task : slice_get s.graph.tasks task ≡ Some (role.Sink subtask)) (leads : LeadsTo s.graph task channel) (row : R) where
+module _ {R K S O : Type 0} (lang : Language R K S O) (s : State O R K S) (h : Held R K S) (task subtask input channel : ℕ) (at_task : slice_get s.graph.tasks task ≡ Some (role.Sink subtask)) (leads : input_at s.graph task input ≡ Some channel)
+    (fits : GateFits s.graph h task) (log_each : length h.logs ≡ length s.graph.channels) (row : R) where
   abbrev before : Running R K S
   before = run_of lang.cmp s.graph h
 
   abbrev taken_held : Held R K S
-  taken_held = record h { channels = without_head channel h.channels }
+  taken_held = record_taken task input channel row h
 
   -- what the model's attempt comes to
   abbrev pub put_attempt : Attempt R K S
@@ -79,10 +83,13 @@ module _ {R K S O : Type 0} (lang : Language R K S O) (s : State O R K S) (h : H
       ∙ append-nil (if c == channel then drop 1 (plain (items_at h.channels c)) else plain (items_at h.channels c))
       ∙ sym (taken channel h.channels c))
       refl (λ t. refl) (λ t. refl) (λ c. refl)
-      (λ c. ap (λ (l : List R). if is_some h.coordination.pending then l else []) (no_log lang s h h task channel leads.channel leads.is leads.to row c)))
+      (λ c. ap (λ (l : List R). if is_some h.coordination.pending then l else []) (sym (same_logs lang s h h task input channel leads fits log_each row c))))
       refl (λ t. refl)
 
-  module _ (sink : Sinking) (keeps_expanded : IsExpanded s.graph) (head : slice_get (items_at h.channels channel) 0 ≡ Some (Record row)) where
+  module _ (sink : Sinking) (keeps_expanded : IsExpanded s.graph) (free : IsBlocked task input h → ⊥) (head : slice_get (items_at h.channels channel) 0 ≡ Some (Record row)) where
+    abbrev to : LeadsTo s.graph task channel
+    to = leads_to lang s h h task input channel leads fits log_each
+
     pub put_steps : (new : Ledger) → Appended (lang.spelling row) subtask sink s.ledger new
         → Steps lang s (devices_with lang s keeps_expanded task subtask at_task s.ledger) (devices_with lang s keeps_expanded task subtask at_task new) before put_run
     put_steps new done =
@@ -92,14 +99,7 @@ module _ {R K S O : Type 0} (lang : Language R K S O) (s : State O R K S) (h : H
             kind = SinkTask;
             taken = row;
             is_task = tasks-graph_of s.graph s.operators task ∙ ap (option_map (task_of s.operators)) at_task;
-            takes = (
-              leads.channel,
-              tt,
-              leads.is,
-              leads.to,
-              first_record (items_at h.channels channel) row head,
-              λ none. ap (λ (o : Option Channel). option_map_or (λ c. is_some (copy_at h c.receiver)) o false) leads.is ∙ ap (λ n. is_some (copy_at h n)) leads.to ∙ none,
-            );
+            takes = (to.channel, tt, to.is, to.to, first_record (items_at h.channels channel) row head, free_not_came s.graph h task fits input channel leads free);
             ends = refl;
           };
           at_sink = λ e. changes_sink lang s keeps_expanded task subtask at_task (λ a b. Appends (lang.spelling row) a b) s.ledger new done.call done.others;
@@ -107,8 +107,8 @@ module _ {R K S O : Type 0} (lang : Language R K S O) (s : State O R K S) (h : H
           ends = refl;
         })
 
-module _ {R K S O : Type 0} (lang : Language R K S O) (RecordFits : R → Type 0) (IsGood : O → S → Type 0) (s : State O R K S) (h k : Held R K S) (n task subtask channel : ℕ) (new : Ledger)
-    (keeps : Keeps lang RecordFits IsGood s) (is : s.held ≡ Some h) (at_task : slice_get s.graph.tasks task ≡ Some (role.Sink subtask)) (ordered : IsOrdered new) where
+module _ {R K S O : Type 0} (lang : Language R K S O) (RecordFits : R → Type 0) (IsGood : O → S → Type 0) (s : State O R K S) (h k : Held R K S) (n task subtask input channel : ℕ) (new : Ledger)
+    (keeps : Keeps lang RecordFits IsGood s) (is : s.held ≡ Some h) (at_task : slice_get s.graph.tasks task ≡ Some (role.Sink subtask)) (ordered : IsOrdered new) (leads : input_at s.graph task input ≡ Some channel) where
   appends : (sink : Sinking) (bytes : List ℕ) → slice_get h.tasks task ≡ Some (holds.Sink sink) → new ≡ appended s.ledger sink.open_one bytes → Appended bytes subtask sink s.ledger new
   appends sink bytes was e = append_in s.ledger new subtask sink bytes keeps.ordered ((runs_at lang RecordFits IsGood s keeps h is).sinks task subtask sink at_task was) e
 
@@ -117,23 +117,25 @@ module _ {R K S O : Type 0} (lang : Language R K S O) (RecordFits : R → Type 0
       let there = (runs_at lang RecordFits IsGood s keeps h is).sinks task subtask sink at_task was in
       ap (λ (l : Ledger). l.subtasks) e ∙ appended_subtasks s.ledger sink.open_one bytes there.opened there.opened_at
 
-  puts_out : LeadsTo s.graph task channel → PutsOut task h k channel s.ledger new lang.spelling → KeepsAndGoes lang RecordFits IsGood s (after lang s new (Some k) n)
-  puts_out leads ends =
+  puts_out : PutsOut task input h k channel s.ledger new lang.spelling → KeepsAndGoes lang RecordFits IsGood s (after lang s new (Some k) n)
+  puts_out ends =
       let shape = shape_at lang RecordFits IsGood s keeps h is in
       let runs = runs_at lang RecordFits IsGood s keeps h is in
       let bytes = lang.spelling ends.row in
       let done : Appended bytes subtask ends.sink s.ledger new = appends ends.sink bytes ends.was ends.appends in
-      let after_head : Held R K S = record h { channels = without_head channel h.channels } in
+      let within : task < length s.graph.tasks = slice_get_within s.graph.tasks task (role.Sink subtask) at_task in
+      let gate : GateFits s.graph h task = shape.gate_fits task within in
+      let after_head : Held R K S = record_taken task input channel ends.row h in
       subst (λ (x : Held R K S). KeepsAndGoes lang RecordFits IsGood s (after lang s new (Some x) n)) (sym ends.ends)
       (goes_keeps lang RecordFits IsGood s keeps new (Some after_head) n (same_subtasks ends.sink bytes ends.was ends.appends) ordered
-      (shape_taken lang.cmp RecordFits IsGood s.graph s.operators h shape channel)
-      (runs_moved lang s h after_head runs new (Some after_head) n refl refl (λ t sink at. at)
+      (shape_puts_out lang.cmp RecordFits IsGood s.graph s.operators h shape task input channel ends.row within leads (first_fits lang RecordFits IsGood s h keeps is channel ends.row ends.head))
+      (runs_moved lang s h after_head runs new (Some after_head) n keeps.numbered (λ t acked. logs_stay lang.cmp RecordFits IsGood s.graph s.operators h shape task input channel within leads ends.row t acked) refl refl (λ t sink at. at)
       (sinks_in lang s keeps.expanded task subtask at_task h.tasks s.ledger new ends.sink ends.was done.sink_in done.other_sinks (λ t m sink apart. runs.sinks t m sink)))
-      (goes_one lang s h is new after_head n (put_run lang s h task subtask channel at_task leads ends.row)
-      (put_steps lang s h task subtask channel at_task leads ends.row ends.sink keeps.expanded ends.head new done)
-      (put_held lang s h task subtask channel at_task leads ends.row)))
+      (goes_one lang s h is new after_head n (put_run lang s h task subtask input channel at_task leads gate shape.logs ends.row)
+      (put_steps lang s h task subtask input channel at_task leads gate shape.logs ends.row ends.sink keeps.expanded ends.free ends.head new done)
+      (put_held lang s h task subtask input channel at_task leads gate shape.logs ends.row)))
 
-  fails_to_put_out : FailsToPutOut task h k channel s.ledger new lang.spelling → KeepsAndGoes lang RecordFits IsGood s (after lang s new None n)
+  fails_to_put_out : FailsToPutOut task input h k channel s.ledger new lang.spelling → KeepsAndGoes lang RecordFits IsGood s (after lang s new None n)
   fails_to_put_out ends =
       elim ends.either [
         | inl e ↦ subst (λ (l : Ledger). KeepsAndGoes lang RecordFits IsGood s (after lang s l None n)) (sym e) (keeps_down lang RecordFits IsGood s keeps n)
@@ -148,10 +150,11 @@ module _ {R K S O : Type 0} (lang : Language R K S O) (RecordFits : R → Type 0
   pub keeps_still_with : k ≡ h → new ≡ s.ledger → KeepsAndGoes lang RecordFits IsGood s (after lang s new (Some k) n)
   keeps_still_with same e = subst (λ (l : Ledger). KeepsAndGoes lang RecordFits IsGood s (after lang s l (Some k) n)) (sym e) (keeps_still lang RecordFits IsGood s keeps h is k n same)
 
-  pub keeps_put_out : (input : ℕ) → input_at s.graph task input ≡ Some channel → (result : Result Unit CoreFault) → EndsPutOut task h k channel s.ledger new lang.spelling result
+  pub keeps_put_out : (result : Result Unit CoreFault) → EndsPutOut task input h k channel s.ledger new lang.spelling result
       → KeepsAndGoes lang RecordFits IsGood s (record s { ledger = new; held = left_by result (Some k); faults = n })
-  keeps_put_out input at (Ok u) ends = puts_out (input_leads s.graph task input channel at) ends
-  keeps_put_out input at (Err NotReady) ends = keeps_still_with ends.1 ends.2
-  keeps_put_out input at (Err Memory) ends = keeps_still_with ends.0 ends.1
-  keeps_put_out input at (Err Device) ends = fails_to_put_out ends
-  keeps_put_out input at (Err other) ends = absurd ends
+  keeps_put_out (Ok u) ends = puts_out ends
+  keeps_put_out (Err ChannelBlocked) ends = keeps_still_with ends.1 ends.2
+  keeps_put_out (Err NotReady) ends = keeps_still_with ends.2 ends.3
+  keeps_put_out (Err Memory) ends = keeps_still_with ends.0 ends.1
+  keeps_put_out (Err Device) ends = fails_to_put_out ends
+  keeps_put_out (Err other) ends = absurd ends

@@ -17,7 +17,7 @@ use Rattle.core_model.specs.declared.fault.CoreFault.TheVariants.{NoSuchTask, No
 use Rattle.core_model.proofs.Runs.{read_runs}
 use Rattle.core_model.proofs.ShapeCalls.{shape_reads}
 use Rattle.core_model.proofs.CallSteps.{after, KeepsAndGoes, goes_keeps, goes_one, keeps_still, keeps_down, shape_at, runs_at}
-use Rattle.core_model.proofs.CallRuns.{runs_moved, no_other_sinks}
+use Rattle.core_model.proofs.CallRuns.{logs_same, runs_moved, no_other_sinks}
 
 pub source_no_sink : {K S : Type 0} (offset : ℕ) (sink : Sinking) → ◌≡◌ {A = Holding K S} (holds.Source offset) (holds.Sink sink) → ⊥
 source_no_sink offset sink e = cc
@@ -34,7 +34,7 @@ module _ {R K S O : Type 0} (lang : Language R K S O) (RecordFits : R → Type 0
       let moved = ends.reads in
       goes_keeps lang RecordFits IsGood s keeps s.ledger (Some k) n refl keeps.ordered
       (shape_reads lang.cmp RecordFits IsGood s.graph s.operators h shape lang.meaning task ends.partition ends.offset ends.row k ends.is_source (fits ends.partition ends.offset ends.row ends.is_source ends.at ends.next) moved)
-      (runs_moved lang s h k runs s.ledger (Some k) n (ap (λ (x : Held R K S). x.copies) moved.ends) (ap (λ (x : Held R K S). x.coordination) moved.ends)
+      (runs_moved lang s h k runs s.ledger (Some k) n keeps.numbered (logs_same lang s h k runs s.ledger (Some k) n (ap (λ (x : Held R K S). x.logs) moved.ends)) (ap (λ (x : Held R K S). x.copies) moved.ends) (ap (λ (x : Held R K S). x.coordination) moved.ends)
       (λ t sink at.
       no_other_sinks h.tasks task (holds.Source (ends.offset + 1)) (slice_get_within h.tasks task (holds.Source ends.offset) ends.at) (source_no_sink (ends.offset + 1)) t sink
       (ap (λ (x : Held R K S). slice_get x.tasks t) (sym moved.ends) ∙ at))

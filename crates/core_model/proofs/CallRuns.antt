@@ -1,13 +1,14 @@
 -- What a running job keeps of its devices, when records move and tasks copy.
-use Rattle.std.proofs.Common.{◌≡◌, ◌<◌, inl, inr, Option, Some, None, MatchOption, unwrap_or, slice_get, slice_set, length, ℕ, List, refl, sym, ap, subst, ◌∙◌}
+use Rattle.std.proofs.Common.{◌≡◌, ◌<◌, inl, inr, Option, Some, None, MatchOption, unwrap_or, slice_get, slice_set, length, map, ℕ, true, List, [], refl, sym, ap, subst, ◌∙◌}
 use Rattle.std.proofs.lemmas.Option.{same_Some}
 use Rattle.commit_sink.specs.Ledger.{Ledger}
 use Rattle.commit_sink.specs.Sink.{Sinking}
-use Rattle.coordinator.specs.Coordinator.{Coordination}
+use Rattle.coordinator.specs.Coordinator.{Coordination, has_acked}
 use Rattle.job_graph.specs.declared.role.Role.TheVariants as role
-use Rattle.job_state.specs.Held.{Held, copy_at}
+use Rattle.job_state.specs.Held.{Held, copy_at, logs_of, marked_inputs}
 use Rattle.job_state.specs.declared.holding.Holding.{Holding}
 use Rattle.job_state.specs.declared.holding.Holding.TheVariants as holds
+use Rattle.snapshot_store.specs.Store.{IsNumbered}
 use Rattle.task_part.specs.declared.part.Part.{Part}
 use Rattle.core_model.specs.Keeps.{SinkIn, PendingIn, RunsIn}
 use Rattle.core_model.specs.Language.{Language}
@@ -26,9 +27,17 @@ module _ {R K S O : Type 0} (lang : Language R K S O) (s : State O R K S) (h k :
   abbrev pub SinksIn : Ledger → Held R K S → Type 0
   SinksIn l holder = (task subtask : ℕ) (sink : Sinking) → slice_get s.graph.tasks task ≡ Some (role.Sink subtask) → slice_get holder.tasks task ≡ Some (holds.Sink sink) → SinkIn l subtask sink
 
-  -- records move
-  pub runs_moved : k.copies ≡ h.copies → k.coordination ≡ h.coordination → SameSinks → SinksIn ledger h → RunsIn lang (after lang s ledger held n) k
-  runs_moved copies coordination same sinks = record {
+  -- a task that has acknowledged logs no more
+  abbrev pub LogsStay : Type 0
+  LogsStay = (t : ℕ) → has_acked h.coordination t ≡ true → logs_of s.graph k t ≡ logs_of s.graph h t
+
+  -- nothing is logged
+  pub logs_same : k.logs ≡ h.logs → LogsStay
+  logs_same same = λ t acked. ap (λ (ls : List (List R)). map (λ number. (number, unwrap_or (slice_get ls number) [])) (marked_inputs s.graph t)) same
+
+  -- records and barriers move
+  pub runs_moved : IsNumbered s.stored → LogsStay → k.copies ≡ h.copies → k.coordination ≡ h.coordination → SameSinks → SinksIn ledger h → RunsIn lang (after lang s ledger held n) k
+  runs_moved numbered logs copies coordination same sinks = record {
     pending = pending_stays h.coordination.pending refl;
     last_complete = rw coordination runs.last_complete;
     sinks = λ task subtask sink is at. sinks task subtask sink is (same task sink at);
@@ -42,12 +51,12 @@ module _ {R K S O : Type 0} (lang : Language R K S O) (s : State O R K S) (h k :
       pending_stays None e = subst (λ (p : Option ℕ). MatchOption p (Unit {0}) (PendingIn lang s.graph s.stored k)) (sym (ap (λ (c : Coordination). c.pending) coordination ∙ e)) tt
       pending_stays (Some number) e =
           subst (λ (p : Option ℕ). MatchOption p (Unit {0}) (PendingIn lang s.graph s.stored k)) (sym (ap (λ (c : Coordination). c.pending) coordination ∙ e))
-          (pending_moved lang s.stored h k number (runs_pending lang s h runs number e) copies coordination)
+          (pending_moved lang s.graph s.stored h k number (runs_pending lang s h runs number e) numbered copies coordination logs)
 
   -- a task that is no sink copies
-  pub runs_copied : (task : ℕ) (p : Part R K S) → task < length h.copies → copy_at h task ≡ None → k.copies ≡ slice_set h.copies task (Some p) → k.coordination ≡ h.coordination → SameSinks → SinksIn ledger h
+  pub runs_copied : (task : ℕ) (p : Part R K S) → task < length h.copies → copy_at h task ≡ None → k.copies ≡ slice_set h.copies task (Some p) → k.coordination ≡ h.coordination → k.logs ≡ h.logs → SameSinks → SinksIn ledger h
       → RunsIn lang (after lang s ledger held n) k
-  runs_copied task p within none copies coordination same sinks = record {
+  runs_copied task p within none copies coordination logs same sinks = record {
     pending = pending_stays h.coordination.pending refl;
     last_complete = rw coordination runs.last_complete;
     sinks = λ t subtask sink is at. sinks t subtask sink is (same t sink at);
@@ -61,7 +70,7 @@ module _ {R K S O : Type 0} (lang : Language R K S O) (s : State O R K S) (h k :
       pending_stays None e = subst (λ (q : Option ℕ). MatchOption q (Unit {0}) (PendingIn lang s.graph s.stored k)) (sym (ap (λ (c : Coordination). c.pending) coordination ∙ e)) tt
       pending_stays (Some number) e =
           subst (λ (q : Option ℕ). MatchOption q (Unit {0}) (PendingIn lang s.graph s.stored k)) (sym (ap (λ (c : Coordination). c.pending) coordination ∙ e))
-          (pending_copied lang s.stored h k number (runs_pending lang s h runs number e) task p none copies coordination)
+          (pending_copied lang s.graph s.stored h k number (runs_pending lang s h runs number e) task p none copies coordination logs)
 
       not_before : (t : ℕ) → copy_at k t ≡ None → copy_at h t ≡ None
       not_before t not_yet =

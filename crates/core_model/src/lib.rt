@@ -66,7 +66,7 @@ pub fn operates_keep_engines<R, K, S, O>()
     ensures { (lang : Language R K S O) → OperatesKeepEngines lang }
 {}
 
-/// So does an operator's copy.
+/// So does a barrier that an operator takes.
 pub fn operator_barriers_keep_engines<R, K, S, O>()
     ensures { (lang : Language R K S O) → OperatorBarriersKeepEngines lang }
 {}
@@ -76,7 +76,7 @@ pub fn puts_out_keep_engines<R, K, S, O>()
     ensures { (lang : Language R K S O) → PutsOutKeepEngines lang }
 {}
 
-/// So does a sink's copy.
+/// So does a barrier that a sink takes.
 pub fn sink_barriers_keep_engines<R, K, S, O>()
     ensures { (lang : Language R K S O) → SinkBarriersKeepEngines lang }
 {}
