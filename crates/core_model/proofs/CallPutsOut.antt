@@ -129,7 +129,7 @@ module _ {R K S O : Type 0} (lang : Language R K S O) (RecordFits : R → Type 0
       subst (λ (x : Held R K S). KeepsAndGoes lang RecordFits IsGood s (after lang s new (Some x) n)) (sym ends.ends)
       (goes_keeps lang RecordFits IsGood s keeps new (Some after_head) n (same_subtasks ends.sink bytes ends.was ends.appends) ordered
       (shape_puts_out lang.cmp RecordFits IsGood s.graph s.operators h shape task input channel ends.row within leads (first_fits lang RecordFits IsGood s h keeps is channel ends.row ends.head))
-      (runs_moved lang s h after_head runs new (Some after_head) n keeps.numbered (λ t acked. logs_stay lang.cmp RecordFits IsGood s.graph s.operators h shape task input channel within leads ends.row t acked) refl refl (λ t sink at. at)
+      (runs_moved lang s h after_head runs new (Some after_head) n keeps.numbered (λ t acked. logs_stay s.graph h task gate input channel leads ends.row t acked) refl refl (λ t sink at. at)
       (sinks_in lang s keeps.expanded task subtask at_task h.tasks s.ledger new ends.sink ends.was done.sink_in done.other_sinks (λ t m sink apart. runs.sinks t m sink)))
       (goes_one lang s h is new after_head n (put_run lang s h task subtask input channel at_task leads gate shape.logs ends.row)
       (put_steps lang s h task subtask input channel at_task leads gate shape.logs ends.row ends.sink keeps.expanded ends.free ends.head new done)
