@@ -77,7 +77,7 @@ module _ {R K S O : Type 0} (lang : Language R K S O) (RecordFits : R → Type 0
       let within : task < length s.graph.tasks = slice_get_within s.graph.tasks task (role.Operator number) at_task in
       let logs : LogsStay lang s h k runs s.ledger (Some k) n = λ t acked. ap (λ (x : Held R K S). logs_of s.graph x t) moved.ends ∙ logs_stay s.graph h task (shape.gate_fits task within) input channel leads ends.row t acked in
       goes_keeps lang RecordFits IsGood s keeps s.ledger (Some k) n refl keeps.ordered
-      (shape_operates lang.cmp RecordFits IsGood s.graph s.operators h shape lang.meaning task number input channel operator ends.row key outcome.state outcome.sent k at_task op leads fits (goes_on.state from ends.row from_good fits) (goes_on.sent from ends.row from_good fits) moved)
+      (shape_operates lang.cmp RecordFits IsGood s.graph s.operators h shape lang.meaning task number input channel operator ends.row key outcome.state outcome.sent k at_task op leads ends.head (goes_on.state from ends.row from_good fits) (goes_on.sent from ends.row from_good fits) moved)
       (runs_moved lang s h k runs s.ledger (Some k) n keeps.numbered logs (ap (λ (x : Held R K S). x.copies) moved.ends) (ap (λ (x : Held R K S). x.coordination) moved.ends)
       (λ t sink at.
       no_other_sinks h.tasks task (holds.Operator moved.kept) (slice_get_within h.tasks task (holds.Operator ends.entries) ends.was) (operator_no_sink moved.kept) t sink

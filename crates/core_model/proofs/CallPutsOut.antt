@@ -40,7 +40,6 @@ use Rattle.core_model.proofs.ShapeCalls.{shape_puts_out}
 use Rattle.core_model.proofs.LedgerAppend.{Appended, append_in}
 use Rattle.core_model.proofs.CallSteps.{after, Steps, KeepsAndGoes, goes_keeps, goes_one, goes_down_once, keeps_still, keeps_down, shape_at, runs_at}
 use Rattle.core_model.proofs.CallRuns.{runs_moved}
-use Rattle.core_model.proofs.CallOperates.{first_fits}
 use Rattle.core_model.proofs.CallTasks.{LeadsTo}
 use Rattle.core_model.proofs.CallSinks.{devices_with, changes_sink, sinks_in, appended_subtasks}
 
@@ -128,7 +127,7 @@ module _ {R K S O : Type 0} (lang : Language R K S O) (RecordFits : R → Type 0
       let after_head : Held R K S = record_taken task input channel ends.row h in
       subst (λ (x : Held R K S). KeepsAndGoes lang RecordFits IsGood s (after lang s new (Some x) n)) (sym ends.ends)
       (goes_keeps lang RecordFits IsGood s keeps new (Some after_head) n (same_subtasks ends.sink bytes ends.was ends.appends) ordered
-      (shape_puts_out lang.cmp RecordFits IsGood s.graph s.operators h shape task input channel ends.row within leads (first_fits lang RecordFits IsGood s h keeps is channel ends.row ends.head))
+      (shape_puts_out lang.cmp RecordFits IsGood s.graph s.operators h shape task input channel (role.Sink subtask) ends.row at_task leads ends.head)
       (runs_moved lang s h after_head runs new (Some after_head) n keeps.numbered (λ t acked. logs_stay s.graph h task gate input channel leads ends.row t acked) refl refl (λ t sink at. at)
       (sinks_in lang s keeps.expanded task subtask at_task h.tasks s.ledger new ends.sink ends.was done.sink_in done.other_sinks (λ t m sink apart. runs.sinks t m sink)))
       (goes_one lang s h is new after_head n (put_run lang s h task subtask input channel at_task leads gate shape.logs ends.row)

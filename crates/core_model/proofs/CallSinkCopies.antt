@@ -206,7 +206,7 @@ module _ {R K S O : Type 0} (lang : Language R K S O) (RecordFits : R → Type 0
     copied : new.subtasks ≡ s.ledger.subtasks → IsOrdered new → KeepsAndGoes lang RecordFits IsGood s (after lang s new (Some k) n)
     copied subtasks ordered =
         goes_keeps lang RecordFits IsGood s keeps new (Some k) n subtasks ordered
-        (shape_sink_copied lang.cmp RecordFits IsGood s.graph s.operators h shape_before task subtask input channel checkpoint names sink_now at_task leads barrier.1 barrier.2 copying)
+        (shape_sink_copied lang.cmp RecordFits IsGood s.graph s.operators h shape_before task subtask input channel checkpoint names sink_now at_task leads barrier copying)
         runs_now
         (goes_two lang s h is new k n taken refl goes_copied copy_steps)
 
@@ -258,7 +258,7 @@ module _ {R K S O : Type 0} (lang : Language R K S O) (RecordFits : R → Type 0
       elim ends [
         | inl noted ↦
             subst (λ (l : Ledger). KeepsAndGoes lang RecordFits IsGood s (after lang s l (Some k) n)) (sym noted.1)
-            (notes_barrier lang RecordFits IsGood s h k n task input channel keeps is (slice_get_within s.graph.tasks task (role.Sink subtask) at_task) leads effect noted.0)
+            (notes_barrier lang RecordFits IsGood s h k n task input channel (role.Sink subtask) keeps is at_task leads effect noted.0)
         | inr copied ↦ copies_sink effect copied
       ]
   keeps_sink_barrier (Err ChannelBlocked) ends = still ends.1 ends.2
