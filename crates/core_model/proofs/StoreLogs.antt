@@ -1,31 +1,24 @@
 -- The logs of a part: one for each back-edge into the task, and what they say of each channel.
-use Rattle.std.proofs.Common.{◌≡◌, ◌<◌, ◌+◌, ◌==◌, inl, inr, cond, if◌then◌else◌, All, Option, Some, None, slice_get, slice_index_or, unwrap_or, length, map, ℕ, zero, suc, Bool, true, false, List, [], ◌∷◌, refl, sym, ap, ◌∙◌, arith}
+use Rattle.std.proofs.Common.{◌≡◌, inl, inr, cond, All, Some, slice_get, slice_index_or, unwrap_or, map, ℕ, zero, suc, Bool, true, false, List, [], ◌∷◌, refl, sym, ap, subst, ◌∙◌}
 use Rattle.std.specs.Cmp.{nat_cmp_is}
 use Rattle.std.specs.FinMap.{nat_cmp-IsAntisymmetric}
-use Rattle.std.specs.List.{range_with_len, filter}
-use Rattle.std.specs.Option.{option_map_or}
+use Rattle.std.specs.List.{filter}
 use Rattle.std.specs.Ordering.{nat_cmp, is_eq}
 use Rattle.std.specs.declared.cmp.Ordering.{Ordering}
 use Rattle.std.specs.declared.cmp.Ordering.TheVariants.{Less, Equal, Greater}
 use Rattle.std.proofs.lemmas.Bool.{cases_Bool}
-use Rattle.std.proofs.lemmas.Bool.Decides.{eqb_tells}
-use Rattle.std.proofs.lemmas.List.{map-id}
 use Rattle.std.proofs.lemmas.List.Elements.{All-map}
-use Rattle.std.proofs.lemmas.Option.{none-some, same_Some, slice_get_within}
+use Rattle.std.proofs.lemmas.Option.{none-some, same_Some}
 use Rattle.abs_codec.specs.Entries.{value_at}
 use Rattle.dataflow_model.specs.Graph.{Channel}
-use Rattle.job_graph.specs.Expanded.{Expanded, meets, is_marked, is_input, inputs_of}
+use Rattle.job_graph.specs.Expanded.{Expanded, meets, is_marked, inputs_of}
 use Rattle.job_state.specs.Held.{Held, logged_at, logs_of, marked_inputs}
 use Rattle.task_part.specs.Spelling.{Logs}
 use Rattle.core_model.specs.View.{log_at}
 use Rattle.core_model.specs.Keeps.{LogsFit, LogsSuit}
+use Rattle.core_model.proofs.Gates.{input_of_channel}
 
 -- ---- the inputs of a task
-
-range_at : (a n i : ℕ) → i < n → slice_get (range_with_len a n) i ≡ Some (a + i)
-range_at a zero i within = absurd (omega (arith, within))
-range_at a (suc n) zero within = let same : a ≡ a + 0 = omega arith in ap (λ (k : ℕ). Some k) same
-range_at a (suc n) (suc i) within = let same : a + 1 + i ≡ a + suc i = omega arith in range_at (a + 1) n i (omega (arith, within)) ∙ ap (λ (k : ℕ). Some k) same
 
 module _ {X : Type 0} where
   behind : (b : Bool) (y : X) (zs : List X) (j : ℕ) (x : X) → slice_get zs j ≡ Some x → (k : ℕ) × (slice_get (cond b (y ∷ zs) zs) k ≡ Some x)
@@ -42,10 +35,7 @@ module _ {X : Type 0} where
 
 -- a channel is one of its receiver's inputs
 pub input_of : (graph : Expanded) (task number : ℕ) (channel : Channel) → slice_get graph.channels number ≡ Some channel → channel.receiver ≡ task → (input : ℕ) × (slice_get (inputs_of graph task) input ≡ Some number)
-input_of graph task number channel at receiver =
-    stays (meets (is_input task) graph.channels) (range_with_len 0 (length graph.channels)) number number
-    (range_at 0 (length graph.channels) number (slice_get_within graph.channels number channel at) ∙ ap (λ (k : ℕ). Some k) (let same : 0 + number ≡ number = omega arith in same))
-    (ap (λ (o : Option Channel). option_map_or (is_input task) o false) at ∙ elim (eqb_tells channel.receiver task) [ inl same ↦ same.0 | inr other ↦ absurd (other.1 receiver) ])
+input_of graph task number channel at receiver = subst (λ (t : ℕ). (input : ℕ) × (slice_get (inputs_of graph t) input ≡ Some number)) receiver (input_of_channel graph number channel at)
 
 -- ---- what logs say
 
