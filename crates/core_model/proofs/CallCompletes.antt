@@ -32,7 +32,7 @@ module _ {R K S O : Type 0} (lang : Language R K S O) (RecordFits : R → Type 0
     keeps_completed : IsReady h.coordination → IsNumbered (completed s.stored checkpoint) → KeepsAndGoes lang RecordFits IsGood s (after s (Some (with_completed checkpoint h)) (completed s.stored checkpoint) s.ledger n)
     keeps_completed ready numbered =
         goes_keeps lang RecordFits IsGood s keeps (Some (with_completed checkpoint h)) (completed s.stored checkpoint) s.ledger n refl numbered keeps.formed refl keeps.ordered
-        (shape_completed lang.cmp RecordFits IsGood s.graph s.operators h (shape_of lang RecordFits IsGood s keeps h was) checkpoint)
+        (shape_completed lang.cmp RecordFits IsGood s.graph s.operators h (shape_of lang RecordFits IsGood s keeps h was) checkpoint ready)
         (runs_same lang (record s { stored = completed s.stored checkpoint }) (after s (Some (with_completed checkpoint h)) (completed s.stored checkpoint) s.ledger n) (with_completed checkpoint h) refl refl refl
         (runs_completed lang s h (runs_of lang RecordFits IsGood s keeps h was) checkpoint pending))
         (goes_completed ready)

@@ -67,7 +67,7 @@ module _ {R K S O : Type 0} (lang : Language R K S O) (RecordFits : R → Type 0
     keeps_put : (n : ℕ) → IsNumbered put → KeepsAndGoes lang RecordFits IsGood s (after s (Some (with_acknowledged task h)) put s.ledger n)
     keeps_put n numbered =
         goes_keeps lang RecordFits IsGood s keeps (Some (with_acknowledged task h)) put s.ledger n refl numbered put_formed refl keeps.ordered
-        (shape_acknowledged lang.cmp RecordFits IsGood s.graph s.operators h shape task ?)
+        (shape_acknowledged lang.cmp RecordFits IsGood s.graph s.operators h shape task p next.copied next.closed)
         (runs_same lang (record s { stored = put }) (after s (Some (with_acknowledged task h)) put s.ledger n) (with_acknowledged task h) refl refl refl
         (runs_put lang s h (runs_of lang RecordFits IsGood s keeps h was) checkpoint task bytes p next.pending (subst (λ m. task < m) (sym shape.acked) within) next.copied reads))
         (goes_put n)

@@ -53,7 +53,7 @@ module _ {R K S O : Type 0} (lang : Language R K S O) (RecordFits : R → Type 0
     keeps_started : IsNumbered (reserved tidy) → KeepsAndGoes lang RecordFits IsGood s (after s (Some (with_started s.stored.next h)) (reserved tidy) s.ledger n)
     keeps_started numbered =
         goes_keeps lang RecordFits IsGood s keeps (Some (with_started s.stored.next h)) (reserved tidy) s.ledger n (tidied_tasks h.coordination.last_complete s.stored) numbered (λ fresh. tidy_formed fresh) refl keeps.ordered
-        (shape_started lang.cmp RecordFits IsGood s.graph s.operators h (shape_of lang RecordFits IsGood s keeps h was) s.stored.next)
+        (shape_started lang.cmp RecordFits IsGood s.graph s.operators h (shape_of lang RecordFits IsGood s keeps h was) s.stored.next none_pending)
         (runs_same lang (record s { stored = reserved tidy }) (after s (Some (with_started s.stored.next h)) (reserved tidy) s.ledger n) (with_started s.stored.next h) refl refl refl
         (runs_started lang s h (runs_of lang RecordFits IsGood s keeps h was) none_pending keeps.numbered))
         goes_started
