@@ -1,5 +1,5 @@
 -- A task takes the barrier; an operator that copies at it copies its map, and sends the barrier.
-use Rattle.std.proofs.Common.{◌≡◌, inl, inr, Some, Result, Ok, Err, slice_get, ℕ, true, false, [], refl, sym, ap, subst, ◌∙◌}
+use Rattle.std.proofs.Common.{◌≡◌, inl, inr, Some, Result, Ok, Err, slice_get, ℕ, true, [], refl, sym, ap, subst, ◌∙◌}
 use Rattle.std.proofs.lemmas.Option.{slice_get_within}
 use Rattle.alignment.specs.Table.{effect_of}
 use Rattle.alignment.specs.declared.input.Effect.{Effect}
@@ -16,7 +16,8 @@ use Rattle.core_model.specs.declared.fault.CoreFault.TheVariants.{NotReady, Chan
 use Rattle.core_model.proofs.Gates.{copy_is_first}
 use Rattle.core_model.proofs.Runs.{between, barrier_runs, operator_copy_runs}
 use Rattle.core_model.proofs.ShapeCalls.{shape_barrier_taken, shape_copies_operator}
-use Rattle.core_model.proofs.CallSteps.{after, KeepsAndGoes, goes_keeps, goes_one, goes_two, keeps_still, shape_at, runs_at}
+use Rattle.core_model.proofs.CallGoes.{KeepsAndGoes, shape_of, runs_of}
+use Rattle.core_model.proofs.CallSteps.{after, goes_keeps, goes_one, goes_two, keeps_still}
 use Rattle.core_model.proofs.CallRuns.{logs_same, runs_moved, runs_copied}
 use Rattle.core_model.proofs.CallInjects.{copy_within}
 
@@ -26,8 +27,8 @@ module _ {R K S O : Type 0} (lang : Language R K S O) (RecordFits : R → Type 0
   -- the task takes the barrier, and does no more
   pub notes_barrier : (effect : Effect) → NotesBarrier task input h k channel effect → KeepsAndGoes lang RecordFits IsGood s (after lang s s.ledger (Some k) n)
   notes_barrier effect ends =
-      let shape = shape_at lang RecordFits IsGood s keeps h is in
-      let runs = runs_at lang RecordFits IsGood s keeps h is in
+      let shape = shape_of lang RecordFits IsGood s keeps h is in
+      let runs = runs_of lang RecordFits IsGood s keeps h is in
       let gate : GateFits s.graph h task = shape.gate_fits task (slice_get_within s.graph.tasks task r at_task) in
       let taken : Held R K S = barrier_taken task input channel ends.checkpoint h in
       subst (λ (x : Held R K S). KeepsAndGoes lang RecordFits IsGood s (after lang s s.ledger (Some x) n)) (sym ends.ends)
@@ -41,8 +42,8 @@ module _ {R K S O : Type 0} (lang : Language R K S O) (RecordFits : R → Type 0
     (keeps : Keeps lang RecordFits IsGood s) (is : s.held ≡ Some h) (at_task : slice_get s.graph.tasks task ≡ Some (role.Operator number)) (op : slice_get s.operators number ≡ Some operator) (leads : input_at s.graph task input ≡ Some channel) where
   copies_map : (effect : Effect) → CopiesMap s.graph task h k input channel effect → KeepsAndGoes lang RecordFits IsGood s (after lang s s.ledger (Some k) n)
   copies_map effect ends =
-      let shape = shape_at lang RecordFits IsGood s keeps h is in
-      let runs = runs_at lang RecordFits IsGood s keeps h is in
+      let shape = shape_of lang RecordFits IsGood s keeps h is in
+      let runs = runs_of lang RecordFits IsGood s keeps h is in
       let within = copy_within lang RecordFits IsGood s h k n task keeps is (role.Operator number) at_task in
       let gate : GateFits s.graph h task = shape.gate_fits task (slice_get_within s.graph.tasks task (role.Operator number) at_task) in
       let copying : is_copy (effect_of (gate_at h task) input) ≡ true = ap is_copy (sym ends.brings) ∙ ends.copies in

@@ -15,19 +15,20 @@ use Rattle.core_model.specs.declared.fault.CoreFault.{CoreFault}
 use Rattle.core_model.specs.declared.fault.CoreFault.TheVariants.{NoSuchTask, NoCheckpoint, NotReady, Memory}
 use Rattle.core_model.proofs.Runs.{inject_runs}
 use Rattle.core_model.proofs.ShapeCalls.{shape_copies_source}
-use Rattle.core_model.proofs.CallSteps.{after, KeepsAndGoes, goes_keeps, goes_one, keeps_still, shape_at, runs_at}
+use Rattle.core_model.proofs.CallGoes.{KeepsAndGoes, shape_of, runs_of}
+use Rattle.core_model.proofs.CallSteps.{after, goes_keeps, goes_one, keeps_still}
 use Rattle.core_model.proofs.CallRuns.{runs_copied}
 
 module _ {R K S O : Type 0} (lang : Language R K S O) (RecordFits : R → Type 0) (IsGood : O → S → Type 0) (s : State O R K S) (h k : Held R K S) (n task : ℕ) (keeps : Keeps lang RecordFits IsGood s) (is : s.held ≡ Some h) where
   -- a task has a place for its copy
   pub copy_within : (r : Role) → slice_get s.graph.tasks task ≡ Some r → task < length h.copies
-  copy_within r at = subst (λ m. task < m) (sym (shape_at lang RecordFits IsGood s keeps h is).copies) (slice_get_within s.graph.tasks task r at)
+  copy_within r at = subst (λ m. task < m) (sym (shape_of lang RecordFits IsGood s keeps h is).copies) (slice_get_within s.graph.tasks task r at)
 
   injects : (partition offset checkpoint : ℕ) → slice_get s.graph.tasks task ≡ Some (role.Source partition) → h.coordination.pending ≡ Some checkpoint → copy_at h task ≡ None → slice_get h.tasks task ≡ Some (holds.Source offset)
       → CopiesSource s.graph task offset checkpoint h k → KeepsAndGoes lang RecordFits IsGood s (after lang s s.ledger (Some k) n)
   injects partition offset checkpoint at_task pending none was copies =
-      let shape = shape_at lang RecordFits IsGood s keeps h is in
-      let runs = runs_at lang RecordFits IsGood s keeps h is in
+      let shape = shape_of lang RecordFits IsGood s keeps h is in
+      let runs = runs_of lang RecordFits IsGood s keeps h is in
       let within = copy_within (role.Source partition) at_task in
       goes_keeps lang RecordFits IsGood s keeps s.ledger (Some k) n refl keeps.ordered
       (shape_copies_source lang.cmp RecordFits IsGood s.graph s.operators h shape task partition offset checkpoint k keeps.expanded at_task pending copies)

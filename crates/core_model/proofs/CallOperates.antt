@@ -21,7 +21,8 @@ use Rattle.core_model.specs.declared.fault.CoreFault.{CoreFault}
 use Rattle.core_model.specs.declared.fault.CoreFault.TheVariants.{NotReady, ChannelBlocked, Memory}
 use Rattle.core_model.proofs.Runs.{operate_runs}
 use Rattle.core_model.proofs.ShapeCalls.{shape_operates}
-use Rattle.core_model.proofs.CallSteps.{after, KeepsAndGoes, goes_keeps, goes_one, keeps_still, shape_at, runs_at}
+use Rattle.core_model.proofs.CallGoes.{KeepsAndGoes, shape_of, runs_of}
+use Rattle.core_model.proofs.CallSteps.{after, goes_keeps, goes_one, keeps_still}
 use Rattle.core_model.proofs.CallRuns.{LogsStay, runs_moved, no_other_sinks}
 use Rattle.core_model.proofs.Gates.{logs_stay}
 use Rattle.core_model.proofs.LedgerSinks.{first_is}
@@ -46,10 +47,10 @@ goes_on_of lang RecordFits StateFits Suits fresh state sent operator = record {
 }
 
 -- the record that stands first in a channel fits
-pub first_fits : {R K S O : Type 0} (lang : Language R K S O) (RecordFits : R → Type 0) (IsGood : O → S → Type 0) (s : State O R K S) (h : Held R K S) → Keeps lang RecordFits IsGood s → s.held ≡ Some h → (channel : ℕ) (row : R)
+first_fits : {R K S O : Type 0} (lang : Language R K S O) (RecordFits : R → Type 0) (IsGood : O → S → Type 0) (s : State O R K S) (h : Held R K S) → Keeps lang RecordFits IsGood s → s.held ≡ Some h → (channel : ℕ) (row : R)
     → slice_get (items_at h.channels channel) 0 ≡ Some (Record row) → RecordFits row
 first_fits lang RecordFits IsGood s h keeps is channel row head =
-    let fit = (shape_at lang RecordFits IsGood s keeps h is).fit channel in
+    let fit = (shape_of lang RecordFits IsGood s keeps h is).fit channel in
     All-head (IfRecord RecordFits) (Record row) _ (subst (All (IfRecord RecordFits)) (first_is (items_at h.channels channel) (Record row) head) fit)
 
 module _ {R K S O : Type 0} (lang : Language R K S O) (RecordFits : R → Type 0) (IsGood : O → S → Type 0) (s : State O R K S) (h k : Held R K S) (n task number input channel : ℕ) (operator : O)
@@ -62,12 +63,12 @@ module _ {R K S O : Type 0} (lang : Language R K S O) (RecordFits : R → Type 0
     where
       of : (o : Option S) → value_at lang.cmp entries key ≡ o → IsGood operator (state_under (Some key) (lang.meaning.fresh operator) (value_at lang.cmp entries))
       of None e = rw e goes_on.fresh
-      of (Some state) e = rw e ((shape_at lang RecordFits IsGood s keeps h is).good task number operator entries key state at_task op was e)
+      of (Some state) e = rw e ((shape_of lang RecordFits IsGood s keeps h is).good task number operator entries key state at_task op was e)
 
   operates_next : OperatesNext s.graph task h k input channel lang operator → KeepsAndGoes lang RecordFits IsGood s (after lang s s.ledger (Some k) n)
   operates_next ends =
-      let shape = shape_at lang RecordFits IsGood s keeps h is in
-      let runs = runs_at lang RecordFits IsGood s keeps h is in
+      let shape = shape_of lang RecordFits IsGood s keeps h is in
+      let runs = runs_of lang RecordFits IsGood s keeps h is in
       let key = lang.meaning.key operator ends.row in
       let from = state_under key (lang.meaning.fresh operator) (value_at lang.cmp ends.entries) in
       let outcome = lang.meaning.apply operator from ends.row in

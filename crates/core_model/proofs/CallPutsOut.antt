@@ -38,7 +38,8 @@ use Rattle.core_model.proofs.Gates.{free_not_came, logs_stay}
 use Rattle.core_model.proofs.Moves.{leads_to, same_logs}
 use Rattle.core_model.proofs.ShapeCalls.{shape_puts_out}
 use Rattle.core_model.proofs.LedgerAppend.{Appended, append_in}
-use Rattle.core_model.proofs.CallSteps.{after, Steps, KeepsAndGoes, goes_keeps, goes_one, goes_down_once, keeps_still, keeps_down, shape_at, runs_at}
+use Rattle.core_model.proofs.CallGoes.{KeepsAndGoes, shape_of, runs_of}
+use Rattle.core_model.proofs.CallSteps.{after, Steps, goes_keeps, goes_one, goes_down_once, keeps_still, keeps_down}
 use Rattle.core_model.proofs.CallRuns.{runs_moved}
 use Rattle.core_model.proofs.CallTasks.{LeadsTo}
 use Rattle.core_model.proofs.CallSinks.{devices_with, changes_sink, sinks_in, appended_subtasks}
@@ -109,17 +110,17 @@ module _ {R K S O : Type 0} (lang : Language R K S O) (s : State O R K S) (h : H
 module _ {R K S O : Type 0} (lang : Language R K S O) (RecordFits : R → Type 0) (IsGood : O → S → Type 0) (s : State O R K S) (h k : Held R K S) (n task subtask input channel : ℕ) (new : Ledger)
     (keeps : Keeps lang RecordFits IsGood s) (is : s.held ≡ Some h) (at_task : slice_get s.graph.tasks task ≡ Some (role.Sink subtask)) (ordered : IsOrdered new) (leads : input_at s.graph task input ≡ Some channel) where
   appends : (sink : Sinking) (bytes : List ℕ) → slice_get h.tasks task ≡ Some (holds.Sink sink) → new ≡ appended s.ledger sink.open_one bytes → Appended bytes subtask sink s.ledger new
-  appends sink bytes was e = append_in s.ledger new subtask sink bytes keeps.ordered ((runs_at lang RecordFits IsGood s keeps h is).sinks task subtask sink at_task was) e
+  appends sink bytes was e = append_in s.ledger new subtask sink bytes keeps.ordered ((runs_of lang RecordFits IsGood s keeps h is).sinks task subtask sink at_task was) e
 
   same_subtasks : (sink : Sinking) (bytes : List ℕ) → slice_get h.tasks task ≡ Some (holds.Sink sink) → new ≡ appended s.ledger sink.open_one bytes → new.subtasks ≡ s.ledger.subtasks
   same_subtasks sink bytes was e =
-      let there = (runs_at lang RecordFits IsGood s keeps h is).sinks task subtask sink at_task was in
+      let there = (runs_of lang RecordFits IsGood s keeps h is).sinks task subtask sink at_task was in
       ap (λ (l : Ledger). l.subtasks) e ∙ appended_subtasks s.ledger sink.open_one bytes there.opened there.opened_at
 
   puts_out : PutsOut task input h k channel s.ledger new lang.spelling → KeepsAndGoes lang RecordFits IsGood s (after lang s new (Some k) n)
   puts_out ends =
-      let shape = shape_at lang RecordFits IsGood s keeps h is in
-      let runs = runs_at lang RecordFits IsGood s keeps h is in
+      let shape = shape_of lang RecordFits IsGood s keeps h is in
+      let runs = runs_of lang RecordFits IsGood s keeps h is in
       let bytes = lang.spelling ends.row in
       let done : Appended bytes subtask ends.sink s.ledger new = appends ends.sink bytes ends.was ends.appends in
       let within : task < length s.graph.tasks = slice_get_within s.graph.tasks task (role.Sink subtask) at_task in

@@ -16,7 +16,8 @@ use Rattle.core_model.specs.declared.fault.CoreFault.{CoreFault}
 use Rattle.core_model.specs.declared.fault.CoreFault.TheVariants.{NoSuchTask, NotReady, Memory, Device}
 use Rattle.core_model.proofs.Runs.{read_runs}
 use Rattle.core_model.proofs.ShapeCalls.{shape_reads}
-use Rattle.core_model.proofs.CallSteps.{after, KeepsAndGoes, goes_keeps, goes_one, keeps_still, keeps_down, shape_at, runs_at}
+use Rattle.core_model.proofs.CallGoes.{KeepsAndGoes, shape_of, runs_of}
+use Rattle.core_model.proofs.CallSteps.{after, goes_keeps, goes_one, keeps_still, keeps_down}
 use Rattle.core_model.proofs.CallRuns.{logs_same, runs_moved, no_other_sinks}
 
 pub source_no_sink : {K S : Type 0} (offset : ℕ) (sink : Sinking) → ◌≡◌ {A = Holding K S} (holds.Source offset) (holds.Sink sink) → ⊥
@@ -29,8 +30,8 @@ module _ {R K S O : Type 0} (lang : Language R K S O) (RecordFits : R → Type 0
 
   reads_next : NextFits → ReadsNext s.graph task h k lang s.partitions → KeepsAndGoes lang RecordFits IsGood s (after lang s s.ledger (Some k) n)
   reads_next fits ends =
-      let shape = shape_at lang RecordFits IsGood s keeps h is in
-      let runs = runs_at lang RecordFits IsGood s keeps h is in
+      let shape = shape_of lang RecordFits IsGood s keeps h is in
+      let runs = runs_of lang RecordFits IsGood s keeps h is in
       let moved = ends.reads in
       goes_keeps lang RecordFits IsGood s keeps s.ledger (Some k) n refl keeps.ordered
       (shape_reads lang.cmp RecordFits IsGood s.graph s.operators h shape lang.meaning task ends.partition ends.offset ends.row k ends.is_source (fits ends.partition ends.offset ends.row ends.is_source ends.at ends.next) moved)

@@ -26,7 +26,7 @@ use Rattle.job_state.specs.declared.holding.Holding.TheVariants as holds
 use Rattle.snapshot_store.specs.Store.{is_complete}
 use Rattle.task_part.specs.declared.part.Part.{Part}
 use Rattle.task_part.specs.declared.part.Part.TheVariants as part
-use Rattle.core_model.specs.Calls.{EndsSinkBarrier, NotesBarrier, CopiesSink, FailsToCopySink, IsBarrierNext, input_at, is_copy, left_by}
+use Rattle.core_model.specs.Calls.{EndsSinkBarrier, CopiesSink, FailsToCopySink, IsBarrierNext, input_at, is_copy, left_by}
 use Rattle.core_model.specs.Keeps.{Keeps, GateFits, PendingIn, NoneAfter, RunsIn, Shape}
 use Rattle.core_model.specs.Language.{Language}
 use Rattle.core_model.specs.State.{State}
@@ -43,7 +43,8 @@ use Rattle.core_model.proofs.LedgerCopy.{Copied, copy_in}
 use Rattle.core_model.proofs.StoreView.{is_on-line_of}
 use Rattle.core_model.proofs.StorePut.{pending_incomplete}
 use Rattle.core_model.proofs.StoreRuns.{pending_copied, runs_pending}
-use Rattle.core_model.proofs.CallSteps.{after, Steps, KeepsAndGoes, goes_keeps, goes_two, goes_down_once, goes_down_twice, keeps_down, shape_at, runs_at}
+use Rattle.core_model.proofs.CallGoes.{KeepsAndGoes, shape_of, runs_of}
+use Rattle.core_model.proofs.CallSteps.{after, Steps, goes_keeps, goes_two, goes_down_once, goes_down_twice, keeps_down}
 use Rattle.core_model.proofs.CallSinks.{devices_with, others_same, changes_sink, sinks_in, changed_subtasks, same_sink}
 use Rattle.core_model.proofs.CallBarriers.{notes_barrier}
 use Rattle.core_model.proofs.CallInjects.{copy_within}
@@ -71,7 +72,7 @@ module _ {R K S O : Type 0} (lang : Language R K S O) (RecordFits : R → Type 0
   k = sink_copied task input channel checkpoint names sink_now h
 
   shape_before : Shape lang.cmp RecordFits IsGood s.graph s.operators h
-  shape_before = shape_at lang RecordFits IsGood s keeps h is
+  shape_before = shape_of lang RecordFits IsGood s keeps h is
 
   gate : GateFits s.graph h task
   gate = shape_before.gate_fits task (slice_get_within s.graph.tasks task (role.Sink subtask) at_task)
@@ -81,7 +82,7 @@ module _ {R K S O : Type 0} (lang : Language R K S O) (RecordFits : R → Type 0
   not_copied = copy_is_first s.graph h task gate input channel leads checkpoint barrier.1 barrier.2 copying
 
   runs_before : RunsIn lang s h
-  runs_before = runs_at lang RecordFits IsGood s keeps h is
+  runs_before = runs_of lang RecordFits IsGood s keeps h is
 
   pending_in : PendingIn lang s.graph s.stored h checkpoint
   pending_in = runs_pending lang s h runs_before checkpoint barrier.1

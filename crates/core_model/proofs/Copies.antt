@@ -4,16 +4,15 @@ use Rattle.std.proofs.lemmas.Bool.Decides.{eqb_tells}
 use Rattle.std.proofs.lemmas.Option.{slice_get_within, same_Some}
 use Rattle.std.proofs.lemmas.List.{append-nil}
 use Rattle.alignment.specs.Table.{effect_of}
-use Rattle.channels.specs.declared.item.Item.TheVariants.{Barrier}
 use Rattle.commit_sink.specs.Sink.{Sinking}
 use Rattle.checkpoint_model.specs.Attempt as attempt
 use Rattle.checkpoint_model.specs.Attempt.{Attempt, TakesBarrier, Copies, task_copied}
 use Rattle.checkpoint_model.proofs.Seen.{same_attempt}
 use Rattle.dataflow_model.specs.Graph.{Channel}
-use Rattle.job_graph.specs.Expanded.{IsExpanded, IsChannel, is_source, is_sink, is_marked, meets}
+use Rattle.job_graph.specs.Expanded.{IsExpanded, IsChannel, is_source, is_sink}
 use Rattle.job_graph.specs.declared.role.Role.TheVariants as role
 use Rattle.job_state.specs.Held.{Held, copy_at, came_at, gate_at, logged_at, barrier_taken, CopiesSource, CopiesOperator, sink_copied}
-use Rattle.job_state.specs.Sending.{items_at, barrier_into, without_head}
+use Rattle.job_state.specs.Sending.{items_at, barrier_into}
 use Rattle.job_state.specs.declared.holding.Holding.TheVariants as holds
 use Rattle.task_part.specs.declared.part.Part.{Part}
 use Rattle.task_part.specs.declared.part.Part.TheVariants as part

@@ -8,7 +8,7 @@ use Rattle.abs_codec.specs.Entries.{value_at}
 use Rattle.alignment.specs.Table.{is_logged}
 use Rattle.channels.specs.declared.item.Item.TheVariants.{Record}
 use Rattle.checkpoint_model.specs.Attempt as attempt
-use Rattle.checkpoint_model.specs.Attempt.{Attempt, Moves, moved, logs_after, TakesFirst}
+use Rattle.checkpoint_model.specs.Attempt.{Attempt, Moves, moved, logs_after}
 use Rattle.checkpoint_model.proofs.Seen.{same_attempt}
 use Rattle.dataflow_model.specs.Graph.{Outcome, SourceTask, OperatorTask}
 use Rattle.dataflow_model.specs.Machine.{TaskState, Effect, Read, Work, handled, received, kept_under, state_under}
