@@ -1,15 +1,14 @@
 -- The part that a task puts is its copy, with its logs.
-use Rattle.std.proofs.Common.{◌≡◌, Option, Some, is_some, slice_get, ℕ, true, false, [], refl, sym, ap, ap₂, subst, ◌∙◌, Ordering}
+use Rattle.std.proofs.Common.{◌≡◌, Option, Some, is_some, slice_get, ℕ, true, false, refl, sym, ap, ap₂, subst, ◌∙◌, Ordering}
 use Rattle.std.proofs.lemmas.Bool.{false≢true}
 use Rattle.std.proofs.lemmas.Option.{same_Some}
 use Rattle.alignment.specs.declared.input.Phase.{Phase}
 use Rattle.alignment.specs.declared.input.Phase.TheVariants.{AtRest}
-use Rattle.dataflow_model.specs.Graph.{Channel}
 use Rattle.checkpoint_model.specs.Engine.{IsPartOf}
 use Rattle.job_graph.specs.Expanded.{Expanded, IsExpanded, is_source, inputs_of}
 use Rattle.job_graph.specs.declared.role.Role.{Role}
 use Rattle.job_graph.specs.declared.role.Role.TheVariants as role
-use Rattle.job_state.specs.Held.{Held, copy_at, came_at, gate_at, logged_at, logs_of, with_logs}
+use Rattle.job_state.specs.Held.{Held, copy_at, came_at, gate_at, logs_of, with_logs}
 use Rattle.task_part.specs.Spelling.{Logs}
 use Rattle.task_part.specs.declared.part.Part.{Part}
 use Rattle.task_part.specs.declared.part.Part.TheVariants as part

@@ -1,11 +1,9 @@
 -- The calls that change the store are steps of the model's engine.
 use Rattle.std.proofs.Common.{◌≡◌, ◌≤◌, ◌&&◌, if◌then◌else◌, Option, Some, None, Ok, is_some, slice_get, unwrap_or, replicate, length, ℕ, zero, suc, Bool, true, false, List, [], refl, sym, ap, subst, ◌∙◌, Ordering}
-use Rattle.std.specs.Option.{option_map_or}
 use Rattle.std.proofs.lemmas.List.{length-map}
 use mathlib.Core.Path.{fun_ext}
 use Rattle.abs_codec.specs.Reading.{whole_of}
 use Rattle.checkpoint_model.specs.Attempt as attempt
-use Rattle.checkpoint_model.specs.Attempt.{Attempt}
 use Rattle.checkpoint_model.specs.Durable as durable
 use Rattle.checkpoint_model.specs.Durable.{Devices, SinkTransactions, HasParts}
 use Rattle.checkpoint_model.specs.Engine.{Running}
@@ -14,7 +12,6 @@ use Rattle.checkpoint_model.specs.Held.{held_run}
 use Rattle.checkpoint_model.specs.Seen.{without_output}
 use Rattle.checkpoint_model.proofs.Seen.{same_attempt}
 use Rattle.coordinator.specs.Coordinator.{IsReady}
-use Rattle.dataflow_model.specs.Graph.{Channel}
 use Rattle.dataflow_model.specs.Machine.{fresh_task}
 use Rattle.job_graph.specs.Expanded.{Expanded, IsExpanded}
 use Rattle.job_graph.specs.PlainGraph.{task_of}
