@@ -35,13 +35,13 @@ use Rattle.core_model.specs.declared.fault.CoreFault.{CoreFault}
 use Rattle.core_model.specs.declared.fault.CoreFault.TheVariants.{NotReady, ChannelBlocked, Memory, Device}
 use Rattle.core_model.proofs.Items.{plain, taken, first_record}
 use Rattle.core_model.proofs.Gates.{free_not_came, logs_stay}
-use Rattle.core_model.proofs.Moves.{leads_to, same_logs}
+use Rattle.core_model.proofs.Moves.{same_logs}
 use Rattle.core_model.proofs.ShapeCalls.{shape_puts_out}
 use Rattle.core_model.proofs.LedgerAppend.{Appended, append_in}
 use Rattle.core_model.proofs.CallGoes.{KeepsAndGoes, shape_of, runs_of}
 use Rattle.core_model.proofs.CallSteps.{after, Steps, goes_keeps, goes_one, goes_down_once, keeps_still, keeps_down}
 use Rattle.core_model.proofs.CallRuns.{runs_moved}
-use Rattle.core_model.proofs.CallTasks.{LeadsTo}
+use Rattle.core_model.proofs.CallTasks.{LeadsTo, input_leads}
 use Rattle.core_model.proofs.CallSinks.{devices_with, changes_sink, sinks_in, appended_subtasks}
 
 -- nothing was sent
@@ -88,7 +88,7 @@ module _ {R K S O : Type 0} (lang : Language R K S O) (s : State O R K S) (h : H
 
   module _ (sink : Sinking) (keeps_expanded : IsExpanded s.graph) (free : IsBlocked task input h → ⊥) (head : slice_get (items_at h.channels channel) 0 ≡ Some (Record row)) where
     abbrev to : LeadsTo s.graph task channel
-    to = leads_to lang s h h task input channel leads fits log_each
+    to = input_leads s.graph task input channel leads
 
     pub put_steps : (new : Ledger) → Appended (lang.spelling row) subtask sink s.ledger new
         → Steps lang s (devices_with lang s keeps_expanded task subtask at_task s.ledger) (devices_with lang s keeps_expanded task subtask at_task new) before put_run

@@ -93,10 +93,10 @@ module _ {R K S O : Type 0} (lang : Language R K S O) (s : State O R K S) (h : H
 
   module _ (k : Held R K S) (task input channel checkpoint : ℕ) (leads : input_at s.graph task input ≡ Some channel) (fits : GateFits s.graph h task) (came_each : length h.came ≡ length s.graph.channels) (barrier : IsBarrierNext h channel checkpoint) where
     -- what the task holds once it has taken the barrier
-    abbrev pub taken_held : Held R K S
+    abbrev taken_held : Held R K S
     taken_held = barrier_taken task input channel checkpoint h
 
-    abbrev pub middle : Attempt R K S
+    abbrev middle : Attempt R K S
     middle = attempt_of lang.cmp taken_held
 
     within_came : channel < length h.came

@@ -84,11 +84,10 @@ module _ {R K S O : Type 0} (lang : Language R K S O) (s : State O R K S) (h k :
 
   -- a task that takes a record from an input, which is this channel
   module _ (task input channel : ℕ) (leads : input_at s.graph task input ≡ Some channel) (fits : GateFits s.graph h task) (log_each : length h.logs ≡ length s.graph.channels) where
-    pub leads_to : LeadsTo s.graph task channel
-    leads_to = input_leads s.graph task input channel leads
-
     within_logs : channel < length h.logs
-    within_logs = subst (λ (m : ℕ). channel < m) (sym log_each) (slice_get_within s.graph.channels channel leads_to.channel leads_to.is)
+    within_logs =
+        let to : LeadsTo s.graph task channel = input_leads s.graph task input channel leads in
+        subst (λ (m : ℕ). channel < m) (sym log_each) (slice_get_within s.graph.channels channel to.channel to.is)
 
     -- the logs are the model's
     pub same_logs : (row : R) (c : ℕ) → logged_at (record_taken task input channel row h) c ≡ logs_after (Work task channel) row before c
@@ -120,7 +119,7 @@ module _ {R K S O : Type 0} (lang : Language R K S O) (s : State O R K S) (h k :
       effect = handled lang.meaning (OperatorTask operator) (before.tasks task) row
 
       abbrev to : LeadsTo s.graph task channel
-      to = leads_to task input channel leads fits log_each
+      to = input_leads s.graph task input channel leads
 
       unfoldable pub operates_move : Moves (job_of lang s) (Work task channel) before now
       operates_move = record {

@@ -17,7 +17,7 @@ use Rattle.job_graph.specs.declared.role.Role.{Role}
 use Rattle.job_graph.specs.declared.role.Role.TheVariants as role
 use Rattle.job_graph.specs.PlainGraph.{task_of, operator_task}
 use Rattle.job_graph.proofs.PlainTasks.{tasks-graph_of}
-use Rattle.job_state.specs.Held.{Held, copy_at, gate_at, Reads, Operates, CopiesSource, CopiesOperator}
+use Rattle.job_state.specs.Held.{Held, copy_at, gate_at, barrier_taken, Reads, Operates, CopiesSource, CopiesOperator}
 use Rattle.job_state.specs.Sending.{items_at}
 use Rattle.job_state.specs.declared.holding.Holding.TheVariants as holds
 use Rattle.source_log.specs.Partitions.{records_at}
@@ -30,7 +30,7 @@ use Rattle.core_model.specs.State.{State}
 use Rattle.core_model.specs.View.{named_by, attempt_of, run_of, job_of, is_logged_in, devices_of}
 use Rattle.core_model.proofs.Lists.{get_set_other}
 use Rattle.core_model.proofs.Moves.{reads_move, operates_move}
-use Rattle.core_model.proofs.Copies.{source_copies, taken_held, takes_barrier, operator_copies}
+use Rattle.core_model.proofs.Copies.{source_copies, takes_barrier, operator_copies}
 
 source_is_none : {O : Type 0} (p : ℕ) → ◌≡◌ {A = Task O} (SourceTask p) SinkTask → ⊥
 source_is_none p e = cc
@@ -115,7 +115,7 @@ module _ {R K S O : Type 0} (lang : Language R K S O) (s : State O R K S) (h k :
   module _ (task input channel checkpoint : ℕ) (leads : input_at s.graph task input ≡ Some channel) (fits : GateFits s.graph h task) (came_each : length h.came ≡ length s.graph.channels) (barrier : IsBarrierNext h channel checkpoint) where
     -- the barrier is taken
     abbrev pub between : Running R K S
-    between = run_of lang.cmp s.graph (taken_held lang s h k task input channel checkpoint leads fits came_each barrier)
+    between = run_of lang.cmp s.graph (barrier_taken task input channel checkpoint h)
 
     pub barrier_runs : StepsAlone before between
     barrier_runs = TakesABarrier channel (record { attempt = between.attempt; takes = takes_barrier lang s h k task input channel checkpoint leads fits came_each barrier; same = refl; ends = refl })
