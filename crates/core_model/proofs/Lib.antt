@@ -64,3 +64,4 @@ pub mod RestartSteps
 pub mod RestartCut
 pub mod PlainGood
 pub mod RestartParts
+pub mod Sounds

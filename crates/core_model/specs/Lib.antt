@@ -11,3 +11,4 @@ pub mod Commits
 pub mod CheckpointLaws
 pub mod Restart
 pub mod RestartLaws
+pub mod Sound

@@ -1,0 +1,78 @@
+-- A sound engine keeps what a fresh one keeps.
+use Rattle.std.proofs.Common.{◌≡◌, MatchOption, Option, Some, None, ℕ, true, refl}
+use Rattle.job_state.specs.Held.{Held}
+use Rattle.core_model.specs.Keeps.{Keeps, Shape, RunsIn}
+use Rattle.core_model.specs.Language.{Language}
+use Rattle.core_model.specs.Sound.{IsSound}
+use Rattle.core_model.specs.State.{State}
+
+module _ {R K S O : Type 0} (lang : Language R K S O) (RecordFits : R → Type 0) (IsGood : O → S → Type 0) (s : State O R K S) where
+  abbrev pub as_fresh : State O R K S
+  as_fresh = record s { is_fresh = true }
+
+  -- a job that runs says nothing of whether its devices were new
+  runs_on : (o : Option (Held R K S)) → MatchOption o (Unit {0}) (RunsIn lang s) → MatchOption o (Unit {0}) (RunsIn lang as_fresh)
+  runs_on None runs = tt
+  runs_on (Some h) runs = record {
+    pending = runs.pending;
+    last_complete = runs.last_complete;
+    sinks = runs.sinks;
+    checkpoints = runs.checkpoints;
+    copied_last = runs.copied_last;
+    last_pending = runs.last_pending;
+  }
+
+  pub keeps_as_fresh : Keeps lang RecordFits IsGood s → IsSound lang RecordFits s → Keeps lang RecordFits IsGood as_fresh
+  keeps_as_fresh keeps sound = record {
+    expanded = keeps.expanded;
+    operators = keeps.operators;
+    partitions = keeps.partitions;
+    stored_tasks = keeps.stored_tasks;
+    numbered = keeps.numbered;
+    subtasks = keeps.subtasks;
+    ordered = keeps.ordered;
+    shape = keeps.shape;
+    runs = runs_on s.held keeps.runs;
+    fresh = λ fresh. sound.tells;
+    whole = λ fresh. sound.whole;
+    formed = λ fresh. sound.formed;
+  }
+
+  pub sound_as_fresh : Keeps lang RecordFits IsGood as_fresh → IsSound lang RecordFits s
+  sound_as_fresh keeps = record { tells = keeps.fresh refl; whole = keeps.whole refl; formed = keeps.formed refl }
+
+  -- a fresh engine is sound
+  pub fresh_is_sound : Keeps lang RecordFits IsGood s → s.is_fresh ≡ true → IsSound lang RecordFits s
+  fresh_is_sound keeps fresh = record { tells = keeps.fresh fresh; whole = keeps.whole fresh; formed = keeps.formed fresh }
+
+  -- attempts are of no account for what an engine keeps
+  module _ (n : ℕ) where
+    abbrev counted : State O R K S
+    counted = record s { attempts = n }
+
+    runs_counted : (o : Option (Held R K S)) → MatchOption o (Unit {0}) (RunsIn lang s) → MatchOption o (Unit {0}) (RunsIn lang counted)
+    runs_counted None runs = tt
+    runs_counted (Some h) runs = record {
+      pending = runs.pending;
+      last_complete = runs.last_complete;
+      sinks = runs.sinks;
+      checkpoints = runs.checkpoints;
+      copied_last = runs.copied_last;
+      last_pending = runs.last_pending;
+    }
+
+    pub keeps_counted : Keeps lang RecordFits IsGood s → Keeps lang RecordFits IsGood counted
+    keeps_counted keeps = record {
+      expanded = keeps.expanded;
+      operators = keeps.operators;
+      partitions = keeps.partitions;
+      stored_tasks = keeps.stored_tasks;
+      numbered = keeps.numbered;
+      subtasks = keeps.subtasks;
+      ordered = keeps.ordered;
+      shape = keeps.shape;
+      runs = runs_counted s.held keeps.runs;
+      fresh = keeps.fresh;
+      whole = keeps.whole;
+      formed = keeps.formed;
+    }
