@@ -1,5 +1,8 @@
 -- What an attempt holds after its calls.
-use Rattle.std.proofs.Common.{◌≡◌, ◌+◌, ◌++◌, ℕ, List, [], ◌∷◌, length, map, slice_get, slice_set, Option, Some, Result, Ok, Err, OnErr, subst, sym, ap, ◌∙◌, Ordering}
+use Rattle.std.proofs.Common.{◌≡◌, ◌<◌, ◌+◌, ◌++◌, ℕ, Bool, true, List, [], ◌∷◌, length, map, slice_get, slice_set, unwrap_or, Option, Some, Result, Ok, Err, OnErr, subst, sym, ap, ◌∙◌, arith, Ordering}
+use Rattle.std.proofs.lemmas.List.{length-set}
+use Rattle.alignment.specs.Table.{is_logged}
+use Rattle.backedge_log.specs.Recorded.{without_last}
 use Rattle.channels.specs.declared.item.Item.{Item}
 use Rattle.channels.specs.declared.item.Item.TheVariants.{Record}
 use Rattle.dataflow_model.specs.Graph.{Meaning}
@@ -7,9 +10,10 @@ use Rattle.dataflow_model.specs.Machine.{received}
 use Rattle.job_graph.specs.Expanded.{Expanded}
 use Rattle.task_part.specs.declared.part.Part.TheVariants as part
 use Rattle.job_state.specs.Sending.{Puts, items_at, barrier_into, without_head}
-use Rattle.job_state.specs.Held.{Held, Keeps, Reads, Operates, CopiesOperator}
+use Rattle.job_state.specs.Held.{Held, Keeps, Reads, Operates, CopiesOperator, gate_at, logged_at, log_with, record_logged, barrier_taken}
 use Rattle.job_state.specs.declared.holding.Holding.{Holding}
 use Rattle.job_state.specs.declared.holding.Holding.TheVariants as holds
+use Rattle.job_state.proofs.Logging.{logged_dropped}
 
 pub on_err : {T E : Type 0} (r : Result T E) (P : Type 0) → P → OnErr r P
 on_err (Ok x) P p = tt
@@ -23,17 +27,45 @@ module _ {R : Type 0} where
   }
 
 module _ {R K S : Type 0} where
-  pub held_kept : (seen now : Held R K S) (tasks : List (Holding K S)) (channels : List (List (Item R))) → seen ≡ now → tasks ≡ seen.tasks → channels ≡ seen.channels → record seen { tasks = tasks; channels = channels } ≡ now
-  held_kept seen now tasks channels same one two = ap (λ l. record seen { tasks = l; channels = channels }) one ∙ ap (λ l. record seen { channels = l }) two ∙ same
+  pub held_kept : (seen now : Held R K S) (tasks : List (Holding K S)) (channels : List (List (Item R))) (came : List Bool) (logs : List (List R)) → seen ≡ now → tasks ≡ seen.tasks → channels ≡ seen.channels → came ≡ seen.came → logs ≡ seen.logs →
+      record seen { tasks = tasks; channels = channels; came = came; logs = logs } ≡ now
+  held_kept seen now tasks channels came logs same one two three four =
+      ap (λ l. record seen { tasks = l; channels = channels; came = came; logs = logs }) one ∙ ap (λ l. record seen { channels = l; came = came; logs = logs }) two
+      ∙ ap (λ l. record seen { came = l; logs = logs }) three ∙ ap (λ l. record seen { logs = l }) four ∙ same
 
-  pub copies_from : (graph : Expanded) (task input checkpoint : ℕ) (seen old new : Held R K S) (entries states : List (K × S)) (logs : List (ℕ × List R)) → seen ≡ old → slice_get old.tasks task ≡ Some (holds.Operator entries) → states ≡ entries → logs ≡ [] →
-      Puts (λ number. barrier_into checkpoint task (slice_get graph.channels number)) (without_head input seen.channels) new.channels →
-      new ≡ record seen { channels = new.channels; copies = slice_set seen.copies task (Some (part.Operator states logs)) } → CopiesOperator graph task input checkpoint old new
-  copies_from graph task input checkpoint seen old new entries states logs same was is none puts ends = record {
+  -- what was logged last is not logged
+  pub unlogged : (task input channel : ℕ) (row : R) (seen now before : Held R K S) (came : List Bool) (logs : List (List R)) → seen ≡ now → now ≡ record_logged task input channel row before → is_logged (gate_at seen task) input ≡ true → channel < length seen.logs →
+      came ≡ seen.came → logs ≡ slice_set seen.logs channel (without_last (logged_at seen channel)) → record seen { came = came; logs = logs } ≡ before
+  unlogged task input channel row seen now before came logs same is logs_it within marks dropped =
+      ap (λ l. record seen { came = l; logs = logs }) marks ∙ ap (λ l. record seen { logs = l }) (dropped ∙ back) ∙ ap (λ (h : Held R K S). record h { logs = before.logs }) whole
+    where
+      gate : is_logged (gate_at before task) input ≡ true
+      gate = ap (λ (h : Held R K S). is_logged (gate_at h task) input) (sym (same ∙ is)) ∙ logs_it
+
+      whole : seen ≡ record before { logs = log_with true channel row before.logs }
+      whole = same ∙ is ∙ ap (λ b. record before { logs = log_with b channel row before.logs }) gate
+
+      there : channel < length before.logs
+      there = omega (arith, within, ap (λ (h : Held R K S). length h.logs) whole, length-set before.logs channel (unwrap_or (slice_get before.logs channel) [] ++ row ∷ []))
+
+      back : slice_set seen.logs channel (without_last (logged_at seen channel)) ≡ before.logs
+      back = ap (λ (h : Held R K S). slice_set h.logs channel (without_last (logged_at h channel))) whole ∙ logged_dropped before.logs channel row there
+
+  pub copies_from : (graph : Expanded) (task input channel checkpoint : ℕ) (seen old new : Held R K S) (entries states : List (K × S)) (logs : List (ℕ × List R)) → seen ≡ old → slice_get old.tasks task ≡ Some (holds.Operator entries) → states ≡ entries → logs ≡ [] →
+      Puts (λ number. barrier_into checkpoint task (slice_get graph.channels number)) (without_head channel seen.channels) new.channels →
+      new.gates ≡ (barrier_taken task input channel checkpoint seen).gates → new.came ≡ slice_set seen.came channel true → new.logs ≡ seen.logs →
+      new ≡ record seen { channels = new.channels; gates = new.gates; came = new.came; logs = new.logs; copies = slice_set seen.copies task (Some (part.Operator states logs)) } → CopiesOperator graph task input channel checkpoint old new
+  copies_from graph task input channel checkpoint seen old new entries states logs same was is none puts gates came kept ends = record {
     entries = entries;
     was = was;
-    sent = subst (λ (h : Held R K S). Puts (λ number. barrier_into checkpoint task (slice_get graph.channels number)) (without_head input h.channels) new.channels) same puts;
-    ends = ends ∙ ap (λ l. record seen { channels = new.channels; copies = slice_set seen.copies task (Some (part.Operator states l)) }) none ∙ ap (λ s. record seen { channels = new.channels; copies = slice_set seen.copies task (Some (part.Operator s [])) }) is ∙ ap (λ (h : Held R K S). record h { channels = new.channels; copies = slice_set h.copies task (Some (part.Operator entries [])) }) same;
+    sent = subst (λ (h : Held R K S). Puts (λ number. barrier_into checkpoint task (slice_get graph.channels number)) (without_head channel h.channels) new.channels) same puts;
+    ends = ends
+        ∙ ap (λ l. record seen { channels = new.channels; gates = l; came = new.came; logs = new.logs; copies = slice_set seen.copies task (Some (part.Operator states logs)) }) gates
+        ∙ ap (λ l. record (barrier_taken task input channel checkpoint seen) { channels = new.channels; came = l; logs = new.logs; copies = slice_set seen.copies task (Some (part.Operator states logs)) }) came
+        ∙ ap (λ l. record (barrier_taken task input channel checkpoint seen) { channels = new.channels; logs = l; copies = slice_set seen.copies task (Some (part.Operator states logs)) }) kept
+        ∙ ap (λ l. record (barrier_taken task input channel checkpoint seen) { channels = new.channels; copies = slice_set seen.copies task (Some (part.Operator states l)) }) none
+        ∙ ap (λ s. record (barrier_taken task input channel checkpoint seen) { channels = new.channels; copies = slice_set seen.copies task (Some (part.Operator s [])) }) is
+        ∙ ap (λ (h : Held R K S). record (barrier_taken task input channel checkpoint h) { channels = new.channels; copies = slice_set h.copies task (Some (part.Operator entries [])) }) same;
   }
 
 module _ {R K S O : Type 0} (meaning : Meaning R K S O) (graph : Expanded) (task : ℕ) where
@@ -45,14 +77,19 @@ module _ {R K S O : Type 0} (meaning : Meaning R K S O) (graph : Expanded) (task
     ends = ends ∙ ap (λ (h : Held R K S). record h { tasks = slice_set h.tasks task (holds.Source (offset + 1)); channels = new.channels }) same;
   }
 
-  pub operates_from : (cmp : K → K → Ordering) (input : ℕ) (key : Option K) (state : S) (sent : List (ℕ × R)) (seen old new : Held R K S) (before after : Holding K S) → seen ≡ old → slice_get seen.tasks task ≡ Some before → Keeps meaning cmp key state before after →
-      Puts (λ number. map Record (received meaning task sent (slice_get graph.channels number))) (without_head input seen.channels) new.channels →
-      new ≡ record seen { tasks = slice_set seen.tasks task after; channels = new.channels } → Operates meaning cmp graph task input key state sent old new
-  operates_from cmp input key state sent seen old new before after same here keeps puts ends = record {
+  pub operates_from : (cmp : K → K → Ordering) (input channel : ℕ) (row : R) (key : Option K) (state : S) (sent : List (ℕ × R)) (seen old new : Held R K S) (before after : Holding K S) → seen ≡ old → slice_get seen.tasks task ≡ Some before → Keeps meaning cmp key state before after →
+      Puts (λ number. map Record (received meaning task sent (slice_get graph.channels number))) (without_head channel seen.channels) new.channels →
+      new.came ≡ seen.came → new.logs ≡ (record_logged task input channel row seen).logs →
+      new ≡ record seen { tasks = slice_set seen.tasks task after; channels = new.channels; came = new.came; logs = new.logs } → Operates meaning cmp graph task input channel row key state sent old new
+  operates_from cmp input channel row key state sent seen old new before after same here keeps puts came logged ends = record {
     entries = keeps.entries;
     kept = keeps.kept;
     was = ap (λ (h : Held R K S). slice_get h.tasks task) (sym same) ∙ here ∙ ap Some keeps.was;
     keeps = keeps.keeps;
-    puts = subst (λ (h : Held R K S). Puts (λ number. map Record (received meaning task sent (slice_get graph.channels number))) (without_head input h.channels) new.channels) same puts;
-    ends = ends ∙ ap (λ t. record seen { tasks = slice_set seen.tasks task t; channels = new.channels }) keeps.is ∙ ap (λ (h : Held R K S). record h { tasks = slice_set h.tasks task (holds.Operator keeps.kept); channels = new.channels }) same;
+    puts = subst (λ (h : Held R K S). Puts (λ number. map Record (received meaning task sent (slice_get graph.channels number))) (without_head channel h.channels) new.channels) same puts;
+    ends = ends
+        ∙ ap (λ l. record seen { tasks = slice_set seen.tasks task after; channels = new.channels; came = l; logs = new.logs }) came
+        ∙ ap (λ l. record seen { tasks = slice_set seen.tasks task after; channels = new.channels; logs = l }) logged
+        ∙ ap (λ t. record (record_logged task input channel row seen) { tasks = slice_set seen.tasks task t; channels = new.channels }) keeps.is
+        ∙ ap (λ (h : Held R K S). record (record_logged task input channel row h) { tasks = slice_set h.tasks task (holds.Operator keeps.kept); channels = new.channels }) same;
   }

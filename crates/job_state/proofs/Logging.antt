@@ -1,5 +1,5 @@
 -- The logs as they are seen: of each channel, whether its barrier has come, and what is logged.
-use Rattle.std.proofs.Common.{◌≡◌, ◌<◌, ◌++◌, ◌∷◌, [], ℕ, Bool, true, false, not, List, length, map, replicate, take, All, Option, Some, slice_get, slice_set, unwrap_or, refl, sym, ap, ◌∙◌, arith}
+use Rattle.std.proofs.Common.{◌≡◌, ◌<◌, ◌++◌, ◌∷◌, [], ◌-◌, ℕ, zero, suc, Bool, true, false, not, List, length, map, replicate, take, All, Option, Some, slice_get, slice_set, unwrap_or, refl, sym, ap, ◌∙◌, arith}
 use Rattle.std.specs.Option.{option_map}
 use Rattle.std.specs.List.{AllByRecursion}
 use Rattle.std.proofs.Math.Seq.{take-append_seam}
@@ -7,6 +7,8 @@ use Rattle.std.proofs.lemmas.List.{map-set, length-map, length-append}
 use Rattle.std.proofs.lemmas.List.Elements.{recursion_from_All}
 use Rattle.std.proofs.lemmas.Option.{slice_get-get_or, slice_get-map}
 use Rattle.backedge_log.specs.Recorded.{Recorded, log_at, IsFresh, AllFresh, without_last}
+use Rattle.channels.specs.declared.item.Item.{Item}
+use Rattle.channels.specs.declared.item.Item.TheVariants.{Record}
 use Rattle.job_state.specs.Held.{log_with}
 use Rattle.job_state.specs.Inside.{came_of, records_of}
 use Rattle.job_state.proofs.Places.{set_same}
@@ -60,3 +62,16 @@ module _ {R : Type 0} (logs : List (Recorded R)) (channel : ℕ) (within : chann
   -- a record is taken out of the log again
   pub records_dropped : (new : List (Recorded R)) (log : Recorded R) → new ≡ slice_set logs channel log → log.records ≡ without_last (log_at logs channel).records → records_of new ≡ slice_set (records_of logs) channel (without_last (unwrap_or (slice_get (records_of logs) channel) []))
   records_dropped new log is dropped = records_set new log is ∙ ap (slice_set (records_of logs) channel) (dropped ∙ ap (λ l. without_last l) records_at)
+
+pub same_record : {R : Type 0} {a b : R} → Some (Record a) ≡ Some (Record b) → a ≡ b
+same_record e = cc
+
+last_dropped : {R : Type 0} (rows : List R) (row : R) → without_last (rows ++ row ∷ []) ≡ rows
+last_dropped rows row = let one : length (rows ++ row ∷ []) - 1 ≡ length rows = omega (arith, length-append rows (row ∷ [])) in ap (λ n. take n (rows ++ row ∷ [])) one ∙ take-append_seam rows (row ∷ [])
+
+-- a record that was put last into a log is taken out of it
+pub logged_dropped : {R : Type 0} (logs : List (List R)) (channel : ℕ) (row : R) → channel < length logs →
+    slice_set (log_with true channel row logs) channel (without_last (unwrap_or (slice_get (log_with true channel row logs) channel) [])) ≡ logs
+logged_dropped [] channel row within = absurd (omega (arith, within))
+logged_dropped (log ∷ logs) zero row within = ap (λ l. l ∷ logs) (last_dropped log row)
+logged_dropped (log ∷ logs) (suc channel) row within = ap (λ l. log ∷ l) (logged_dropped logs channel row (omega (arith, within)))
