@@ -96,8 +96,8 @@ fn device_call(call: FaultCall) -> DeviceCall {
     }
 }
 
-/// Makes a step.
-pub(crate) fn make_step(core: &mut RowCore, step: Step) -> Answer {
+/// Makes a step: the call of its name.
+pub fn make_step(core: &mut RowCore, step: Step) -> Answer {
     match step {
         Step::Read(task) => core.read(task).into(),
         Step::Work(task, input) => core.work(task, input).into(),

@@ -12,7 +12,7 @@ mod rows_log;
 mod running;
 mod text;
 
-pub use answer::Answer;
+pub use answer::{Answer, make_step};
 pub use checking::check;
 pub use opening::RowCore;
 pub use row_text::row_line;

@@ -1,35 +1,12 @@
 //! The parts of a checkpoint, as they stand in the store.
 
 use crate::commands::{COUNT, EARLY, LINE, LONG_LOOP};
-use abs_codec::{Codec, Text};
+use crate::cores::{append, running};
 use absflow_run::RowCore;
-use commit_sink::{FlakyTransactions, MemoryTransactions};
-use dataflow_core::{Core, Reply, Step};
-use job_graph::Graph;
-use job_spec::JobSpec;
+use dataflow_core::{Reply, Step};
 use operators::Row;
 use snapshot_store::{FlakyStore, MemoryStore, SnapshotStore, StoreFault};
-use source_log::{FlakyLog, MemoryLog};
-use std::alloc::Global;
 use std::test::Fail;
-
-/// The job over new devices and empty partitions, running.
-fn running(alloc: Global, job: &str) -> Result<RowCore, Fail> {
-    let job = JobSpec::read(alloc, job.as_bytes())?;
-    let graph = Graph::expand(alloc, &job)?;
-    let operators = job.operators(alloc)?;
-    let log = FlakyLog::new(MemoryLog::new(alloc, graph.sources())?);
-    let tasks = graph.tasks();
-    let sinks = graph.sinks();
-    if tasks == 0 || operators.len() != graph.operators() as usize {
-        return Err(Fail::new("the job is not served"));
-    }
-    let store = FlakyStore::new(MemoryStore::new(alloc, tasks));
-    let transactions = FlakyTransactions::new(MemoryTransactions::new(alloc, sinks));
-    let mut core = Core::open(alloc, graph, operators, log, store, transactions);
-    core.restart()?;
-    Ok(core)
-}
 
 /// A source at offset 0, an operator without states, and a sink with one pre-committed transaction, of number 1.
 const PARTS: [&[u8]; 3] = [
@@ -86,16 +63,6 @@ fn parts_before_the_last_complete_checkpoint_are_discarded(rt: HostRuntime) -> R
         assert!(&rt; store.get(2, task).is_ok());
     }
     Ok(())
-}
-
-/// Puts a row last in a partition.
-fn append(alloc: Global, core: &mut RowCore, partition: u32, k: &str, v: i64) -> Result<(), Fail> {
-    let k = Text::from_str(alloc, k)?;
-    let row = Row { k, v };
-    if !row.fits() {
-        return Err(Fail::new("the row does not fit"));
-    }
-    Ok(core.append(partition, row)?)
 }
 
 /// Makes the steps, of which none is refused, and answers the store.

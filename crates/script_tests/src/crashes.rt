@@ -1,0 +1,259 @@
+//! A failure at any place of a run leaves no trace: the engine, which fails there, starts again and goes on to the end, commits what the plain
+//! slow program puts out.
+
+use crate::commands::{COUNT, EARLY, LONG_LOOP, LOOP, TWO_SINKS};
+use crate::cores::{append, row, running};
+use abs_codec::{Text, decode_all};
+use absflow_run::{Answer, RowCore, make_step, row_line};
+use job_graph::{Graph, Role, Route};
+use job_spec::JobSpec;
+use operators::{Operator, Row, RowOp, RowState};
+use plain_machine::{Channel, Job, Move, PlainMachine, Share, Task};
+use script_file::parse_step;
+use std::alloc::Global;
+use std::test::Fail;
+
+type Machine = PlainMachine<RowOp, Row, Text, RowState>;
+
+/// A job, its rows, each with its partition, and the steps of a run.
+struct Run {
+    job: &'static str,
+    rows: &'static [(u32, &'static str, i64)],
+    steps: &'static str,
+}
+
+const RUNS: [Run; 5] = [
+    Run {
+        job: COUNT,
+        rows: &[(0, "a", 1), (0, "a", 2), (1, "a", 5)],
+        steps: "read 0; trigger; inject 0; read 0; work 2 0; barrier 2 0; read 1; work 2 1; inject 1; barrier 2 1; work 2 0; work 3 0; work 3 0; barrier 3 0; persist 0; persist 1; persist 2; persist 3; complete; commit 0",
+    },
+    Run {
+        job: LONG_LOOP,
+        rows: &[(0, "x", 3)],
+        steps: "read 0; work 1 0; work 2 0; trigger; inject 0; barrier 1 0; work 1 1; barrier 2 0; barrier 1 1; barrier 3 0; persist 0; persist 1; persist 2; persist 3; complete; work 2 0; work 1 1",
+    },
+    Run {
+        job: EARLY,
+        rows: &[(0, "k", 1)],
+        steps: "trigger; inject 0; barrier 1 0; read 0; work 1 0; barrier 2 1; barrier 2 0; work 2 1; work 2 0; barrier 3 0; persist 0; persist 1; persist 2; persist 3; complete; commit 0",
+    },
+    Run {
+        job: LOOP,
+        rows: &[(0, "x", 2), (0, "y", 1)],
+        steps: "read 0; work 1 0; read 0; trigger; inject 0; work 1 0; barrier 1 0; work 1 1; work 1 1; barrier 1 1; work 1 1; barrier 2 0; work 2 0; work 2 0; persist 0; persist 1; persist 2; complete; work 1 1",
+    },
+    Run {
+        job: TWO_SINKS,
+        rows: &[(0, "a", 1), (0, "b", 2)],
+        steps: "read 0; work 1 0; work 2 0; trigger; inject 0; barrier 1 0; barrier 2 0; persist 0; persist 1; persist 2; complete; commit 0; read 0; work 1 0; work 2 0; trigger; inject 0; barrier 1 0; barrier 2 0; persist 0; persist 1; persist 2; complete; commit 1",
+    },
+];
+
+/// Makes a step, and says whether it was accepted.
+fn accepts(alloc: Global, core: &mut RowCore, step: &str) -> Result<bool, Fail> {
+    let step = parse_step(alloc, step).map_err(|_| Fail::new("a bad step"))?;
+    Ok(!matches!(make_step(core, step), Answer::Refused(_)))
+}
+
+/// Reads and works until there is nothing left to read or work.
+fn to_rest(core: &mut RowCore, graph: &Graph) {
+    let mut moved = true;
+    while moved {
+        moved = false;
+        for task in 0..graph.tasks() {
+            moved |= core.read(task).is_ok();
+            for input in 0..graph.inputs(task).len() {
+                moved |= core.work(task, input as u32).is_ok();
+            }
+        }
+    }
+}
+
+/// Takes barriers until there is none left to take.
+fn take_barriers(core: &mut RowCore, graph: &Graph) {
+    let mut taken = true;
+    while taken {
+        taken = false;
+        for task in 0..graph.tasks() {
+            for input in 0..graph.inputs(task).len() {
+                taken |= core.take_barrier(task, input as u32).is_ok();
+            }
+        }
+    }
+}
+
+/// A checkpoint, from its trigger to its commits.
+fn settle(core: &mut RowCore, graph: &Graph) -> Result<(), Fail> {
+    core.trigger()?;
+    for task in 0..graph.tasks() {
+        let _ = core.inject(task);
+    }
+    take_barriers(core, graph);
+    for task in 0..graph.tasks() {
+        core.persist(task)?;
+    }
+    core.complete()?;
+    for sink in 0..graph.sinks() {
+        core.commit(sink)?;
+    }
+    Ok(())
+}
+
+/// The committed rows of a sink subtask.
+fn committed(alloc: Global, core: &RowCore, sink: u32) -> Result<Vec<String>, Fail> {
+    let mut lines = Vec::new(alloc);
+    for number in 0..core.committed_len(sink)? {
+        let Some(record) = core.committed(sink, number)? else {
+            return Err(Fail::new("a committed row is not there"));
+        };
+        let row: Row = decode_all(alloc, &record)?;
+        lines.push(row_line(alloc, &row)?)?;
+    }
+    Ok(lines)
+}
+
+fn channels(alloc: Global, graph: &Graph) -> Result<Vec<Channel>, Fail> {
+    let mut channels = Vec::new(alloc);
+    for number in 0..graph.channels() {
+        let Some(channel) = graph.channel(number) else {
+            return Err(Fail::new("a channel is not there"));
+        };
+        let route = match channel.route {
+            Route::Every => plain_machine::Route::Every,
+            Route::Lanes { parallelism: 0, .. } => return Err(Fail::new("no subtask")),
+            Route::Lanes {
+                parallelism,
+                subtask,
+            } => plain_machine::Route::Lanes(Share {
+                parallelism: parallelism as u64,
+                subtask: subtask as u64,
+            }),
+        };
+        channels.push(Channel {
+            sender: channel.sender as usize,
+            receiver: channel.receiver as usize,
+            port: channel.port,
+            route,
+            marked: channel.marked,
+        })?;
+    }
+    Ok(channels)
+}
+
+fn tasks(alloc: Global, graph: &Graph, operators: &[RowOp]) -> Result<Vec<Task<RowOp>>, Fail> {
+    let mut tasks = Vec::new(alloc);
+    for task in 0..graph.tasks() {
+        let task = match graph.role(task) {
+            Some(Role::Source(partition)) => Task::Source(partition as usize),
+            Some(Role::Operator(number)) => match operators.get(number as usize) {
+                Some(operator) => Task::Operator(operator.copy(alloc)?),
+                None => return Err(Fail::new("an operator is not there")),
+            },
+            Some(Role::Sink(_)) => Task::Sink,
+            None => return Err(Fail::new("a task is not there")),
+        };
+        tasks.push(task)?;
+    }
+    Ok(tasks)
+}
+
+/// The rows of each partition.
+fn partitions(alloc: Global, count: u32, run: &Run) -> Result<Vec<Vec<Row>>, Fail> {
+    let mut partitions = Vec::new(alloc);
+    for number in 0..count {
+        let mut rows = Vec::new(alloc);
+        for (partition, k, v) in run.rows {
+            if *partition == number {
+                rows.push(row(alloc, k, *v)?)?;
+            }
+        }
+        partitions.push(rows)?;
+    }
+    Ok(partitions)
+}
+
+/// The plain slow program at rest.
+fn plain_at_rest(alloc: Global, run: &Run) -> Result<Machine, Fail> {
+    let spec = JobSpec::read(alloc, run.job.as_bytes())?;
+    let graph = Graph::expand(alloc, &spec)?;
+    let operators = spec.operators(alloc)?;
+    let job = Job {
+        tasks: tasks(alloc, &graph, &operators)?,
+        channels: channels(alloc, &graph)?,
+        partitions: partitions(alloc, graph.sources(), run)?,
+    };
+    let mut machine = Machine::new(alloc, job)?;
+    let mut moved = true;
+    while moved {
+        moved = false;
+        for task in 0..graph.tasks() {
+            moved |= machine.step(alloc, &Move::Read(task as usize))?;
+            for channel in graph.inputs(task) {
+                moved |= machine.step(alloc, &Move::Work(task as usize, *channel as usize))?;
+            }
+        }
+    }
+    Ok(machine)
+}
+
+/// What the plain slow program puts out at a sink subtask.
+fn wanted(alloc: Global, graph: &Graph, machine: &Machine, sink: u32) -> Result<Vec<String>, Fail> {
+    let Some(task) = graph.sink_task(sink) else {
+        return Err(Fail::new("a sink is not there"));
+    };
+    let mut lines = Vec::new(alloc);
+    for row in machine.output(task as usize) {
+        lines.push(row_line(alloc, row)?)?;
+    }
+    Ok(lines)
+}
+
+/// Whether these are the same lines, in any order.
+fn are_same(mut lines: Vec<String>, others: Vec<String>) -> bool {
+    for other in &others {
+        match lines.iter().position(|line| line == other) {
+            Some(place) => drop(lines.swap_remove(place)),
+            None => return false,
+        }
+    }
+    lines.is_empty()
+}
+
+/// The engine makes the run's first steps, fails, starts again and goes on to the end.
+fn interrupted(alloc: Global, run: &Run, count: usize) -> Result<RowCore, Fail> {
+    let spec = JobSpec::read(alloc, run.job.as_bytes())?;
+    let graph = Graph::expand(alloc, &spec)?;
+    let mut core = running(alloc, run.job)?;
+    for (partition, k, v) in run.rows {
+        append(alloc, &mut core, *partition, k, *v)?;
+    }
+    for step in run.steps.split("; ").take(count) {
+        if !accepts(alloc, &mut core, step)? {
+            return Err(Fail::new("a step is refused"));
+        }
+    }
+    core.fail()?;
+    core.restart()?;
+    to_rest(&mut core, &graph);
+    settle(&mut core, &graph)?;
+    Ok(core)
+}
+
+#[test]
+fn a_failure_at_any_place_leaves_no_trace(rt: HostRuntime) -> Result<(), Fail> {
+    let alloc = rt.alloc();
+    for run in &RUNS {
+        let spec = JobSpec::read(alloc, run.job.as_bytes())?;
+        let graph = Graph::expand(alloc, &spec)?;
+        let machine = plain_at_rest(alloc, run)?;
+        for count in 0..=run.steps.split("; ").count() {
+            let core = interrupted(alloc, run, count)?;
+            for sink in 0..graph.sinks() {
+                let lines = committed(alloc, &core, sink)?;
+                assert!(&rt; are_same(lines, wanted(alloc, &graph, &machine, sink)?));
+            }
+        }
+    }
+    Ok(())
+}
