@@ -3,3 +3,4 @@ pub mod Taking
 pub mod Readable
 pub mod Entries
 pub mod Starting
+pub mod Channels

@@ -19,7 +19,6 @@ use Rattle.job_graph.specs.declared.role.Role.TheVariants as role
 use Rattle.snapshot_store.specs.Store.{Stored, IsLatest, part_of}
 use Rattle.task_part.specs.Spelling.{Logs}
 use Rattle.task_part.specs.declared.part.Part.{Part}
-use Rattle.task_part.specs.declared.part.Part.TheVariants as part
 use Rattle.recovery.specs.Ends.{EndsTask, CannotRestore, HasDamage, IsBelow, TakeAll}
 use Rattle.recovery.specs.declared.fault.RecoveryFault.{RecoveryFault}
 use Rattle.recovery.specs.declared.fault.RecoveryFault.TheVariants.{Fault, MissingPart, Damaged, Memory}
@@ -27,86 +26,61 @@ use Rattle.recovery.specs.declared.fault.RecoveryFault.TheVariants.{Fault, Missi
 pub one_operator : {O : Type 0} (operators : List O) (number : ℕ) (a b : O) → slice_get operators number ≡ Some a → slice_get operators number ≡ Some b → (P : O → Type 0) → P b → P a
 one_operator operators number a b at there P holds = subst P (same_Some b a (sym there ∙ at)) holds
 
-module _ {R K S : Type 0} where
-  pub source_only : (offset : ℕ) (st : Start K S) → ◌≡◌ {A = Part R K S} (part.Source offset) (part_for st) → st ≡ start.Source offset
-  source_only offset (start.Source o) e = let same : offset ≡ o = cc in ap start.Source (sym same)
-  source_only offset (start.Operator entries) e = absurd cc
-  source_only offset (start.Sink subtask names) e = absurd cc
+same_ok : {A : Type 0} (a b : A) → ◌≡◌ {A = Result A CodecFault} (Ok a) (Ok b) → a ≡ b
+same_ok a b e = cc
 
-  pub operator_only : (entries : List (K × S)) (logs : Logs R) (st : Start K S) → ◌≡◌ {A = Part R K S} (part.Operator entries logs) (part_for st) → (logs ≡ []) × (st ≡ start.Operator entries)
-  operator_only entries logs (start.Source o) e = absurd cc
-  operator_only entries logs (start.Operator others) e =
-      let same : entries ≡ others = cc in
-      let none : logs ≡ [] = cc in
-      (none, ap start.Operator (sym same))
-  operator_only entries logs (start.Sink subtask names) e = absurd cc
-
-  pub sink_only : (names : List ℕ) (logs : Logs R) (st : Start K S) → ◌≡◌ {A = Part R K S} (part.Sink names logs) (part_for st) → (logs ≡ []) × ((subtask : ℕ) × (st ≡ start.Sink subtask names))
-  sink_only names logs (start.Source o) e = absurd cc
-  sink_only names logs (start.Operator entries) e = absurd cc
-  sink_only names logs (start.Sink subtask others) e =
-      let same : names ≡ others = cc in
-      let none : logs ≡ [] = cc in
-      (none, (subtask, ap (start.Sink subtask) (sym same)))
-
-module _ {R K S O : Type 0} (lang : Language R K S O) (KeyFits : K → Type 0) (IsGood : O → S → Type 0) (operators : List O) (partitions : List (List R)) (stored : Stored) where
+module _ {R K S O : Type 0} (lang : Language R K S O) (KeyFits : K → Type 0) (RecordFits : R → Type 0) (IsGood : O → S → Type 0) (graph : Expanded) (operators : List O) (partitions : List (List R)) (stored : Stored) where
   -- the part that is read says no start for the task, so there is none
   pub no_start : (number task : ℕ) (r : Role) (bytes : List ℕ) (p : Part R K S) → part_of stored number task ≡ Some bytes → whole_of lang.read_part bytes ≡ Ok p
-      → ((st : Start K S) → p ≡ part_for st → Suits lang KeyFits IsGood operators partitions r st → ⊥) → (st : Start K S) → IsInPart lang KeyFits IsGood operators partitions stored number task r st → ⊥
+      → ((st : Start R K S) → p ≡ part_for st → Suits lang KeyFits RecordFits IsGood graph operators partitions task r st → ⊥) → (st : Start R K S) → IsInPart lang KeyFits RecordFits IsGood graph operators partitions stored number task r st → ⊥
   no_start number task r bytes p there reads none st is =
       let same : bytes ≡ is.bytes = same_Some bytes is.bytes (sym there ∙ is.is_part) in
       none st (same_ok p (part_for st) (sym reads ∙ ap (whole_of lang.read_part) same ∙ is.reads)) is.suits
+
+  -- why the parts can't be read
+  pub task_stops : (last : Option ℕ) (task : ℕ) (r : Role) (f : RecoveryFault) → IsLatest stored last → slice_get graph.tasks task ≡ Some r → EndsTask lang KeyFits RecordFits IsGood graph operators partitions stored last task r (Err f) → CannotRestore lang KeyFits RecordFits IsGood graph operators partitions stored f
+  task_stops None task r f latest is ends = absurd ends
+  task_stops (Some number) task r Fault latest is ends = tt
+  task_stops (Some number) task r MissingPart latest is ends = record { last = number; latest = latest; task = task; role = r; is_task = is; missing = ends }
+  task_stops (Some number) task r (Damaged which fault) latest is ends =
+      subst (λ (t : ℕ). HasDamage lang KeyFits RecordFits IsGood graph operators partitions stored t fault) (sym ends.0) (record { last = number; latest = latest; role = r; is_task = is; damage = ends.1 })
+  task_stops (Some number) task r Memory latest is ends = tt
+
+  pub task_starts : (last : Option ℕ) (task : ℕ) (r : Role) (st : Start R K S) → EndsTask lang KeyFits RecordFits IsGood graph operators partitions stored last task r (Ok st) → IsStart lang KeyFits RecordFits IsGood graph operators partitions stored last task r st
+  task_starts None task r st ends = ends
+  task_starts (Some number) task r st ends = ends
+
+  -- one more task has a start
+  pub starts_more : (last : Option ℕ) (starts : List (Start R K S)) (task : ℕ) (st : Start R K S) → length starts ≡ task
+      → ((t : ℕ) (q : Role) (x : Start R K S) → slice_get graph.tasks t ≡ Some q → slice_get starts t ≡ Some x → IsStart lang KeyFits RecordFits IsGood graph operators partitions stored last t q x)
+      → ((q : Role) → slice_get graph.tasks task ≡ Some q → EndsTask lang KeyFits RecordFits IsGood graph operators partitions stored last task q (Ok st))
+      → (t : ℕ) (q : Role) (x : Start R K S) → slice_get graph.tasks t ≡ Some q → slice_get (starts ++ st ∷ []) t ≡ Some x → IsStart lang KeyFits RecordFits IsGood graph operators partitions stored last t q x
+  starts_more last starts task st long each ends t q x at there =
+      elim (slice_get_push starts st t x there) [
+        | inl old ↦ each t q x at old
+        | inr new ↦
+            let same : t ≡ task = new.0 ∙ long in
+            subst (λ (n : ℕ). IsStart lang KeyFits RecordFits IsGood graph operators partitions stored last n q x) (sym same)
+            (subst (λ (s : Start R K S). IsStart lang KeyFits RecordFits IsGood graph operators partitions stored last task q s) new.1
+            (task_starts last task q st (ends q (ap (slice_get graph.tasks) (sym same) ∙ at))))
+      ]
+
+  -- each sink's subtask is one of so many
+  pub starts_below : (last : Option ℕ) (starts : List (Start R K S)) (count : ℕ) → AreStarts lang KeyFits RecordFits IsGood graph operators partitions stored last starts
+      → ((task subtask : ℕ) → slice_get graph.tasks task ≡ Some (role.Sink subtask) → subtask < count) → All (IsBelow count) starts
+  starts_below last starts count are sinks k d within = by (get_or starts k d) (slice_get-get_or starts k d within)
     where
-      same_ok : (a b : Part R K S) → ◌≡◌ {A = Result (Part R K S) CodecFault} (Ok a) (Ok b) → a ≡ b
-      same_ok a b e = cc
+      by : (st : Start R K S) → slice_get starts k ≡ Some st → IsBelow count st
+      by (start.Source offset) at = tt
+      by (start.Operator entries logs) at = tt
+      by (start.Sink subtask names logs) at = sinks k subtask (sink_at lang KeyFits RecordFits IsGood graph operators partitions stored last starts are k subtask names logs at)
 
-  module _ (graph : Expanded) where
-    -- why the parts can't be read
-    pub task_stops : (last : Option ℕ) (task : ℕ) (r : Role) (f : RecoveryFault) → IsLatest stored last → slice_get graph.tasks task ≡ Some r
-        → EndsTask lang KeyFits IsGood operators partitions stored last task r (Err f) → CannotRestore lang KeyFits IsGood operators partitions stored graph f
-    task_stops None task r f latest is ends = absurd ends
-    task_stops (Some number) task r Fault latest is ends = tt
-    task_stops (Some number) task r MissingPart latest is ends = record { last = number; latest = latest; task = task; role = r; is_task = is; missing = ends }
-    task_stops (Some number) task r (Damaged which fault) latest is ends =
-        subst (λ (t : ℕ). HasDamage lang KeyFits IsGood operators partitions stored graph t fault) (sym ends.0) (record { last = number; latest = latest; role = r; is_task = is; damage = ends.1 })
-    task_stops (Some number) task r Memory latest is ends = tt
-
-    pub task_starts : (last : Option ℕ) (task : ℕ) (r : Role) (st : Start K S) → EndsTask lang KeyFits IsGood operators partitions stored last task r (Ok st) → IsStart lang KeyFits IsGood operators partitions stored last task r st
-    task_starts None task r st ends = ends
-    task_starts (Some number) task r st ends = ends
-
-    -- one more task has a start
-    pub starts_more : (last : Option ℕ) (starts : List (Start K S)) (task : ℕ) (r : Role) (st : Start K S) → length starts ≡ task → slice_get graph.tasks task ≡ Some r
-        → ((t : ℕ) (q : Role) (x : Start K S) → slice_get graph.tasks t ≡ Some q → slice_get starts t ≡ Some x → IsStart lang KeyFits IsGood operators partitions stored last t q x)
-        → EndsTask lang KeyFits IsGood operators partitions stored last task r (Ok st)
-        → (t : ℕ) (q : Role) (x : Start K S) → slice_get graph.tasks t ≡ Some q → slice_get (starts ++ st ∷ []) t ≡ Some x → IsStart lang KeyFits IsGood operators partitions stored last t q x
-    starts_more last starts task r st long is each ends t q x at there =
-        elim (slice_get_push starts st t x there) [
-          | inl old ↦ each t q x at old
-          | inr new ↦
-              let same : t ≡ task = new.0 ∙ long in
-              let role : r ≡ q = same_Some r q (sym is ∙ ap (slice_get graph.tasks) (sym same) ∙ at) in
-              subst (λ (n : ℕ). IsStart lang KeyFits IsGood operators partitions stored last n q x) (sym same)
-              (subst (λ (s : Start K S). IsStart lang KeyFits IsGood operators partitions stored last task q s) new.1
-              (subst (λ (p : Role). IsStart lang KeyFits IsGood operators partitions stored last task p st) role (task_starts last task r st ends)))
-        ]
-
-    -- each sink's subtask is one of so many
-    pub starts_below : (last : Option ℕ) (starts : List (Start K S)) (count : ℕ) → AreStarts lang KeyFits IsGood operators partitions stored graph last starts
-        → ((task subtask : ℕ) → slice_get graph.tasks task ≡ Some (role.Sink subtask) → subtask < count) → All (IsBelow count) starts
-    starts_below last starts count are sinks k d within = by (get_or starts k d) (slice_get-get_or starts k d within)
-      where
-        by : (st : Start K S) → slice_get starts k ≡ Some st → IsBelow count st
-        by (start.Source offset) at = tt
-        by (start.Operator entries) at = tt
-        by (start.Sink subtask names) at = sinks k subtask (sink_at lang KeyFits IsGood operators partitions stored graph last starts are k subtask names at)
-
-    -- all tasks have taken what they start from, and there is no memory for the attempt
-    pub restart_full : (old new : Ledger) (last : Option ℕ) (starts : List (Start K S)) (tasks : List (Holding K S)) → AreStarts lang KeyFits IsGood operators partitions stored graph last starts
-        → TakeAll old new starts tasks → EndsRestart lang KeyFits IsGood operators partitions stored graph old new (Err core.Memory)
-    restart_full old new last starts tasks are done = inr (record {
-      last = last;
-      starts = starts;
-      are = are;
-      then_ends = record { middle = record { ledger = new; tasks = tasks }; taken = up_to_end Takes starts (before_tasks old) (record { ledger = new; tasks = tasks }) done; either = inl refl };
-    })
+  -- all tasks have taken what they start from, and there is no memory for the attempt
+  pub restart_full : (old new : Ledger) (last : Option ℕ) (starts : List (Start R K S)) (x : List (Holding K S) × Logs R) → AreStarts lang KeyFits RecordFits IsGood graph operators partitions stored last starts
+      → TakeAll old new starts x → EndsRestart lang KeyFits RecordFits IsGood graph operators partitions stored old new (Err core.Memory)
+  restart_full old new last starts x are done = inr (record {
+    last = last;
+    starts = starts;
+    are = are;
+    then_ends = record { middle = record { ledger = new; tasks = x.0 }; taken = up_to_end Takes starts (before_tasks old) (record { ledger = new; tasks = x.0 }) done.0; either = inl refl };
+  })

@@ -1,11 +1,13 @@
 -- Tasks take what they start from, one after another.
-use Rattle.std.proofs.Common.{◌≡◌, ◌<◌, ◌+◌, inl, inr, Ok, Err, get_or, length, take, drop, map, List, [], ◌∷◌, ◌++◌, refl, sym, ap, ◌∙◌, append_assoc}
+use Rattle.std.proofs.Common.{◌≡◌, ◌<◌, ◌+◌, inl, inr, Ok, Err, get_or, length, take, drop, map, List, [], ◌∷◌, ◌++◌, refl, sym, ap, ap₂, ◌∙◌, append_assoc, append-nil}
+use Rattle.std.proofs.lemmas.List.Concat.{flat_map-append}
 use Rattle.std.proofs.lemmas.Option.{slice_get_read}
 use Rattle.commit_sink.specs.Ledger.{Ledger}
-use Rattle.core_model.specs.Restart.{InTurn, Takes, before_tasks}
+use Rattle.core_model.specs.Restart.{InTurn, Takes, before_tasks, logs_in, openings_of}
 use Rattle.core_model.specs.declared.start.Start.{Start}
 use Rattle.core_model.proofs.Turns.{turn_more, next_of_rest, take_and_drop}
 use Rattle.job_state.specs.declared.holding.Holding.{Holding}
+use Rattle.task_part.specs.Spelling.{Logs}
 use Rattle.recovery.specs.declared.fault.RecoveryFault.{RecoveryFault}
 use Rattle.recovery.specs.declared.fault.RecoveryFault.TheVariants.{Fault, MissingPart, Damaged, Memory}
 use Rattle.recovery.specs.Ends.{EndsTake, StopTaking}
@@ -21,15 +23,19 @@ met_so_far all met x so_far within is =
     ∙ ap (λ ys. ys ++ drop (length met) all) (sym so_far ∙ same_map met)
     ∙ ap (λ ys. met ++ ys) (next_of_rest all (length met) x (slice_get_read all (length all) (length met) x refl within is))
 
-module _ {K S : Type 0} (all met rest : List (Start K S)) (st : Start K S) (old middle new : Ledger) (tasks : List (Holding K S)) (are : all ≡ met ++ st ∷ rest) (done : InTurn Takes met (before_tasks old) (record { ledger = middle; tasks = tasks })) where
-  pub take_next : (h : Holding K S) → EndsTake middle new st (Ok h) → InTurn Takes (met ++ st ∷ []) (before_tasks old) (record { ledger = new; tasks = tasks ++ h ∷ [] })
-  take_next h ends = turn_more Takes met st (before_tasks old) (record { ledger = middle; tasks = tasks }) (record { ledger = new; tasks = tasks ++ h ∷ [] }) done (ends tasks)
+module _ {R K S : Type 0} (all met rest : List (Start R K S)) (st : Start R K S) (old middle new : Ledger) (tasks : List (Holding K S)) (are : all ≡ met ++ st ∷ rest) (done : InTurn Takes met (before_tasks old) (record { ledger = middle; tasks = tasks })) where
+  pub take_next : (x : Holding K S × Logs R) → EndsTake middle new st (Ok x) → InTurn Takes (met ++ st ∷ []) (before_tasks old) (record { ledger = new; tasks = tasks ++ x.0 ∷ [] })
+  take_next x ends = turn_more Takes met st (before_tasks old) (record { ledger = middle; tasks = tasks }) (record { ledger = new; tasks = tasks ++ x.0 ∷ [] }) done (ends.0 tasks)
+
+  -- and its logs are put behind the others
+  pub logs_next : (x : Holding K S × Logs R) (openings : Logs R) → EndsTake middle new st (Ok x) → openings ≡ openings_of met → openings ++ x.1 ≡ openings_of (met ++ st ∷ [])
+  logs_next x openings ends so_far = ap₂ (λ a b. a ++ b) so_far (ends.1 ∙ sym (append-nil (logs_in st))) ∙ sym (flat_map-append logs_in met (st ∷ []))
 
   pub take_stops : (f : RecoveryFault) → EndsTake middle new st (Err f) → StopTaking old new all f
   take_stops Fault ends = record {
     middle = record { ledger = middle; tasks = tasks };
     taken = record { done = met; rest = st ∷ rest; are = are; turns = done };
-    either = inr (ends.0, ends.1, rest, ap (λ x. x ∷ rest) ends.2, ends.3);
+    either = inr (ends.0, ends.1, ends.2, rest, ap (λ x. x ∷ rest) ends.3, ends.4);
   }
   take_stops MissingPart ends = absurd ends
   take_stops (Damaged task fault) ends = record {
@@ -37,20 +43,21 @@ module _ {K S : Type 0} (all met rest : List (Start K S)) (st : Start K S) (old 
     taken = record { done = met; rest = st ∷ rest; are = are; turns = done };
     subtask = ends.0;
     names = ends.1;
+    logs = ends.2;
     more = rest;
-    next = ap (λ x. x ∷ rest) ends.2;
-    refused = ends.3;
+    next = ap (λ x. x ∷ rest) ends.3;
+    refused = ends.4;
   }
   take_stops Memory ends = record {
     middle = record { ledger = middle; tasks = tasks };
     taken = record { done = met; rest = st ∷ rest; are = are; turns = done };
-    either = inr (ends.0, ends.1, rest, ap (λ x. x ∷ rest) ends.2, ends.3);
+    either = inr (ends.0, ends.1, ends.2, rest, ap (λ x. x ∷ rest) ends.3, ends.4);
   }
 
   -- it has taken it, and there is no memory to hold it
-  pub push_stops : (h : Holding K S) → EndsTake middle new st (Ok h) → StopTaking old new all Memory
-  push_stops h ends = record {
-    middle = record { ledger = new; tasks = tasks ++ h ∷ [] };
-    taken = record { done = met ++ st ∷ []; rest = rest; are = are ∙ sym (append_assoc met (st ∷ []) rest); turns = take_next h ends };
+  pub push_stops : (x : Holding K S × Logs R) → EndsTake middle new st (Ok x) → StopTaking old new all Memory
+  push_stops x ends = record {
+    middle = record { ledger = new; tasks = tasks ++ x.0 ∷ [] };
+    taken = record { done = met ++ st ∷ []; rest = rest; are = are ∙ sym (append_assoc met (st ∷ []) rest); turns = take_next x ends };
     either = inl refl;
   }

@@ -7,7 +7,7 @@ use Rattle.commit_sink.specs.Ledger.{Ledger}
 use Rattle.commit_sink.specs.declared.transactions.TransactionFault.{TransactionFault}
 use Rattle.commit_sink.specs.declared.transactions.TransactionFault.TheVariants as transactions
 use Rattle.core_model.specs.Language.{Language}
-use Rattle.core_model.specs.Restart.{InTurn, UpTo, AreStarts, IsInPart, CommitsNext, AbortsNext, Settles, SettlesPartly, NamesOther, Takes, first_start, TakeSome, TakeUntilRefused, before_tasks}
+use Rattle.core_model.specs.Restart.{InTurn, UpTo, AreStarts, IsInPart, CommitsNext, AbortsNext, Settles, SettlesPartly, NamesOther, Takes, first_start, logs_in, openings_of, TakeSome, TakeUntilRefused, before_tasks}
 use Rattle.core_model.specs.declared.fault.CoreFault.{CoreFault}
 use Rattle.core_model.specs.declared.fault.CoreFault.TheVariants as core
 use Rattle.core_model.specs.declared.start.Start.{Start}
@@ -16,6 +16,8 @@ use Rattle.job_graph.specs.Expanded.{Expanded}
 use Rattle.job_graph.specs.declared.role.Role.{Role}
 use Rattle.job_state.specs.declared.holding.Holding.{Holding}
 use Rattle.snapshot_store.specs.Store.{Stored, IsLatest, part_of}
+use Rattle.task_part.specs.Spelling.{Logs}
+use Rattle.task_part.specs.declared.part.Part.{Part}
 use Rattle.recovery.specs.declared.fault.RecoveryFault.{RecoveryFault}
 use Rattle.recovery.specs.declared.fault.RecoveryFault.TheVariants.{Fault, MissingPart, Damaged, Memory}
 
@@ -36,27 +38,39 @@ abbrev pub call_fault : TransactionFault → RecoveryFault
 call_fault transactions.Memory = Memory
 call_fault other = Fault
 
-module _ {R K S O : Type 0} (lang : Language R K S O) (KeyFits : K → Type 0) (IsGood : O → S → Type 0) (operators : List O) (partitions : List (List R)) (stored : Stored) where
+module _ {R K S O : Type 0} (lang : Language R K S O) (stored : Stored) where
+  -- a task's part of a checkpoint is there, and reads as this
+  abbrev pub IsReadAs : ℕ → ℕ → Result (Part R K S) CodecFault → Type 0
+  IsReadAs number task read = (bytes : List ℕ) × (part_of stored number task ≡ Some bytes) × (whole_of lang.read_part bytes ≡ read)
+
+  -- what reading it answers
+  abbrev pub EndsReading : ℕ → ℕ → Result (Part R K S) RecoveryFault → Type 0
+  EndsReading number task (Ok p) = IsReadAs number task (Ok p)
+  EndsReading number task (Err Fault) = Unit {0}
+  EndsReading number task (Err MissingPart) = part_of stored number task ≡ None
+  EndsReading number task (Err (Damaged which fault)) = (which ≡ task) × IsReadAs number task (Err fault)
+  EndsReading number task (Err Memory) = Unit {0}
+
+module _ {R K S O : Type 0} (lang : Language R K S O) (KeyFits : K → Type 0) (RecordFits : R → Type 0) (IsGood : O → S → Type 0) (graph : Expanded) (operators : List O) (partitions : List (List R)) (stored : Stored) where
   -- the bytes spell no part, by this fault; or one that the task can't start from
   abbrev pub IsDamage : ℕ → ℕ → Role → CodecFault → Type 0
   IsDamage number task r fault =
       (bytes : List ℕ) × (part_of stored number task ≡ Some bytes) ×
-      ((whole_of lang.read_part bytes ≡ Err fault) ⊎ ((fault ≡ BadTag) × ((st : Start K S) → IsInPart lang KeyFits IsGood operators partitions stored number task r st → ⊥)))
+      ((whole_of lang.read_part bytes ≡ Err fault) ⊎ ((fault ≡ BadTag) × ((st : Start R K S) → IsInPart lang KeyFits RecordFits IsGood graph operators partitions stored number task r st → ⊥)))
 
-  -- what reading one task's part of a checkpoint answers
-  abbrev pub EndsPart : ℕ → ℕ → Role → Result (Start K S) RecoveryFault → Type 0
-  EndsPart number task r (Ok st) = IsInPart lang KeyFits IsGood operators partitions stored number task r st
+  -- what reading and judging one task's part of a checkpoint answers
+  abbrev pub EndsPart : ℕ → ℕ → Role → Result (Start R K S) RecoveryFault → Type 0
+  EndsPart number task r (Ok st) = IsInPart lang KeyFits RecordFits IsGood graph operators partitions stored number task r st
   EndsPart number task r (Err Fault) = Unit {0}
   EndsPart number task r (Err MissingPart) = part_of stored number task ≡ None
   EndsPart number task r (Err (Damaged which fault)) = (which ≡ task) × IsDamage number task r fault
   EndsPart number task r (Err Memory) = Unit {0}
 
-  abbrev pub EndsTask : Option ℕ → ℕ → Role → Result (Start K S) RecoveryFault → Type 0
+  abbrev pub EndsTask : Option ℕ → ℕ → Role → Result (Start R K S) RecoveryFault → Type 0
   EndsTask None task r (Ok st) = st ≡ first_start r
   EndsTask None task r (Err other) = ⊥
   EndsTask (Some number) task r result = EndsPart number task r result
 
-module _ {R K S O : Type 0} (lang : Language R K S O) (KeyFits : K → Type 0) (IsGood : O → S → Type 0) (operators : List O) (partitions : List (List R)) (stored : Stored) (graph : Expanded) where
   -- a task's part of the last complete checkpoint is not there
   pub record LacksPart : Type 0 where
     pub last : ℕ
@@ -72,7 +86,7 @@ module _ {R K S O : Type 0} (lang : Language R K S O) (KeyFits : K → Type 0) (
     pub latest : IsLatest stored (Some last)
     pub role : Role
     pub is_task : slice_get graph.tasks task ≡ Some role
-    pub damage : IsDamage lang KeyFits IsGood operators partitions stored last task role fault
+    pub damage : IsDamage last task role fault
 
   -- why the parts can't be read
   abbrev pub CannotRestore : RecoveryFault → Type 0
@@ -82,15 +96,15 @@ module _ {R K S O : Type 0} (lang : Language R K S O) (KeyFits : K → Type 0) (
   CannotRestore Memory = Unit {0}
 
   -- what reading them answers
-  abbrev pub EndsRestore : Result (Option ℕ × List (Start K S)) RecoveryFault → Type 0
-  EndsRestore (Ok x) = AreStarts lang KeyFits IsGood operators partitions stored graph x.0 x.1
+  abbrev pub EndsRestore : Result (Option ℕ × List (Start R K S)) RecoveryFault → Type 0
+  EndsRestore (Ok x) = AreStarts lang KeyFits RecordFits IsGood graph operators partitions stored x.0 x.1
   EndsRestore (Err f) = CannotRestore f
 
 -- a sink's subtask is one of so many
-abbrev pub IsBelow : {K S : Type 0} → ℕ → Start K S → Type 0
+abbrev pub IsBelow : {R K S : Type 0} → ℕ → Start R K S → Type 0
 IsBelow count (start.Source offset) = Unit {0}
-IsBelow count (start.Operator entries) = Unit {0}
-IsBelow count (start.Sink subtask names) = subtask < count
+IsBelow count (start.Operator entries logs) = Unit {0}
+IsBelow count (start.Sink subtask names logs) = subtask < count
 
 module _ (old new : Ledger) where
   -- the commits of a sink's names, and the aborts of the others
@@ -113,19 +127,19 @@ module _ (old new : Ledger) where
   EndsSettle names subtask (Err (Damaged task fault)) = NamesOther names old new
   EndsSettle names subtask (Err other) = ⊥
 
-  module _ {K S : Type 0} where
-    -- one task
-    abbrev pub EndsTake : Start K S → Result (Holding K S) RecoveryFault → Type 0
-    EndsTake st (Ok h) = (tasks : List (Holding K S)) → Takes st (record { ledger = old; tasks = tasks }) (record { ledger = new; tasks = tasks ++ h ∷ [] })
+  module _ {R K S : Type 0} where
+    -- one task, with the logs that it starts from
+    abbrev pub EndsTake : Start R K S → Result (Holding K S × Logs R) RecoveryFault → Type 0
+    EndsTake st (Ok x) = ((tasks : List (Holding K S)) → Takes st (record { ledger = old; tasks = tasks }) (record { ledger = new; tasks = tasks ++ x.0 ∷ [] })) × (x.1 ≡ logs_in st)
     EndsTake st (Err MissingPart) = ⊥
-    EndsTake st (Err (Damaged task fault)) = (subtask : ℕ) × (names : List ℕ) × (st ≡ start.Sink subtask names) × NamesOther names old new
-    EndsTake st (Err other) = (subtask : ℕ) × (names : List ℕ) × (st ≡ start.Sink subtask names) × SettlesPartly names subtask old new
+    EndsTake st (Err (Damaged task fault)) = (subtask : ℕ) × (names : List ℕ) × (logs : Logs R) × (st ≡ start.Sink subtask names logs) × NamesOther names old new
+    EndsTake st (Err other) = (subtask : ℕ) × (names : List ℕ) × (logs : Logs R) × (st ≡ start.Sink subtask names logs) × SettlesPartly names subtask old new
 
     -- all of them have, or this stopped them
-    abbrev pub TakeAll : List (Start K S) → List (Holding K S) → Type 0
-    TakeAll starts tasks = InTurn Takes starts (before_tasks old) (record { ledger = new; tasks = tasks })
+    abbrev pub TakeAll : List (Start R K S) → List (Holding K S) × Logs R → Type 0
+    TakeAll starts x = InTurn Takes starts (before_tasks old) (record { ledger = new; tasks = x.0 }) × (x.1 ≡ openings_of starts)
 
-    abbrev pub StopTaking : List (Start K S) → RecoveryFault → Type 0
+    abbrev pub StopTaking : List (Start R K S) → RecoveryFault → Type 0
     StopTaking starts Fault = TakeSome starts old new
     StopTaking starts MissingPart = ⊥
     StopTaking starts (Damaged task fault) = TakeUntilRefused starts old new

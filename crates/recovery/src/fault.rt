@@ -33,6 +33,17 @@ impl From<NoMemory> for RecoveryFault {
     }
 }
 
+impl From<AllocError> for RecoveryFault {
+    ghost use Rattle.std.specs.Prelude.{◌≡◌};
+    ghost use Rattle.recovery.specs.declared.fault.RecoveryFault.TheVariants.{Memory};
+
+    ghost from_gives = { λ _ e. e ≡ Memory };
+
+    fn from(_e: AllocError) -> RecoveryFault {
+        RecoveryFault::Memory
+    }
+}
+
 impl<T: Drop> From<AllocFailed<T>> for RecoveryFault {
     ghost use Rattle.std.specs.Prelude.{◌≡◌};
     ghost use Rattle.recovery.specs.declared.fault.RecoveryFault.TheVariants.{Memory};

@@ -5,6 +5,7 @@
 #![tactic(auto)]
 
 mod fault;
+mod logs;
 mod parts;
 mod restart;
 mod settle;

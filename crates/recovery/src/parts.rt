@@ -1,59 +1,105 @@
 //! The parts of the last complete checkpoint, read and judged.
 
-ghost use Rattle.std.specs.Prelude.{◌≡◌, ◌<◌, ◌≤◌, ℕ, Err, IfOk, MatchResult};
+ghost use Rattle.std.specs.Prelude.{◌≡◌, ◌≢◌, ◌<◌, ◌≤◌, ℕ, true, Some, Ok, Err, IfOk, IfErr, MatchResult, slice_get};
+ghost use Rattle.abs_codec.specs.declared.fault.CodecFault.TheVariants.{Memory};
+ghost use Rattle.abs_codec.specs.Reading.{whole_of};
 ghost use Rattle.abs_codec.specs.Spelling.{Fits};
+ghost use Rattle.job_graph.specs.declared.role.Role.{Role};
 ghost use Rattle.operators.specs.Operator.{IsGoodState};
-ghost use Rattle.snapshot_store.specs.Store.{IsLatest};
+ghost use Rattle.snapshot_store.specs.Store.{IsLatest, is_complete};
 ghost use Rattle.core_model.specs.Language.{language};
-ghost use Rattle.core_model.specs.Restart.{AreStarts, IsStart};
+ghost use Rattle.core_model.specs.Restart.{AreStarts};
 ghost use Rattle.recovery.specs.declared.fault.RecoveryFault.TheVariants as RecoveryFault;
-ghost use Rattle.recovery.specs.Ends.{EndsTask, CannotRestore, EndsRestore};
+ghost use Rattle.recovery.specs.Ends.{EndsReading, EndsTask, CannotRestore, EndsRestore};
 
 use crate::fault::RecoveryFault;
-use crate::starts::{first_start, start_from};
+use crate::starts::{first_start, start_by};
+use abs_codec::{Codec, CodecFault, decode_all};
 use core_model::Start;
-use job_graph::{Graph, Role};
+use job_graph::Graph;
 use operators::Operator;
-use snapshot_store::SnapshotStore;
+use snapshot_store::{SnapshotStore, StoreFault};
 use source_log::Partitions;
 use std::alloc::Global;
 use std::marker::Model;
+use task_part::Part;
 
 /// What a job starts from: the last complete number, if there is one, and what each task starts from.
 #[derive(Drop)]
 pub struct Restored<O: Operator> {
     pub(crate) number: Option<u64>,
-    pub(crate) starts: Vec<Start<O::Key, O::State>>,
+    pub(crate) starts: Vec<Start<O::Record, O::Key, O::State>>,
 }
 
 impl<O: Operator> Model for Restored<O> {
     ghost use Rattle.std.specs.Prelude.{ℕ, List, Option};
     ghost use Rattle.core_model.specs.declared.start.Start.{Start};
 
-    ghost Value = { Option ℕ × List (Start O.Key O.State) };
+    ghost Value = { Option ℕ × List (Start O.Record O.Key O.State) };
 
     ghost view = { λ r. (r.number, r.starts.items) };
+}
+
+/// The value that the bytes spell.
+fn decoded<T: Codec>(alloc: Global, bytes: &[u8]) -> Result<T, CodecFault>
+    ensures ok { IfOk result (λ v. whole_of T.reading bytes.now ≡ Ok v) }
+    ensures err { IfErr result (λ f. f ≢ Memory → whole_of T.reading bytes.now ≡ Err f) }
+{
+    decode_all(alloc, bytes)
+}
+
+/// A task's part of a complete checkpoint.
+fn read_part<O: Operator, S: SnapshotStore>(
+    alloc: Global,
+    number: u64,
+    task: u32,
+    store: &mut S,
+) -> Result<Part<O::Record, O::Key, O::State>, RecoveryFault>
+    requires { is_complete (S.state store.old) number ≡ true }
+    ensures ends { EndsReading (language O.meaning O.Key.cmp O.Record.spelling O.Record.reading O.Key.reading O.State.reading) (S.state store.old) number task result }
+    ensures same { S.state store.new ≡ S.state store.old }
+    ensures counted { result ≡ Err RecoveryFault.Fault → S.fault_count store.old < S.fault_count store.new }
+    ensures grows { S.fault_count store.old ≤ S.fault_count store.new }
+{
+    let bytes = match store.get(number, task) {
+        Ok(bytes) => bytes,
+        Err(StoreFault::MissingPart) => return Err(RecoveryFault::MissingPart),
+        Err(StoreFault::Memory) => return Err(RecoveryFault::Memory),
+        Err(_) => return Err(RecoveryFault::Fault),
+    };
+    match decoded(alloc, &bytes) {
+        Ok(part) => Ok(part),
+        Err(CodecFault::Memory) => Err(RecoveryFault::Memory),
+        Err(fault) => Err(RecoveryFault::Damaged(task, fault)),
+    }
 }
 
 /// What a task starts from, by the last complete number.
 fn start_at<O: Operator, S: SnapshotStore, P: Partitions<Record = O::Record>>(
     alloc: Global,
     last: Option<u64>,
+    graph: &Graph,
     task: u32,
-    role: Role,
     operators: &[O],
     store: &mut S,
     log: &P,
-) -> Result<Start<O::Key, O::State>, RecoveryFault>
+) -> Result<Start<O::Record, O::Key, O::State>, RecoveryFault>
     requires { IsLatest (S.state store.old) last }
-    ensures ends { EndsTask (language O.meaning O.Key.cmp O.Record.spelling O.Record.reading O.Key.reading O.State.reading) (Fits O.Key.HasSpelling O.Key.spelling) (IsGoodState (Fits O.State.HasSpelling O.State.spelling) O.Suits) operators.now (P.records log.now) (S.state store.old) last task role result }
+    ensures ends { (role : Role) → slice_get graph.now.tasks task ≡ Some role → EndsTask (language O.meaning O.Key.cmp O.Record.spelling O.Record.reading O.Key.reading O.State.reading) (Fits O.Key.HasSpelling O.Key.spelling) (Fits O.Record.HasSpelling O.Record.spelling) (IsGoodState (Fits O.State.HasSpelling O.State.spelling) O.Suits) graph.now operators.now (P.records log.now) (S.state store.old) last task role result }
     ensures same { S.state store.new ≡ S.state store.old }
     ensures counted { result ≡ Err RecoveryFault.Fault → S.fault_count store.old < S.fault_count store.new }
     ensures grows { S.fault_count store.old ≤ S.fault_count store.new }
 {
-    match last {
-        Some(number) => start_from(alloc, number, task, role, operators, store, log),
-        None => Ok(first_start(alloc, role)),
+    let Some(role) = graph.role(task) else {
+        return Err(RecoveryFault::MissingPart);
+    };
+    let Some(number) = last else {
+        return Ok(first_start(alloc, role));
+    };
+    let part = read_part::<O, S>(alloc, number, task, store)?;
+    match start_by(graph, task, role, part, operators, log) {
+        Some(start) => Ok(start),
+        None => Err(RecoveryFault::Damaged(task, CodecFault::BadTag)),
     }
 }
 
@@ -65,19 +111,16 @@ fn starts_at<O: Operator, S: SnapshotStore, P: Partitions<Record = O::Record>>(
     operators: &[O],
     store: &mut S,
     log: &P,
-) -> Result<Vec<Start<O::Key, O::State>>, RecoveryFault>
+) -> Result<Vec<Start<O::Record, O::Key, O::State>>, RecoveryFault>
     requires { IsLatest (S.state store.old) last }
-    ensures ends { MatchResult result (λ starts. AreStarts (language O.meaning O.Key.cmp O.Record.spelling O.Record.reading O.Key.reading O.State.reading) (Fits O.Key.HasSpelling O.Key.spelling) (IsGoodState (Fits O.State.HasSpelling O.State.spelling) O.Suits) operators.now (P.records log.now) (S.state store.old) graph.now last starts.items) (CannotRestore (language O.meaning O.Key.cmp O.Record.spelling O.Record.reading O.Key.reading O.State.reading) (Fits O.Key.HasSpelling O.Key.spelling) (IsGoodState (Fits O.State.HasSpelling O.State.spelling) O.Suits) operators.now (P.records log.now) (S.state store.old) graph.now) }
+    ensures ends { MatchResult result (λ starts. AreStarts (language O.meaning O.Key.cmp O.Record.spelling O.Record.reading O.Key.reading O.State.reading) (Fits O.Key.HasSpelling O.Key.spelling) (Fits O.Record.HasSpelling O.Record.spelling) (IsGoodState (Fits O.State.HasSpelling O.State.spelling) O.Suits) graph.now operators.now (P.records log.now) (S.state store.old) last starts.items) (CannotRestore (language O.meaning O.Key.cmp O.Record.spelling O.Record.reading O.Key.reading O.State.reading) (Fits O.Key.HasSpelling O.Key.spelling) (Fits O.Record.HasSpelling O.Record.spelling) (IsGoodState (Fits O.State.HasSpelling O.State.spelling) O.Suits) graph.now operators.now (P.records log.now) (S.state store.old)) }
     ensures same { S.state store.new ≡ S.state store.old }
     ensures counted { result ≡ Err RecoveryFault.Fault → S.fault_count store.old < S.fault_count store.new }
     ensures grows { S.fault_count store.old ≤ S.fault_count store.new }
 {
     let mut starts = Vec::new(alloc);
     for task in 0..graph.tasks() {
-        let Some(role) = graph.role(task) else {
-            return Err(RecoveryFault::MissingPart);
-        };
-        let start = start_at(alloc, last, task, role, operators, store, log)?;
+        let start = start_at(alloc, last, graph, task, operators, store, log)?;
         starts.push(start)?;
     }
     Ok(starts)
@@ -91,7 +134,7 @@ pub fn restore<O: Operator, S: SnapshotStore, P: Partitions<Record = O::Record>>
     store: &mut S,
     log: &P,
 ) -> Result<Restored<O>, RecoveryFault>
-    ensures ends { EndsRestore (language O.meaning O.Key.cmp O.Record.spelling O.Record.reading O.Key.reading O.State.reading) (Fits O.Key.HasSpelling O.Key.spelling) (IsGoodState (Fits O.State.HasSpelling O.State.spelling) O.Suits) operators.now (P.records log.now) (S.state store.old) graph.now result }
+    ensures ends { EndsRestore (language O.meaning O.Key.cmp O.Record.spelling O.Record.reading O.Key.reading O.State.reading) (Fits O.Key.HasSpelling O.Key.spelling) (Fits O.Record.HasSpelling O.Record.spelling) (IsGoodState (Fits O.State.HasSpelling O.State.spelling) O.Suits) graph.now operators.now (P.records log.now) (S.state store.old) result }
     ensures same { S.state store.new ≡ S.state store.old }
     ensures counted { result ≡ Err RecoveryFault.Fault → S.fault_count store.old < S.fault_count store.new }
     ensures grows { S.fault_count store.old ≤ S.fault_count store.new }

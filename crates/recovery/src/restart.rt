@@ -30,14 +30,14 @@ pub fn restarted<O: Operator, S: SnapshotStore, X: Transactions, P: Partitions<R
     transactions: &mut X,
 ) -> Result<(Option<u64>, Attempt<O>), CoreFault>
     requires sinks { (task subtask : ℕ) → slice_get graph.now.tasks task ≡ Some (Role.Sink subtask) → subtask < (X.state transactions.old).subtasks }
-    ensures ends { EndsRestart (language O.meaning O.Key.cmp O.Record.spelling O.Record.reading O.Key.reading O.State.reading) (Fits O.Key.HasSpelling O.Key.spelling) (IsGoodState (Fits O.State.HasSpelling O.State.spelling) O.Suits) operators.now (P.records log.now) (S.state store.old) graph.now (X.state transactions.old) (X.state transactions.new) result }
+    ensures ends { EndsRestart (language O.meaning O.Key.cmp O.Record.spelling O.Record.reading O.Key.reading O.State.reading) (Fits O.Key.HasSpelling O.Key.spelling) (Fits O.Record.HasSpelling O.Record.spelling) (IsGoodState (Fits O.State.HasSpelling O.State.spelling) O.Suits) graph.now operators.now (P.records log.now) (S.state store.old) (X.state transactions.old) (X.state transactions.new) result }
     ensures same { S.state store.new ≡ S.state store.old }
     ensures counted { result ≡ Err CoreFault.Device → S.fault_count store.old + X.fault_count transactions.old < S.fault_count store.new + X.fault_count transactions.new }
     ensures grows { (S.fault_count store.old ≤ S.fault_count store.new) × (X.fault_count transactions.old ≤ X.fault_count transactions.new) }
 {
     let _ = graph.tasks();
     let Restored { number, starts } = restore(alloc, graph, operators, store, log)?;
-    let tasks = settle_transactions(alloc, starts, transactions)?;
-    let attempt = Attempt::new(alloc, tasks, graph.channels(), number)?;
+    let (tasks, openings) = settle_transactions(alloc, starts, transactions)?;
+    let attempt = Attempt::new(alloc, graph, tasks, openings, number)?;
     Ok((number, attempt))
 }

@@ -7,7 +7,7 @@ ghost use Rattle.recovery.specs.Ends as faults;
 ghost use Rattle.recovery.specs.Ends.{EndsCommits, EndsAborts, EndsSettle, EndsTake, TakeAll, StopTaking, IsBelow};
 
 use crate::fault::RecoveryFault;
-use abs_codec::CodecFault;
+use abs_codec::{CodecFault, Items};
 use commit_sink::{Sink, TransactionFault, Transactions};
 use core_model::Start;
 use job_state::Holding;
@@ -97,13 +97,13 @@ fn settle_sink<X: Transactions>(
     }
 }
 
-/// What a task holds when it starts; a sink settles its transactions.
-fn take<K: Ord + Drop, S: Drop, X: Transactions>(
+/// What a task holds when it starts, and the logs that it starts from; a sink settles its transactions.
+fn take<R: Drop, K: Ord + Drop, S: Drop, X: Transactions>(
     alloc: Global,
     task: u32,
-    start: Start<K, S>,
+    start: Start<R, K, S>,
     transactions: &mut X,
-) -> Result<Holding<K, S>, RecoveryFault>
+) -> Result<(Holding<K, S>, Items<(u32, Items<R>)>), RecoveryFault>
     requires { IsBelow (X.state transactions.old).subtasks start }
     ensures ends { EndsTake (X.state transactions.old) (X.state transactions.new) start result }
     ensures same { (X.state transactions.new).subtasks ≡ (X.state transactions.old).subtasks }
@@ -111,32 +111,34 @@ fn take<K: Ord + Drop, S: Drop, X: Transactions>(
     ensures grows { X.fault_count transactions.old ≤ X.fault_count transactions.new }
 {
     match start {
-        Start::Source(offset) => Ok(Holding::Source(offset)),
-        Start::Operator(states) => Ok(Holding::Operator(states)),
-        Start::Sink(subtask, names) => {
+        Start::Source(offset) => Ok((Holding::Source(offset), Items::new(alloc))),
+        Start::Operator(states, logs) => Ok((Holding::Operator(states), logs)),
+        Start::Sink(subtask, names, logs) => {
             let opened = settle_sink(task, subtask, names.as_slice(), transactions)?;
-            Ok(Holding::Sink(Sink::new(alloc, opened)))
+            Ok((Holding::Sink(Sink::new(alloc, opened)), logs))
         }
     }
 }
 
-/// Each task takes what it starts from, and each sink settles its transactions.
-pub fn settle_transactions<K: Ord + Drop, S: Drop, X: Transactions>(
+/// Each task takes what it starts from, and each sink settles its transactions: what the tasks hold, and the logs of all of them.
+pub fn settle_transactions<R: Drop, K: Ord + Drop, S: Drop, X: Transactions>(
     alloc: Global,
-    starts: Vec<Start<K, S>>,
+    starts: Vec<Start<R, K, S>>,
     transactions: &mut X,
-) -> Result<Vec<Holding<K, S>>, RecoveryFault>
+) -> Result<(Vec<Holding<K, S>>, Vec<(u32, Items<R>)>), RecoveryFault>
     requires few { length starts.items < 2 ^ 32 }
     requires below { All (IsBelow (X.state transactions.old).subtasks) starts.items }
-    ensures ends { MatchResult result (λ tasks. TakeAll (X.state transactions.old) (X.state transactions.new) starts.items tasks.items) (StopTaking (X.state transactions.old) (X.state transactions.new) starts.items) }
+    ensures ends { MatchResult result (λ x. TakeAll (X.state transactions.old) (X.state transactions.new) starts.items (x.0.items, x.1.items)) (StopTaking (X.state transactions.old) (X.state transactions.new) starts.items) }
     ensures counted { result ≡ Err RecoveryFault.Fault → X.fault_count transactions.old < X.fault_count transactions.new }
     ensures grows { X.fault_count transactions.old ≤ X.fault_count transactions.new }
 {
     let mut tasks = Vec::new(alloc);
+    let mut openings = Vec::new(alloc);
     for start in starts {
         let task = tasks.len() as u32;
-        let holding = take(alloc, task, start, transactions)?;
+        let (holding, logs) = take(alloc, task, start, transactions)?;
+        openings.append(&mut logs.into_vec())?;
         tasks.push(holding)?;
     }
-    Ok(tasks)
+    Ok((tasks, openings))
 }

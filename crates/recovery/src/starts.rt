@@ -1,39 +1,34 @@
 //! What a task starts from, by its part of a checkpoint.
 
-ghost use Rattle.std.specs.Prelude.{◌≡◌, ◌≢◌, ◌<◌, ◌≤◌, ◌↔◌, ℕ, length, Some, None, Ok, Err, List, true, IfOk, IfErr, IfSome, IfNone, IsTrue, slice_get};
-ghost use Rattle.abs_codec.specs.declared.fault.CodecFault.TheVariants.{Memory};
+ghost use Rattle.std.specs.Prelude.{◌≡◌, ◌<◌, ◌≤◌, ◌↔◌, ℕ, length, Some, List, IfSome, IfNone, IsTrue};
 ghost use Rattle.abs_codec.specs.Entries.{value_at};
-ghost use Rattle.abs_codec.specs.Reading.{whole_of};
 ghost use Rattle.abs_codec.specs.Spelling.{Fits};
 ghost use Rattle.operators.specs.Operator.{IsGoodState};
-ghost use Rattle.snapshot_store.specs.Store.{is_complete};
 ghost use Rattle.source_log.specs.Partitions.{records_at};
 ghost use Rattle.core_model.specs.Language.{language};
 ghost use Rattle.core_model.specs.Restart as restart;
-ghost use Rattle.core_model.specs.Restart.{Suits, IsInPart, part_for};
+ghost use Rattle.core_model.specs.Restart.{Suits, part_for};
 ghost use Rattle.core_model.specs.declared.start.Start.{Start};
 ghost use Rattle.core_model.specs.declared.start.Start.TheVariants as Start;
-ghost use Rattle.recovery.specs.declared.fault.RecoveryFault.TheVariants as RecoveryFault;
-ghost use Rattle.recovery.specs.Ends.{EndsPart};
+ghost use Rattle.task_part.specs.declared.part.Part.TheVariants as Part;
 
-use crate::fault::RecoveryFault;
-use abs_codec::{Codec, CodecFault, Items, Map, decode_all};
+use crate::logs::logs_suit;
+use abs_codec::{Codec, Items, Map};
 use core_model::Start;
-use job_graph::Role;
+use job_graph::{Graph, Role};
 use operators::Operator;
-use snapshot_store::{SnapshotStore, StoreFault};
 use source_log::Partitions;
 use std::alloc::Global;
 use task_part::Part;
 
 /// What a task starts from where no checkpoint is complete. It takes no memory.
-pub(crate) fn first_start<K: Ord, S>(alloc: Global, role: Role) -> Start<K, S>
+pub(crate) fn first_start<R, K: Ord, S>(alloc: Global, role: Role) -> Start<R, K, S>
     ensures { result ≡ restart.first_start role }
 {
     match role {
         Role::Source(_) => Start::Source(0),
-        Role::Operator(_) => Start::Operator(Map::new(alloc)),
-        Role::Sink(subtask) => Start::Sink(subtask, Items::new(alloc)),
+        Role::Operator(_) => Start::Operator(Map::new(alloc), Items::new(alloc)),
+        Role::Sink(subtask) => Start::Sink(subtask, Items::new(alloc), Items::new(alloc)),
     }
 }
 
@@ -66,14 +61,16 @@ fn are_good<O: Operator>(operator: &O, states: &Map<O::Key, O::State>) -> bool
     true
 }
 
-/// What a task starts from, if its part has this offset.
+/// What a source starts from, if its part has this offset.
 fn source_start<O: Operator, P: Partitions<Record = O::Record>>(
+    graph: &Graph,
+    task: u32,
     role: Role,
     offset: u64,
     log: &P,
-) -> Option<Start<O::Key, O::State>>
-    ensures some { IfSome result (λ st. (st ≡ Start.Source offset) × ((operators : List O) → Suits (language O.meaning O.Key.cmp O.Record.spelling O.Record.reading O.Key.reading O.State.reading) (Fits O.Key.HasSpelling O.Key.spelling) (IsGoodState (Fits O.State.HasSpelling O.State.spelling) O.Suits) operators (P.records log.now) role st)) }
-    ensures none { IfNone result ((operators : List O) → Suits (language O.meaning O.Key.cmp O.Record.spelling O.Record.reading O.Key.reading O.State.reading) (Fits O.Key.HasSpelling O.Key.spelling) (IsGoodState (Fits O.State.HasSpelling O.State.spelling) O.Suits) operators (P.records log.now) role (Start.Source offset) → ⊥) }
+) -> Option<Start<O::Record, O::Key, O::State>>
+    ensures some { IfSome result (λ st. (st ≡ Start.Source offset) × ((operators : List O) → Suits (language O.meaning O.Key.cmp O.Record.spelling O.Record.reading O.Key.reading O.State.reading) (Fits O.Key.HasSpelling O.Key.spelling) (Fits O.Record.HasSpelling O.Record.spelling) (IsGoodState (Fits O.State.HasSpelling O.State.spelling) O.Suits) graph.now operators (P.records log.now) task role st)) }
+    ensures none { IfNone result ((operators : List O) → Suits (language O.meaning O.Key.cmp O.Record.spelling O.Record.reading O.Key.reading O.State.reading) (Fits O.Key.HasSpelling O.Key.spelling) (Fits O.Record.HasSpelling O.Record.spelling) (IsGoodState (Fits O.State.HasSpelling O.State.spelling) O.Suits) graph.now operators (P.records log.now) task role (Start.Source offset) → ⊥) }
 {
     match role {
         Role::Source(partition) => {
@@ -88,20 +85,23 @@ fn source_start<O: Operator, P: Partitions<Record = O::Record>>(
     }
 }
 
-/// What a task starts from, if its part has these states.
+/// What an operator starts from, if its part has these states and logs.
 fn operator_start<O: Operator>(
+    graph: &Graph,
+    task: u32,
     role: Role,
     states: Map<O::Key, O::State>,
+    logs: Items<(u32, Items<O::Record>)>,
     operators: &[O],
-) -> Option<Start<O::Key, O::State>>
-    ensures some { IfSome result (λ st. (st ≡ Start.Operator states) × ((partitions : List (List O.Record)) → Suits (language O.meaning O.Key.cmp O.Record.spelling O.Record.reading O.Key.reading O.State.reading) (Fits O.Key.HasSpelling O.Key.spelling) (IsGoodState (Fits O.State.HasSpelling O.State.spelling) O.Suits) operators.now partitions role st)) }
-    ensures none { IfNone result ((partitions : List (List O.Record)) → Suits (language O.meaning O.Key.cmp O.Record.spelling O.Record.reading O.Key.reading O.State.reading) (Fits O.Key.HasSpelling O.Key.spelling) (IsGoodState (Fits O.State.HasSpelling O.State.spelling) O.Suits) operators.now partitions role (Start.Operator states) → ⊥) }
+) -> Option<Start<O::Record, O::Key, O::State>>
+    ensures some { IfSome result (λ st. (st ≡ Start.Operator states logs) × ((partitions : List (List O.Record)) → Suits (language O.meaning O.Key.cmp O.Record.spelling O.Record.reading O.Key.reading O.State.reading) (Fits O.Key.HasSpelling O.Key.spelling) (Fits O.Record.HasSpelling O.Record.spelling) (IsGoodState (Fits O.State.HasSpelling O.State.spelling) O.Suits) graph.now operators.now partitions task role st)) }
+    ensures none { IfNone result ((partitions : List (List O.Record)) → Suits (language O.meaning O.Key.cmp O.Record.spelling O.Record.reading O.Key.reading O.State.reading) (Fits O.Key.HasSpelling O.Key.spelling) (Fits O.Record.HasSpelling O.Record.spelling) (IsGoodState (Fits O.State.HasSpelling O.State.spelling) O.Suits) graph.now operators.now partitions task role (Start.Operator states logs) → ⊥) }
 {
     match role {
         Role::Operator(number) => {
             let operator = operators.get(number as usize)?;
-            if are_good(operator, &states) {
-                Some(Start::Operator(states))
+            if are_good(operator, &states) && logs_suit(graph, task, logs.as_slice()) {
+                Some(Start::Operator(states, logs))
             } else {
                 None
             }
@@ -111,74 +111,45 @@ fn operator_start<O: Operator>(
     }
 }
 
-/// What a task starts from, by a part that suits it. No channel of the graphs that are served is a back-edge's, so a part has no logs.
-fn start_by<O: Operator, P: Partitions<Record = O::Record>>(
+/// What a sink starts from, if its part has these transactions and logs.
+fn sink_start<O: Operator>(
+    graph: &Graph,
+    task: u32,
+    role: Role,
+    names: Items<u64>,
+    logs: Items<(u32, Items<O::Record>)>,
+) -> Option<Start<O::Record, O::Key, O::State>>
+    ensures some { IfSome result (λ st. (part_for st ≡ Part.Sink names logs) × ((operators : List O) (partitions : List (List O.Record)) → Suits (language O.meaning O.Key.cmp O.Record.spelling O.Record.reading O.Key.reading O.State.reading) (Fits O.Key.HasSpelling O.Key.spelling) (Fits O.Record.HasSpelling O.Record.spelling) (IsGoodState (Fits O.State.HasSpelling O.State.spelling) O.Suits) graph.now operators partitions task role st)) }
+    ensures none { IfNone result ((subtask : ℕ) (operators : List O) (partitions : List (List O.Record)) → Suits (language O.meaning O.Key.cmp O.Record.spelling O.Record.reading O.Key.reading O.State.reading) (Fits O.Key.HasSpelling O.Key.spelling) (Fits O.Record.HasSpelling O.Record.spelling) (IsGoodState (Fits O.State.HasSpelling O.State.spelling) O.Suits) graph.now operators partitions task role (Start.Sink subtask names logs) → ⊥) }
+{
+    match role {
+        Role::Sink(subtask) => {
+            if logs_suit(graph, task, logs.as_slice()) {
+                Some(Start::Sink(subtask, names, logs))
+            } else {
+                None
+            }
+        }
+        Role::Source(_) => None,
+        Role::Operator(_) => None,
+    }
+}
+
+/// What a task starts from, by a part that suits it.
+pub(crate) fn start_by<O: Operator, P: Partitions<Record = O::Record>>(
+    graph: &Graph,
+    task: u32,
     role: Role,
     part: Part<O::Record, O::Key, O::State>,
     operators: &[O],
     log: &P,
-) -> Option<Start<O::Key, O::State>>
-    ensures some { IfSome result (λ st. (part ≡ part_for st) × Suits (language O.meaning O.Key.cmp O.Record.spelling O.Record.reading O.Key.reading O.State.reading) (Fits O.Key.HasSpelling O.Key.spelling) (IsGoodState (Fits O.State.HasSpelling O.State.spelling) O.Suits) operators.now (P.records log.now) role st) }
-    ensures none { IfNone result ((st : Start O.Key O.State) → part ≡ part_for st → Suits (language O.meaning O.Key.cmp O.Record.spelling O.Record.reading O.Key.reading O.State.reading) (Fits O.Key.HasSpelling O.Key.spelling) (IsGoodState (Fits O.State.HasSpelling O.State.spelling) O.Suits) operators.now (P.records log.now) role st → ⊥) }
+) -> Option<Start<O::Record, O::Key, O::State>>
+    ensures some { IfSome result (λ st. (part ≡ part_for st) × Suits (language O.meaning O.Key.cmp O.Record.spelling O.Record.reading O.Key.reading O.State.reading) (Fits O.Key.HasSpelling O.Key.spelling) (Fits O.Record.HasSpelling O.Record.spelling) (IsGoodState (Fits O.State.HasSpelling O.State.spelling) O.Suits) graph.now operators.now (P.records log.now) task role st) }
+    ensures none { IfNone result ((st : Start O.Record O.Key O.State) → part ≡ part_for st → Suits (language O.meaning O.Key.cmp O.Record.spelling O.Record.reading O.Key.reading O.State.reading) (Fits O.Key.HasSpelling O.Key.spelling) (Fits O.Record.HasSpelling O.Record.spelling) (IsGoodState (Fits O.State.HasSpelling O.State.spelling) O.Suits) graph.now operators.now (P.records log.now) task role st → ⊥) }
 {
     match part {
-        Part::Source(offset) => source_start::<O, P>(role, offset, log),
-        Part::Operator(states, logs) => {
-            if !logs.is_empty() {
-                return None;
-            }
-            operator_start(role, states, operators)
-        }
-        Part::Sink(names, logs) => {
-            if !logs.is_empty() {
-                return None;
-            }
-            match role {
-                Role::Sink(subtask) => Some(Start::Sink(subtask, names)),
-                Role::Source(_) => None,
-                Role::Operator(_) => None,
-            }
-        }
-    }
-}
-
-/// The value that the bytes spell.
-fn decoded<T: Codec>(alloc: Global, bytes: &[u8]) -> Result<T, CodecFault>
-    ensures ok { IfOk result (λ v. whole_of T.reading bytes.now ≡ Ok v) }
-    ensures err { IfErr result (λ f. f ≢ Memory → whole_of T.reading bytes.now ≡ Err f) }
-{
-    decode_all(alloc, bytes)
-}
-
-/// What a task starts from, by its part of a complete checkpoint.
-pub(crate) fn start_from<O: Operator, S: SnapshotStore, P: Partitions<Record = O::Record>>(
-    alloc: Global,
-    number: u64,
-    task: u32,
-    role: Role,
-    operators: &[O],
-    store: &mut S,
-    log: &P,
-) -> Result<Start<O::Key, O::State>, RecoveryFault>
-    requires { is_complete (S.state store.old) number ≡ true }
-    ensures ends { EndsPart (language O.meaning O.Key.cmp O.Record.spelling O.Record.reading O.Key.reading O.State.reading) (Fits O.Key.HasSpelling O.Key.spelling) (IsGoodState (Fits O.State.HasSpelling O.State.spelling) O.Suits) operators.now (P.records log.now) (S.state store.old) number task role result }
-    ensures same { S.state store.new ≡ S.state store.old }
-    ensures counted { result ≡ Err RecoveryFault.Fault → S.fault_count store.old < S.fault_count store.new }
-    ensures grows { S.fault_count store.old ≤ S.fault_count store.new }
-{
-    let bytes = match store.get(number, task) {
-        Ok(bytes) => bytes,
-        Err(StoreFault::MissingPart) => return Err(RecoveryFault::MissingPart),
-        Err(StoreFault::Memory) => return Err(RecoveryFault::Memory),
-        Err(_) => return Err(RecoveryFault::Fault),
-    };
-    let part = match decoded(alloc, &bytes) {
-        Ok(part) => part,
-        Err(CodecFault::Memory) => return Err(RecoveryFault::Memory),
-        Err(fault) => return Err(RecoveryFault::Damaged(task, fault)),
-    };
-    match start_by(role, part, operators, log) {
-        Some(start) => Ok(start),
-        None => Err(RecoveryFault::Damaged(task, CodecFault::BadTag)),
+        Part::Source(offset) => source_start::<O, P>(graph, task, role, offset, log),
+        Part::Operator(states, logs) => operator_start(graph, task, role, states, logs, operators),
+        Part::Sink(names, logs) => sink_start::<O>(graph, task, role, names, logs),
     }
 }

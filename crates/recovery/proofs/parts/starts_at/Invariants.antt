@@ -13,9 +13,9 @@ invariant-loop-task g l =
     let O = g.O in
     record {
       len : length l.starts.items ≡ l.task;
-      each : (t : ℕ) (r : Role) (st : Start g.row.O-Key.Denot g.row.O-State.Denot) → slice_get l.graph.tasks t ≡ Some r → slice_get l.starts.items t ≡ Some st
-          → IsStart (language O.Operator.meaning O.Key.Ord.cmp O.Record.Codec.spelling O.Record.Codec.reading O.Key.Codec.reading O.State.Codec.reading) (Fits O.Key.Codec.HasSpelling O.Key.Codec.spelling)
-          (IsGoodState (Fits O.State.Codec.HasSpelling O.State.Codec.spelling) O.Operator.Suits) l.operators (g.P.Partitions.records l.log) (g.S.SnapshotStore.state l.fn.store) l.last t r st;
+      each : (t : ℕ) (r : Role) (st : Start g.row.O-Record.Denot g.row.O-Key.Denot g.row.O-State.Denot) → slice_get l.graph.tasks t ≡ Some r → slice_get l.starts.items t ≡ Some st
+          → IsStart (language O.Operator.meaning O.Key.Ord.cmp O.Record.Codec.spelling O.Record.Codec.reading O.Key.Codec.reading O.State.Codec.reading) (Fits O.Key.Codec.HasSpelling O.Key.Codec.spelling) (Fits O.Record.Codec.HasSpelling O.Record.Codec.spelling)
+          (IsGoodState (Fits O.State.Codec.HasSpelling O.State.Codec.spelling) O.Operator.Suits) l.graph l.operators (g.P.Partitions.records l.log) (g.S.SnapshotStore.state l.fn.store) l.last t r st;
       same : g.S.SnapshotStore.state l.store ≡ g.S.SnapshotStore.state l.fn.store;
       grows : g.S.SnapshotStore.fault_count l.fn.store ≤ g.S.SnapshotStore.fault_count l.store;
     }
