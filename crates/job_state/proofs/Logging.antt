@@ -1,13 +1,12 @@
 -- The logs as they are seen: of each channel, whether its barrier has come, and what is logged.
-use Rattle.std.proofs.Common.{◌≡◌, ◌<◌, ◌++◌, ◌∷◌, [], ◌-◌, ℕ, zero, suc, Bool, true, false, not, List, length, map, replicate, take, All, Option, Some, slice_get, slice_set, unwrap_or, refl, sym, ap, ◌∙◌, arith}
+use Rattle.std.proofs.Common.{◌≡◌, ◌<◌, ◌++◌, ◌∷◌, [], ◌-◌, ℕ, zero, suc, true, false, not, List, length, replicate, take, Some, slice_get, slice_set, unwrap_or, refl, sym, ap, ◌∙◌, arith}
 use Rattle.std.specs.Option.{option_map}
 use Rattle.std.specs.List.{AllByRecursion}
 use Rattle.std.proofs.Math.Seq.{take-append_seam}
-use Rattle.std.proofs.lemmas.List.{map-set, length-map, length-append}
+use Rattle.std.proofs.lemmas.List.{map-set, length-append}
 use Rattle.std.proofs.lemmas.List.Elements.{recursion_from_All}
 use Rattle.std.proofs.lemmas.Option.{slice_get-get_or, slice_get-map}
 use Rattle.backedge_log.specs.Recorded.{Recorded, log_at, IsFresh, AllFresh, without_last}
-use Rattle.channels.specs.declared.item.Item.{Item}
 use Rattle.channels.specs.declared.item.Item.TheVariants.{Record}
 use Rattle.job_state.specs.Held.{log_with}
 use Rattle.job_state.specs.Inside.{came_of, records_of}

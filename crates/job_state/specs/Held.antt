@@ -1,5 +1,5 @@
 -- What an attempt holds, and what its calls make of it.
-use Rattle.std.specs.Prelude.{◌≡◌, ◌+◌, ◌==◌, ℕ, Bool, true, false, List, [], ◌∷◌, ◌++◌, length, drop, map, filter, flat_map, replicate, slice_get, slice_set, Option, Some, None, unwrap_or, All}
+use Rattle.std.specs.Prelude.{◌≡◌, ◌+◌, ◌==◌, ℕ, Bool, true, false, List, [], ◌∷◌, ◌++◌, length, drop, map, filter, flat_map, replicate, slice_get, slice_set, Option, Some, None, unwrap_or}
 use Rattle.std.specs.List.{range_with_len}
 use Rattle.std.specs.declared.cmp.Ordering.{Ordering}
 use Rattle.abs_codec.specs.Entries.{value_at}

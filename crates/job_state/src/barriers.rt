@@ -108,9 +108,7 @@ impl<O: Operator> Attempt<O> {
         requires copies { task < length self.old.copies }
         ensures { self.new ≡ sink_copied task input channel checkpoint names sink self.old }
     {
-        let _ = take_head(&mut self.channels, channel);
-        note_barrier(&mut self.gates, task, input, checkpoint);
-        close(&mut self.logs, channel);
+        self.take_barrier(task, input, channel, checkpoint);
         self.tasks[task as usize] = Holding::Sink(sink);
         self.copies[task as usize] = Some(Part::Sink(names, Items::new(self.alloc)));
     }

@@ -1,7 +1,6 @@
 use Rattle.std.proofs.Common.{map, ap, ◌∙◌}
 use Rattle.std.proofs.lemmas.Result.{IfOk-weaker}
 use Rattle.alignment.specs.Inputs.{fresh}
-use Rattle.alignment.specs.Table.{Alignment}
 use Rattle.alignment.specs.declared.input.Phase.TheVariants.{AtRest}
 use Rattle.job_graph.specs.Expanded.{meets, is_marked, inputs_of}
 use Rattle.job_state.proofs.Opening.{map_twice}

@@ -1,5 +1,4 @@
-use Rattle.std.proofs.Common.{true, length, sym, ap, ◌∙◌, arith}
-use Rattle.std.proofs.lemmas.List.{length-map}
+use Rattle.std.proofs.Common.{length, sym, ap, ◌∙◌, arith}
 use Rattle.alignment.specs.Table.{is_logged}
 use Rattle.job_state.specs.Inside.{gate_in}
 use Rattle.job_state.proofs.Holds.{unlogged}
