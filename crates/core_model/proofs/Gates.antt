@@ -1,5 +1,5 @@
 -- What a task's gate says of the barriers that were taken, of the task's copy, and of the records that are logged.
-use Rattle.std.proofs.Common.{◌≡◌, ◌≢◌, ◌<◌, ◌+◌, ◌&&◌, not, inl, inr, cond, if◌then◌else◌, All, Option, Some, None, slice_get, slice_set, slice_index_or, unwrap_or, is_some, length, map, count_by, ℕ, zero, suc, Bool, true, false, List, [], ◌∷◌, ◌++◌, refl, sym, ap, subst, ◌∙◌, arith}
+use Rattle.std.proofs.Common.{◌≡◌, ◌≢◌, ◌<◌, ◌+◌, ◌&&◌, not, inl, inr, cond, if◌then◌else◌, Option, Some, None, slice_get, slice_set, slice_index_or, unwrap_or, is_some, length, map, count_by, ℕ, zero, suc, Bool, true, false, List, [], ◌∷◌, ◌++◌, refl, sym, ap, subst, ◌∙◌, arith}
 use Rattle.std.specs.List.{range_with_len, filter}
 use Rattle.std.proofs.lemmas.Bool.{true≢false, false≢true, cases_Bool, eq-eqb}
 use Rattle.std.proofs.lemmas.Bool.Decides.{eqb_tells}
@@ -13,8 +13,7 @@ use Rattle.alignment.specs.declared.input.Effect.TheVariants.{Blocked, Copy, Clo
 use Rattle.alignment.specs.declared.input.Input.{Input}
 use Rattle.alignment.specs.declared.input.Phase.{Phase}
 use Rattle.alignment.specs.declared.input.Phase.TheVariants.{AtRest, Aligning, Copied}
-use Rattle.alignment.proofs.Counts.{one_less, count-without}
-use Rattle.alignment.proofs.Rows.{blocked_keeps}
+use Rattle.alignment.proofs.Counts.{count-without}
 use Rattle.coordinator.specs.Coordinator.{has_acked}
 use Rattle.dataflow_model.specs.Graph.{Channel}
 use Rattle.job_graph.specs.Expanded.{Expanded, meets, is_marked, is_input, inputs_of}
@@ -99,12 +98,12 @@ filter_from p (y ∷ ys) i x is = of (p y) i (λ k e. later (filter_from p ys k 
     of true (suc k) rest e = rest k e
     of false k rest e = rest k e
 
-index_set_same : {A : Type 0} (xs : List A) (i : ℕ) (a d : A) → i < length xs → slice_index_or (slice_set xs i a) i d ≡ a
+pub index_set_same : {A : Type 0} (xs : List A) (i : ℕ) (a d : A) → i < length xs → slice_index_or (slice_set xs i a) i d ≡ a
 index_set_same [] i a d within = absurd (omega (arith, within))
 index_set_same (x ∷ xs) zero a d within = refl
 index_set_same (x ∷ xs) (suc i) a d within = index_set_same xs i a d (omega (arith, within))
 
-index_set_other : {A : Type 0} (xs : List A) (i k : ℕ) (a d : A) → (k ≡ i → ⊥) → slice_index_or (slice_set xs i a) k d ≡ slice_index_or xs k d
+pub index_set_other : {A : Type 0} (xs : List A) (i k : ℕ) (a d : A) → (k ≡ i → ⊥) → slice_index_or (slice_set xs i a) k d ≡ slice_index_or xs k d
 index_set_other [] i k a d apart = refl
 index_set_other (x ∷ xs) zero zero a d apart = absurd (apart refl)
 index_set_other (x ∷ xs) zero (suc k) a d apart = refl
@@ -145,7 +144,7 @@ one_input graph task i input number is leads = filter_once (meets (is_input task
 
 -- ---- a gate's inputs
 
-mark_with : (xs : List Input) (input other : ℕ) → (gates.input_at (with_barrier xs input) other).is_marked ≡ (gates.input_at xs other).is_marked
+pub mark_with : (xs : List Input) (input other : ℕ) → (gates.input_at (with_barrier xs input) other).is_marked ≡ (gates.input_at xs other).is_marked
 mark_with xs input other = of xs input other (gates.input_at xs input).is_marked refl
   where
     of : (ys : List Input) (i k : ℕ) (mark : Bool) → (gates.input_at ys i).is_marked ≡ mark → (gates.input_at (slice_set ys i (record { is_marked = mark; came = true })) k).is_marked ≡ (gates.input_at ys k).is_marked
@@ -191,7 +190,7 @@ copy_at_last : (gate : Alignment) (input : ℕ) → is_copy (effect_of gate inpu
 copy_at_last gate input e = copies_at (has_copied gate.phase) (gates.input_at gate.inputs input).is_marked (missing_unmarked (with_barrier gate.inputs input)) (missing_marked (with_barrier gate.inputs input)) e
 
 -- a barrier without a copy that does not block comes to a gate that has copied
-closes_at : (b mark : Bool) (left marked : ℕ) → is_copy (if mark then at_marked b marked else at_unmarked left marked) ≡ false → ((if mark then at_marked b marked else at_unmarked left marked) ≡ Blocked → ⊥) → b ≡ true
+pub closes_at : (b mark : Bool) (left marked : ℕ) → is_copy (if mark then at_marked b marked else at_unmarked left marked) ≡ false → ((if mark then at_marked b marked else at_unmarked left marked) ≡ Blocked → ⊥) → b ≡ true
 closes_at true mark left marked none blocks = refl
 closes_at false true left marked none blocks = absurd (blocks refl)
 closes_at false false (suc left) marked none blocks = absurd (blocks refl)
@@ -199,7 +198,7 @@ closes_at false false zero zero none blocks = absurd (true≢false none)
 closes_at false false zero (suc marked) none blocks = absurd (true≢false none)
 
 -- a barrier that blocks comes to a gate that has not copied, or leaves an unmarked one missing
-blocks_at : (b mark : Bool) (left marked : ℕ) → (if mark then at_marked b marked else at_unmarked left marked) ≡ Blocked → b ≡ true → 0 < left
+pub blocks_at : (b mark : Bool) (left marked : ℕ) → (if mark then at_marked b marked else at_unmarked left marked) ≡ Blocked → b ≡ true → 0 < left
 blocks_at false mark left marked is e = absurd (false≢true e)
 blocks_at true true left zero is e = absurd cc
 blocks_at true true left (suc marked) is e = absurd cc
@@ -209,14 +208,14 @@ blocks_at true false (suc left) marked is e = omega arith
 
 -- ---- after a barrier
 
-after_length : (effect : Effect) (checkpoint : ℕ) (ys : List Input) → length (after effect checkpoint ys).inputs ≡ length ys
+pub after_length : (effect : Effect) (checkpoint : ℕ) (ys : List Input) → length (after effect checkpoint ys).inputs ≡ length ys
 after_length Blocked checkpoint ys = refl
 after_length Copy checkpoint ys = refl
 after_length Closed checkpoint ys = refl
 after_length CopyAndDone checkpoint ys = length_without ys
 after_length Done checkpoint ys = length_without ys
 
-after_mark : (effect : Effect) (checkpoint : ℕ) (ys : List Input) (other : ℕ) → (gates.input_at (after effect checkpoint ys).inputs other).is_marked ≡ (gates.input_at ys other).is_marked
+pub after_mark : (effect : Effect) (checkpoint : ℕ) (ys : List Input) (other : ℕ) → (gates.input_at (after effect checkpoint ys).inputs other).is_marked ≡ (gates.input_at ys other).is_marked
 after_mark Blocked checkpoint ys other = refl
 after_mark Copy checkpoint ys other = refl
 after_mark Closed checkpoint ys other = refl
@@ -224,7 +223,7 @@ after_mark CopyAndDone checkpoint ys other = mark_without ys other
 after_mark Done checkpoint ys other = mark_without ys other
 
 module _ (checkpoint : ℕ) (ys : List Input) where
-  after_kept : (b mark : Bool) (left marked : ℕ) → missing_unmarked ys ≡ left → missing_marked ys ≡ marked → (b ≡ true → mark ≡ true → left ≡ 0)
+  pub after_kept : (b mark : Bool) (left marked : ℕ) → missing_unmarked ys ≡ left → missing_marked ys ≡ marked → (b ≡ true → mark ≡ true → left ≡ 0)
       → ((if mark then at_marked b marked else at_unmarked left marked) ≡ Blocked → IsKept (Aligning checkpoint) ys)
       → IsKept (after (if mark then at_marked b marked else at_unmarked left marked) checkpoint ys).phase (after (if mark then at_marked b marked else at_unmarked left marked) checkpoint ys).inputs
   after_kept b false (suc left) marked l m closed blocks = blocks refl
@@ -243,7 +242,7 @@ module _ (checkpoint : ℕ) (ys : List Input) where
         sym (notes input number is)
         ∙ both_come (gates.input_at ys input).is_marked (gates.input_at ys input).came (count_none misses_unmarked ys input (fresh false) one within) (count_none misses_marked ys input (fresh false) two within)
 
-    after_stands : (b mark : Bool) (left marked : ℕ) → missing_unmarked ys ≡ left → missing_marked ys ≡ marked → (b ≡ true → mark ≡ true → left ≡ 0)
+    pub after_stands : (b mark : Bool) (left marked : ℕ) → missing_unmarked ys ≡ left → missing_marked ys ≡ marked → (b ≡ true → mark ≡ true → left ≡ 0)
         → ((if mark then at_marked b marked else at_unmarked left marked) ≡ Blocked → copy_at k task ≡ None)
         → (((if mark then at_marked b marked else at_unmarked left marked) ≡ Blocked → ⊥) → copy_at k task ≢ None)
         → StandsAs graph k task (after (if mark then at_marked b marked else at_unmarked left marked) checkpoint ys).phase (after (if mark then at_marked b marked else at_unmarked left marked) checkpoint ys).inputs
@@ -258,7 +257,7 @@ module _ (checkpoint : ℕ) (ys : List Input) where
 
 module _ {R K S : Type 0} (graph : Expanded) (h : Held R K S) (task : ℕ) where
   -- a gate that has copied: so has its task
-  has_copied_copy : (phase : Phase) (inputs : List Input) → StandsAs graph h task phase inputs → has_copied phase ≡ true → copy_at h task ≢ None
+  pub has_copied_copy : (phase : Phase) (inputs : List Input) → StandsAs graph h task phase inputs → has_copied phase ≡ true → copy_at h task ≢ None
   has_copied_copy AtRest inputs stands e = absurd (false≢true e)
   has_copied_copy (Aligning number) inputs stands e = absurd (false≢true e)
   has_copied_copy (Copied number) inputs stands e = stands.1
@@ -287,7 +286,7 @@ module _ {R K S : Type 0} (graph : Expanded) (h : Held R K S) (task : ℕ) where
         open_one false false none = absurd (true≢false none)
 
     module _ (checkpoint : ℕ) (pending : h.coordination.pending ≡ Some checkpoint) (not_came : came_at h channel ≡ false) where
-      awaits_by : (phase : Phase) (inputs : List Input) → input < length inputs → IsKept phase inputs → StandsAs graph h task phase inputs → (gates.input_at inputs input).came ≡ false
+      pub awaits_by : (phase : Phase) (inputs : List Input) → input < length inputs → IsKept phase inputs → StandsAs graph h task phase inputs → (gates.input_at inputs input).came ≡ false
       awaits_by AtRest inputs within kept stands = count_none (λ (x : Input). x.came) inputs input (fresh false) kept within
       awaits_by (Aligning number) inputs within kept stands = stands.2 input channel leads ∙ not_came
       awaits_by (Copied number) inputs within kept stands = stands.2 input channel leads ∙ not_came
@@ -298,7 +297,7 @@ module _ {R K S : Type 0} (graph : Expanded) (h : Held R K S) (task : ℕ) where
       for_by (Copied number) inputs stands = same_Some number checkpoint (sym stands.0 ∙ pending)
 
       -- the gate has noted what came, also at rest
-      notes_by : (phase : Phase) (inputs : List Input) → length inputs ≡ length (inputs_of graph task) → IsKept phase inputs → StandsAs graph h task phase inputs → NotesBarriers graph h task inputs
+      pub notes_by : (phase : Phase) (inputs : List Input) → length inputs ≡ length (inputs_of graph task) → IsKept phase inputs → StandsAs graph h task phase inputs → NotesBarriers graph h task inputs
       notes_by AtRest inputs long kept stands = λ other number is.
           count_none (λ (x : Input). x.came) inputs other (fresh false) kept (subst (λ n. other < n) (sym long) (slice_get_within (inputs_of graph task) other number is))
           ∙ sym (stands other number is ∙ sym (stands input channel leads) ∙ not_came)
@@ -306,13 +305,13 @@ module _ {R K S : Type 0} (graph : Expanded) (h : Held R K S) (task : ℕ) where
       notes_by (Copied number) inputs long kept stands = stands.2
 
       -- a gate that has not copied: its task has not
-      first_by : (phase : Phase) (inputs : List Input) → StandsAs graph h task phase inputs → (has_copied phase ≡ true → ⊥) → copy_at h task ≡ None
+      pub first_by : (phase : Phase) (inputs : List Input) → StandsAs graph h task phase inputs → (has_copied phase ≡ true → ⊥) → copy_at h task ≡ None
       first_by AtRest inputs stands e = no_copy (copy_at h task) (sym (stands input channel leads) ∙ not_came)
       first_by (Aligning number) inputs stands e = stands.1
       first_by (Copied number) inputs stands e = absurd (e refl)
 
       -- once copied, no unmarked barrier is missing
-      closed_by : (phase : Phase) (inputs : List Input) → IsKept phase inputs → has_copied phase ≡ true → missing_unmarked inputs ≡ 0
+      pub closed_by : (phase : Phase) (inputs : List Input) → IsKept phase inputs → has_copied phase ≡ true → missing_unmarked inputs ≡ 0
       closed_by AtRest inputs kept e = absurd (false≢true e)
       closed_by (Aligning number) inputs kept e = absurd (false≢true e)
       closed_by (Copied number) inputs kept e = kept.0

@@ -1,6 +1,7 @@
 pub mod Lists
 pub mod Fitting
 pub mod Gates
+pub mod GatesKept
 pub mod Shapes
 pub mod ShapeCalls
 pub mod Items

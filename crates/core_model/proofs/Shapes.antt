@@ -1,20 +1,33 @@
 -- What a running job holds keeps its shape.
-use Rattle.std.proofs.Common.{◌≡◌, ◌<◌, inl, inr, All, Some, slice_get, slice_set, length, ℕ, List, sym, ap, subst, ◌∙◌, Ordering}
+use Rattle.std.proofs.Common.{◌≡◌, ◌<◌, inl, inr, All, Option, Some, None, is_some, unwrap_or, replicate, slice_get, slice_set, length, ℕ, zero, suc, Bool, true, false, List, [], refl, sym, ap, subst, ◌∙◌, Ordering}
 use Rattle.std.proofs.lemmas.Bool.Decides.{eqb_tells}
-use Rattle.std.proofs.lemmas.Option.{same_Some, slice_get_within}
+use Rattle.std.proofs.lemmas.Option.{same_Some, none-some, slice_get_within}
+use Rattle.alignment.specs.Table.{Alignment}
+use Rattle.alignment.specs.declared.input.Phase.TheVariants.{AtRest}
 use Rattle.abs_codec.specs.Entries.{value_at}
 use Rattle.channels.specs.declared.item.Item.{Item}
-use Rattle.coordinator.specs.Coordinator.{Coordination}
-use Rattle.job_graph.specs.Expanded.{Expanded}
+use Rattle.coordinator.specs.Coordinator.{Coordination, has_acked}
+use Rattle.job_graph.specs.Expanded.{Expanded, is_marked, meets}
 use Rattle.job_graph.specs.declared.role.Role.{Role}
 use Rattle.job_graph.specs.declared.role.Role.TheVariants as role
-use Rattle.job_state.specs.Held.{Held}
+use Rattle.job_state.specs.Held.{Held, gate_at, cleared}
 use Rattle.job_state.specs.Sending.{items_at}
 use Rattle.job_state.specs.declared.holding.Holding.{Holding}
 use Rattle.job_state.specs.declared.holding.Holding.TheVariants as holds
 use Rattle.task_part.specs.declared.part.Part.{Part}
-use Rattle.core_model.specs.Keeps.{HoldsAs, CopyAs, IfRecord, Shape}
+use Rattle.core_model.specs.Keeps.{HoldsAs, CopyAs, IfRecord, GateFits, Shape}
+use Rattle.std.proofs.lemmas.List.Elements.{All-from_recursion}
+use Rattle.core_model.proofs.GatesKept.{fits_same, fits_rest}
 use Rattle.core_model.proofs.Lists.{get_set_same, get_set_other, set_length}
+
+pub replicate_length : {A : Type 0} (n : ℕ) (x : A) → length (replicate n x) ≡ n
+replicate_length zero x = refl
+replicate_length (suc n) x = ap suc (replicate_length n x)
+
+pub replicate_at : {A : Type 0} (n i : ℕ) (x : A) → unwrap_or (slice_get (replicate n x) i) x ≡ x
+replicate_at zero i x = refl
+replicate_at (suc n) zero x = refl
+replicate_at (suc n) (suc i) x = replicate_at n i x
 
 module _ {R K S O : Type 0} (cmp : K → K → Ordering) (RecordFits : R → Type 0) (IsGood : O → S → Type 0) (graph : Expanded) (operators : List O) where
   abbrev IsShape : Held R K S → Type 0
@@ -34,7 +47,14 @@ module _ {R K S O : Type 0} (cmp : K → K → Ordering) (RecordFits : R → Typ
           tasks = set_length old.tasks task holding ∙ shape.tasks;
           channels = shape.channels;
           copies = shape.copies;
+          gates = shape.gates;
+          came = shape.came;
+          logs = shape.logs;
           acked = shape.acked;
+          none_copied = shape.none_copied;
+          none_came = shape.none_came;
+          gate_fits = λ t less. fits_same graph old t (shape.gate_fits t less) (record old { tasks = slice_set old.tasks task holding }) refl refl refl (λ acked. acked) (λ input number is. refl);
+          only_marked = shape.only_marked;
           forms = λ t q at.
               elim (eqb_tells t task) [
                 | inl same ↦
@@ -45,6 +65,7 @@ module _ {R K S O : Type 0} (cmp : K → K → Ordering) (RecordFits : R → Typ
               ];
           copy_forms = shape.copy_forms;
           fit = shape.fit;
+          logs_fit = shape.logs_fit;
           good = λ t number operator entries key state at op held value.
               elim (eqb_tells t task) [
                 | inl same ↦
@@ -60,43 +81,123 @@ module _ {R K S O : Type 0} (cmp : K → K → Ordering) (RecordFits : R → Typ
       tasks = shape.tasks;
       channels = same ∙ shape.channels;
       copies = shape.copies;
+      gates = shape.gates;
+      came = shape.came;
+      logs = shape.logs;
       acked = shape.acked;
+      none_copied = shape.none_copied;
+      none_came = shape.none_came;
+      gate_fits = λ t less. fits_same graph old t (shape.gate_fits t less) (record old { channels = channels }) refl refl refl (λ acked. acked) (λ input number is. refl);
+      only_marked = shape.only_marked;
       forms = shape.forms;
       copy_forms = shape.copy_forms;
       fit = fit;
+      logs_fit = shape.logs_fit;
       good = shape.good;
     }
 
-    -- one more copy
-    pub shape_copy : (task : ℕ) (r : Role) (p : Part R K S) → slice_get graph.tasks task ≡ Some r → CopyAs r (Some p) → IsShape (record old { copies = slice_set old.copies task (Some p) })
-    shape_copy task r p is form =
-        let within : task < length old.copies = subst (λ n. task < n) (sym shape.copies) (slice_get_within graph.tasks task r is) in
-        record {
-          tasks = shape.tasks;
-          channels = shape.channels;
-          copies = set_length old.copies task (Some p) ∙ shape.copies;
-          acked = shape.acked;
-          forms = shape.forms;
-          copy_forms = λ t q at.
-              elim (eqb_tells t task) [
-                | inl same ↦
-                    let one : q ≡ r = same_Some q r (sym at ∙ ap (slice_get graph.tasks) same.1 ∙ is) in
-                    let here : slice_get (slice_set old.copies task (Some p)) t ≡ Some (Some p) = ap (slice_get (slice_set old.copies task (Some p))) same.1 ∙ get_set_same old.copies task (Some p) within in
-                    rw (one, here) form
-                | inr other ↦ rw (get_set_other old.copies task t (Some p) other.1) (shape.copy_forms t q at)
-              ];
-          fit = shape.fit;
-          good = shape.good;
-        }
-
-    pub shape_coordination : (c : Coordination) → length c.acked ≡ length old.coordination.acked → IsShape (record old { coordination = c })
-    shape_coordination c same = record {
+    -- the log of a channel with one record more
+    pub shape_logs : (logs : List (List R)) → length logs ≡ length old.logs → ((number : ℕ) → meets is_marked graph.channels number ≡ false → unwrap_or (slice_get logs number) [] ≡ [])
+        → ((number : ℕ) → All RecordFits (unwrap_or (slice_get logs number) [])) → IsShape (record old { logs = logs })
+    shape_logs logs same marked fits = record {
       tasks = shape.tasks;
       channels = shape.channels;
       copies = shape.copies;
-      acked = same ∙ shape.acked;
+      gates = shape.gates;
+      came = shape.came;
+      logs = same ∙ shape.logs;
+      acked = shape.acked;
+      none_copied = shape.none_copied;
+      none_came = shape.none_came;
+      gate_fits = λ t less. fits_same graph old t (shape.gate_fits t less) (record old { logs = logs }) refl refl refl (λ acked. acked) (λ input number is. refl);
+      only_marked = marked;
       forms = shape.forms;
       copy_forms = shape.copy_forms;
       fit = shape.fit;
+      logs_fit = fits;
+      good = shape.good;
+    }
+
+    -- while a checkpoint is pending: other gates, barriers and copies
+    pub shape_gates : (gates : List Alignment) (came : List Bool) (copies : List (Option (Part R K S))) (checkpoint : ℕ) → old.coordination.pending ≡ Some checkpoint
+        → length gates ≡ length old.gates → length came ≡ length old.came → length copies ≡ length old.copies
+        → ((t : ℕ) → t < length graph.tasks → GateFits graph (record old { gates = gates; came = came; copies = copies }) t)
+        → ((t : ℕ) (r : Role) → slice_get graph.tasks t ≡ Some r → CopyAs r (unwrap_or (slice_get copies t) None)) → IsShape (record old { gates = gates; came = came; copies = copies })
+    shape_gates gates came copies checkpoint pending gates_long came_long copies_long fits forms = record {
+      tasks = shape.tasks;
+      channels = shape.channels;
+      copies = copies_long ∙ shape.copies;
+      gates = gates_long ∙ shape.gates;
+      came = came_long ∙ shape.came;
+      logs = shape.logs;
+      acked = shape.acked;
+      none_copied = λ none. absurd (none-some checkpoint (sym none ∙ pending));
+      none_came = λ none. absurd (none-some checkpoint (sym none ∙ pending));
+      gate_fits = fits;
+      only_marked = shape.only_marked;
+      forms = shape.forms;
+      copy_forms = forms;
+      fit = shape.fit;
+      logs_fit = shape.logs_fit;
+      good = shape.good;
+    }
+
+    -- a copy that its task's role asks for, among those that there were
+    pub copy_forms_set : (task : ℕ) (r : Role) (p : Part R K S) → slice_get graph.tasks task ≡ Some r → CopyAs r (Some p) → (t : ℕ) (q : Role) → slice_get graph.tasks t ≡ Some q → CopyAs q (unwrap_or (slice_get (slice_set old.copies task (Some p)) t) None)
+    copy_forms_set task r p is form t q at =
+        elim (eqb_tells t task) [
+          | inl same ↦
+              let one : q ≡ r = same_Some q r (sym at ∙ ap (slice_get graph.tasks) same.1 ∙ is) in
+              let here : slice_get (slice_set old.copies task (Some p)) t ≡ Some (Some p) = ap (slice_get (slice_set old.copies task (Some p))) same.1 ∙ get_set_same old.copies task (Some p) within in
+              rw (one, here) form
+          | inr other ↦ rw (get_set_other old.copies task t (Some p) other.1) (shape.copy_forms t q at)
+        ]
+      where
+        within : task < length old.copies
+        within = subst (λ n. task < n) (sym shape.copies) (slice_get_within graph.tasks task r is)
+
+    -- the pending checkpoint goes on
+    pub shape_coordination : (c : Coordination) → length c.acked ≡ length old.coordination.acked → c.pending ≡ old.coordination.pending → ((t : ℕ) → t < length graph.tasks → GateFits graph (record old { coordination = c }) t)
+        → IsShape (record old { coordination = c })
+    shape_coordination c same pending fits = record {
+      tasks = shape.tasks;
+      channels = shape.channels;
+      copies = shape.copies;
+      gates = shape.gates;
+      came = shape.came;
+      logs = shape.logs;
+      acked = same ∙ shape.acked;
+      none_copied = λ none. shape.none_copied (sym pending ∙ none);
+      none_came = λ none. shape.none_came (sym pending ∙ none);
+      gate_fits = fits;
+      only_marked = shape.only_marked;
+      forms = shape.forms;
+      copy_forms = shape.copy_forms;
+      fit = shape.fit;
+      logs_fit = shape.logs_fit;
+      good = shape.good;
+    }
+
+    -- the copies, the barriers and the logs are dropped, and the coordinator goes on
+    pub shape_cleared : (c : Coordination) → length c.acked ≡ length old.coordination.acked → ((t : ℕ) → t < length graph.tasks → (gate_at old t).phase ≡ AtRest) → ((t : ℕ) → has_acked c t ≡ true → ⊥)
+        → IsShape (record (cleared old) { coordination = c })
+    shape_cleared c same rest unacked = record {
+      tasks = shape.tasks;
+      channels = shape.channels;
+      copies = replicate_length (length old.copies) None ∙ shape.copies;
+      gates = shape.gates;
+      came = replicate_length (length old.came) false ∙ shape.came;
+      logs = replicate_length (length old.logs) [] ∙ shape.logs;
+      acked = same ∙ shape.acked;
+      none_copied = λ none t. replicate_at (length old.copies) t None;
+      none_came = λ none number. replicate_at (length old.came) number false;
+      gate_fits = λ t less.
+          fits_rest graph old t (shape.gate_fits t less) (record (cleared old) { coordination = c }) refl (rest t less)
+          (λ input number is. replicate_at (length old.came) number false ∙ sym (ap (λ (o : Option (Part R K S)). is_some o) (replicate_at (length old.copies) t None))) (λ acked. absurd (unacked t acked));
+      only_marked = λ number unmarked. replicate_at (length old.logs) number [];
+      forms = shape.forms;
+      copy_forms = λ t r at. rw (replicate_at {A = Option (Part R K S)} (length old.copies) t None) tt;
+      fit = shape.fit;
+      logs_fit = λ number. rw (replicate_at {A = List R} (length old.logs) number []) (All-from_recursion RecordFits [] tt);
       good = shape.good;
     }
