@@ -25,7 +25,7 @@ module _ {R K S O : Type 0} (lang : Language R K S O) (s : State O R K S) (h k :
   plain_trigger (Err other) ends = absurd ends
 
   pub plain_persist : (task : ℕ) (spelling : Part R K S → List ℕ) (result : Result Unit CoreFault) → EndsPersist s.graph task h k s.stored stored spelling result → Stays lang s (record s { held = left_by result (Some k); stored = stored; faults = n })
-  plain_persist task spelling (Ok u) ends = stored_stays (ap (bare_of lang s) ends.6)
+  plain_persist task spelling (Ok u) ends = stored_stays (ap (bare_of lang s) ends.4)
   plain_persist task spelling (Err NoSuchTask) ends = stored_stays (ap (bare_of lang s) ends.1)
   plain_persist task spelling (Err NoCheckpoint) ends = stored_stays (ap (bare_of lang s) ends.2)
   plain_persist task spelling (Err NotReady) ends = stored_stays (ap (bare_of lang s) ends.2)

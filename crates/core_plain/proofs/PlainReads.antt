@@ -25,10 +25,10 @@ source_is_none p e = cc
 
 module _ {R K S O : Type 0} (lang : Language R K S O) (s : State O R K S) (h k : Held R K S) (n task : ℕ) where
   read_moves : (ends : ReadsNext s.graph task h k lang s.partitions) →
-      EngineMoves (job_of lang s) lang.spelling (Read task) (devices_of lang s) (devices_of lang (record s { held = Some k; faults = n })) (run_of lang.cmp s.graph h) (with_attempt (attempt_of lang.cmp s.graph k) (run_of lang.cmp s.graph h))
+      EngineMoves (job_of lang s) lang.spelling (Read task) (devices_of lang s) (devices_of lang (record s { held = Some k; faults = n })) (run_of lang.cmp s.graph h) (with_attempt (attempt_of lang.cmp k) (run_of lang.cmp s.graph h))
   unfolding reads_move
   read_moves ends = record {
-    attempt = attempt_of lang.cmp s.graph k;
+    attempt = attempt_of lang.cmp k;
     moves = reads_move lang s h k task ends.partition ends.offset ends.row ends.is_source ends.at ends.next ends.reads;
     at_sink = λ e. absurd (source_is_none ends.partition e);
     elsewhere = λ not_sink. refl;
@@ -43,7 +43,7 @@ module _ {R K S O : Type 0} (lang : Language R K S O) (s : State O R K S) (h k :
   module _ (was : s.held ≡ Some h) where
     pub plain_read : (result : Result Unit CoreFault) → EndsRead s.graph task h k lang s.partitions result → StepsIfOk result lang (Read task) s (record s { held = left_by result (Some k); faults = n })
     plain_read (Ok u) ends =
-        steps_by lang s h was k s.stored s.ledger n (Read task) (with_attempt (attempt_of lang.cmp s.graph k) (run_of lang.cmp s.graph h)) (read_moves ends)
+        steps_by lang s h was k s.stored s.ledger n (Read task) (with_attempt (attempt_of lang.cmp k) (run_of lang.cmp s.graph h)) (read_moves ends)
         (λ sink. absurd (no_sink ends.partition ends.is_source sink)) refl
     plain_read (Err NoSuchTask) ends = stays_refused lang s h was k s.stored s.ledger n ends.1 refl
     plain_read (Err NotReady) ends = stays_refused lang s h was k s.stored s.ledger n ends.5 refl

@@ -1,7 +1,7 @@
 -- An operator that works its first record makes one plain step, and so does a sink.
 use Rattle.std.proofs.Common.{◌≡◌, Option, Some, Result, Ok, Err, is_some, false, slice_get, ℕ, refl, sym, ap, subst, ◌∙◌}
 use Rattle.std.specs.Option.{option_map, option_map_or}
-use Rattle.std.proofs.lemmas.Option.{same_Some}
+use Rattle.std.proofs.lemmas.Option.{same_Some, slice_get_within}
 use Rattle.checkpoint_model.specs.Attempt.{bare}
 use Rattle.checkpoint_model.specs.Durable.{IsSink, Appends}
 use Rattle.checkpoint_model.specs.Engine.{Running}
@@ -18,15 +18,16 @@ use Rattle.job_graph.proofs.PlainTasks.{tasks-graph_of}
 use Rattle.job_state.specs.Held.{Held, copy_at}
 use Rattle.job_state.specs.Sending.{items_at}
 use Rattle.core_model.specs.Calls.{EndsOperate, OperatesNext, EndsPutOut, PutsOut, input_at, left_by}
-use Rattle.core_model.specs.Keeps.{Keeps, SinkIn}
+use Rattle.core_model.specs.Keeps.{Keeps, SinkIn, GateFits, Shape}
 use Rattle.core_model.specs.Language.{Language}
 use Rattle.core_model.specs.State.{State}
 use Rattle.core_model.specs.View.{attempt_of, run_of, transactions_at, job_of, devices_of}
 use Rattle.core_model.specs.declared.fault.CoreFault.{CoreFault}
-use Rattle.core_model.specs.declared.fault.CoreFault.TheVariants.{NotReady, Memory, Device}
+use Rattle.core_model.specs.declared.fault.CoreFault.TheVariants.{NotReady, ChannelBlocked, Memory, Device}
 use Rattle.core_model.proofs.Items.{first_record}
 use Rattle.core_model.proofs.Moves.{operates_move}
-use Rattle.core_model.proofs.CallGoes.{after, runs_of}
+use Rattle.core_model.proofs.Gates.{free_not_came}
+use Rattle.core_model.proofs.CallGoes.{after, runs_of, shape_of}
 use Rattle.core_model.proofs.CallPutsOut.{put_attempt, put_run, put_held}
 use Rattle.core_model.proofs.CallSinks.{changes_sink}
 use Rattle.core_model.proofs.CallTasks.{LeadsTo, input_leads}
@@ -39,14 +40,17 @@ operator_is_none op e = cc
 
 -- ---- an operator
 
-module _ {R K S O : Type 0} (lang : Language R K S O) (s : State O R K S) (h k : Held R K S) (n task number channel : ℕ) (operator : O)
-    (at_task : slice_get s.graph.tasks task ≡ Some (role.Operator number)) (op : slice_get s.operators number ≡ Some operator) where
-  operate_moves : LeadsTo s.graph task channel → OperatesNext s.graph task h k channel lang operator →
-      EngineMoves (job_of lang s) lang.spelling (Work task channel) (devices_of lang s) (devices_of lang (record s { held = Some k; faults = n })) (run_of lang.cmp s.graph h) (with_attempt (attempt_of lang.cmp s.graph k) (run_of lang.cmp s.graph h))
+module _ {R K S O : Type 0} (lang : Language R K S O) (RecordFits : R → Type 0) (IsGood : O → S → Type 0) (s : State O R K S) (h k : Held R K S) (n task number input channel : ℕ) (operator : O)
+    (keeps : Keeps lang RecordFits IsGood s) (was : s.held ≡ Some h) (at_task : slice_get s.graph.tasks task ≡ Some (role.Operator number)) (op : slice_get s.operators number ≡ Some operator) (leads : input_at s.graph task input ≡ Some channel) where
+  shape : Shape lang.cmp RecordFits IsGood s.graph s.operators h
+  shape = shape_of lang RecordFits IsGood s keeps h was
+
+  operate_moves : OperatesNext s.graph task h k input channel lang operator →
+      EngineMoves (job_of lang s) lang.spelling (Work task channel) (devices_of lang s) (devices_of lang (record s { held = Some k; faults = n })) (run_of lang.cmp s.graph h) (with_attempt (attempt_of lang.cmp k) (run_of lang.cmp s.graph h))
   unfolding operates_move
-  operate_moves leads ends = record {
-    attempt = attempt_of lang.cmp s.graph k;
-    moves = operates_move lang s h k task number channel leads.channel operator ends.row ends.entries at_task op leads.is leads.to ends.head ends.was ends.operates;
+  operate_moves ends = record {
+    attempt = attempt_of lang.cmp k;
+    moves = operates_move lang s h k task number input channel operator ends.row ends.entries at_task op leads (shape.gate_fits task (slice_get_within s.graph.tasks task (role.Operator number) at_task)) shape.logs ends.free ends.head ends.was ends.operates;
     at_sink = λ e. absurd (operator_is_none operator e);
     elsewhere = λ not_sink. refl;
     ends = refl;
@@ -58,20 +62,29 @@ module _ {R K S O : Type 0} (lang : Language R K S O) (s : State O R K S) (h k :
       let is = tasks-graph_of s.graph s.operators task ∙ ap (option_map (task_of s.operators)) at_task ∙ ap (λ (o : Option O). Some (operator_task o)) op in
       operator_is_none operator (same_Some (OperatorTask operator) SinkTask (sym is ∙ sink))
 
-  module _ (was : s.held ≡ Some h) (input : ℕ) (at_input : input_at s.graph task input ≡ Some channel) where
-    pub plain_operate : (result : Result Unit CoreFault) → EndsOperate s.graph task h k channel lang operator result → StepsIfOk result lang (Work task channel) s (record s { held = left_by result (Some k); faults = n })
-    plain_operate (Ok u) ends =
-        steps_by lang s h was k s.stored s.ledger n (Work task channel) (with_attempt (attempt_of lang.cmp s.graph k) (run_of lang.cmp s.graph h))
-        (operate_moves (input_leads s.graph task input channel at_input) ends) (λ sink. absurd (no_sink sink)) refl
-    plain_operate (Err NotReady) ends = stays_refused lang s h was k s.stored s.ledger n ends.1 refl
-    plain_operate (Err Memory) ends = stays_refused lang s h was k s.stored s.ledger n ends refl
-    plain_operate (Err other) ends = absurd ends
+  pub plain_operate : (result : Result Unit CoreFault) → EndsOperate s.graph task h k input channel lang operator result → StepsIfOk result lang (Work task channel) s (record s { held = left_by result (Some k); faults = n })
+  plain_operate (Ok u) ends =
+      steps_by lang s h was k s.stored s.ledger n (Work task channel) (with_attempt (attempt_of lang.cmp k) (run_of lang.cmp s.graph h))
+      (operate_moves ends) (λ sink. absurd (no_sink sink)) refl
+  plain_operate (Err ChannelBlocked) ends = stays_refused lang s h was k s.stored s.ledger n ends.1 refl
+  plain_operate (Err NotReady) ends = stays_refused lang s h was k s.stored s.ledger n ends.2 refl
+  plain_operate (Err Memory) ends = stays_refused lang s h was k s.stored s.ledger n ends refl
+  plain_operate (Err other) ends = absurd ends
 
 -- ---- a sink
 
-module _ {R K S O : Type 0} (lang : Language R K S O) (RecordFits : R → Type 0) (IsGood : O → S → Type 0) (s : State O R K S) (h k : Held R K S) (n task subtask channel : ℕ) (ledger : Ledger)
-    (keeps : Keeps lang RecordFits IsGood s) (was : s.held ≡ Some h) (at_task : slice_get s.graph.tasks task ≡ Some (role.Sink subtask)) where
-  module _ (leads : LeadsTo s.graph task channel) (ends : PutsOut task h k channel s.ledger ledger lang.spelling) where
+module _ {R K S O : Type 0} (lang : Language R K S O) (RecordFits : R → Type 0) (IsGood : O → S → Type 0) (s : State O R K S) (h k : Held R K S) (n task subtask input channel : ℕ) (ledger : Ledger)
+    (keeps : Keeps lang RecordFits IsGood s) (was : s.held ≡ Some h) (at_task : slice_get s.graph.tasks task ≡ Some (role.Sink subtask)) (leads : input_at s.graph task input ≡ Some channel) where
+  module _ (ends : PutsOut task input h k channel s.ledger ledger lang.spelling) where
+    whole : Shape lang.cmp RecordFits IsGood s.graph s.operators h
+    whole = shape_of lang RecordFits IsGood s keeps h was
+
+    gate : GateFits s.graph h task
+    gate = whole.gate_fits task (slice_get_within s.graph.tasks task (role.Sink subtask) at_task)
+
+    abbrev to : LeadsTo s.graph task channel
+    to = input_leads s.graph task input channel leads
+
     sink_in : SinkIn s.ledger subtask ends.sink
     sink_in = (runs_of lang RecordFits IsGood s keeps h was).sinks task subtask ends.sink at_task ends.was
 
@@ -79,23 +92,16 @@ module _ {R K S O : Type 0} (lang : Language R K S O) (RecordFits : R → Type 0
     done = append_in s.ledger ledger subtask ends.sink (lang.spelling ends.row) keeps.ordered sink_in ends.appends
 
     abbrev next : Running R K S
-    next = put_run lang s h task subtask channel at_task leads ends.row
+    next = put_run lang s h task subtask input channel at_task leads gate whole.logs ends.row
 
     put_moves : EngineMoves (job_of lang s) lang.spelling (Work task channel) (devices_of lang s) (devices_of lang (after s (Some k) s.stored ledger n)) (run_of lang.cmp s.graph h) next
     put_moves = record {
-      attempt = put_attempt lang s h task subtask channel at_task leads ends.row;
+      attempt = put_attempt lang s h task subtask input channel at_task leads gate whole.logs ends.row;
       moves = record {
         kind = SinkTask;
         taken = ends.row;
         is_task = tasks-graph_of s.graph s.operators task ∙ ap (option_map (task_of s.operators)) at_task;
-        takes = (
-          leads.channel,
-          tt,
-          leads.is,
-          leads.to,
-          first_record (items_at h.channels channel) ends.row ends.head,
-          λ none. ap (λ (o : Option Channel). option_map_or (λ c. is_some (copy_at h c.receiver)) o false) leads.is ∙ ap (λ m. is_some (copy_at h m)) leads.to ∙ none,
-        );
+        takes = (to.channel, tt, to.is, to.to, first_record (items_at h.channels channel) ends.row ends.head, free_not_came s.graph h task gate input channel leads ends.free);
         ends = refl;
       };
       at_sink = λ e. changes_sink lang s keeps.expanded task subtask at_task (λ a b. Appends (lang.spelling ends.row) a b) s.ledger ledger done.call done.others;
@@ -105,7 +111,7 @@ module _ {R K S O : Type 0} (lang : Language R K S O) (RecordFits : R → Type 0
 
     same_held : bare (held_run next).attempt ≡ bare (held_run (run_of lang.cmp s.graph k)).attempt
     same_held =
-        ap (λ (run : Running R K S). bare run.attempt) (put_held lang s h task subtask channel at_task leads ends.row)
+        ap (λ (run : Running R K S). bare run.attempt) (put_held lang s h task subtask input channel at_task leads gate whole.logs ends.row)
         ∙ ap (λ (x : Held R K S). bare (held_run (run_of lang.cmp s.graph x)).attempt) (sym ends.ends)
 
     puts_out : StepsBy lang (Work task channel) s (after s (Some k) s.stored ledger n)
@@ -113,10 +119,10 @@ module _ {R K S O : Type 0} (lang : Language R K S O) (RecordFits : R → Type 0
         steps_by lang s h was k s.stored ledger n (Work task channel) next put_moves
         (λ sink. subst (λ (r : Option Role). HasOneOpen (transactions_at s.ledger r)) (sym at_task) sink_in.only_one) same_held
 
-  module _ (input : ℕ) (at_input : input_at s.graph task input ≡ Some channel) where
-    pub plain_put_out : (result : Result Unit CoreFault) → EndsPutOut task h k channel s.ledger ledger lang.spelling result → StepsIfOk result lang (Work task channel) s (record s { held = left_by result (Some k); ledger = ledger; faults = n })
-    plain_put_out (Ok u) ends = puts_out (input_leads s.graph task input channel at_input) ends
-    plain_put_out (Err NotReady) ends = stays_refused lang s h was k s.stored ledger n ends.1 ends.2
-    plain_put_out (Err Memory) ends = stays_refused lang s h was k s.stored ledger n ends.0 ends.1
-    plain_put_out (Err Device) ends = λ at stands. tt
-    plain_put_out (Err other) ends = absurd ends
+  pub plain_put_out : (result : Result Unit CoreFault) → EndsPutOut task input h k channel s.ledger ledger lang.spelling result → StepsIfOk result lang (Work task channel) s (record s { held = left_by result (Some k); ledger = ledger; faults = n })
+  plain_put_out (Ok u) ends = puts_out ends
+  plain_put_out (Err ChannelBlocked) ends = stays_refused lang s h was k s.stored ledger n ends.1 ends.2
+  plain_put_out (Err NotReady) ends = stays_refused lang s h was k s.stored ledger n ends.2 ends.3
+  plain_put_out (Err Memory) ends = stays_refused lang s h was k s.stored ledger n ends.0 ends.1
+  plain_put_out (Err Device) ends = λ at stands. tt
+  plain_put_out (Err other) ends = absurd ends

@@ -32,7 +32,7 @@ module _ {R K S O : Type 0} (lang : Language R K S O) where
 module _ {R K S O : Type 0} (lang : Language R K S O) (s : State O R K S) where
   -- the plain configuration of what the job holds, but for outputs
   abbrev pub bare_of : Held R K S → Configuration R K S
-  bare_of k = bare (attempt_of lang.cmp s.graph k)
+  bare_of k = bare (attempt_of lang.cmp k)
 
   -- each sink has the same records in its transactions
   abbrev pub SameRecords : Ledger → Type 0

@@ -1,5 +1,6 @@
 -- An accepted read or work is one plain step, of the named task and input; no other call, and none that is refused, moves the plain configuration.
 use Rattle.std.specs.Prelude.{◌≡◌, ℕ, Bool, true, List, Some, Result}
+use Rattle.alignment.specs.declared.input.Effect.{Effect}
 use Rattle.checkpoint_model.specs.Headline.{SpellsOnce}
 use Rattle.commit_sink.specs.Ledger.{Ledger}
 use Rattle.dataflow_model.specs.Machine.{Configuration, Move, Read, Work, Reaches, start}
@@ -7,7 +8,7 @@ use Rattle.job_state.specs.Held.{Held}
 use Rattle.snapshot_store.specs.Store.{Stored}
 use Rattle.task_part.specs.declared.part.Part.{Part}
 use Rattle.core_model.specs.declared.fault.CoreFault.{CoreFault}
-use Rattle.core_model.specs.Calls.{left_by, EndsRead, EndsOperate, EndsPutOut, EndsInject, EndsCopyOperator, EndsCopySink, EndsPersist, EndsTrigger, EndsComplete}
+use Rattle.core_model.specs.Calls.{left_by, EndsRead, EndsOperate, EndsPutOut, EndsInject, EndsOperatorBarrier, EndsSinkBarrier, EndsPersist, EndsTrigger, EndsComplete}
 use Rattle.core_model.specs.CallLaws.{RunsWith, IsOperatorTask, IsSinkTask}
 use Rattle.core_model.specs.Commits.{EndsCommit}
 use Rattle.core_model.specs.Language.{Language}
@@ -22,16 +23,16 @@ module _ {R K S O : Type 0} where
     pub read : (k : Held R K S) (faults task : ℕ) (result : Result Unit CoreFault) → EndsRead s.graph task h k lang s.partitions result →
         StepsIfOk result lang (Read task) s (record s { held = left_by result (Some k); faults = faults })
     -- an operator works the first record of its input
-    pub operate : (k : Held R K S) (faults task channel : ℕ) (operator : O) (result : Result Unit CoreFault) → IsOperatorTask s task channel operator → EndsOperate s.graph task h k channel lang operator result →
+    pub operate : (k : Held R K S) (faults task input channel : ℕ) (operator : O) (result : Result Unit CoreFault) → IsOperatorTask s task input channel operator → EndsOperate s.graph task h k input channel lang operator result →
         StepsIfOk result lang (Work task channel) s (record s { held = left_by result (Some k); faults = faults })
     -- so does a sink
-    pub put_out : (k : Held R K S) (ledger : Ledger) (faults task channel subtask : ℕ) (result : Result Unit CoreFault) → IsSinkTask s task channel subtask → EndsPutOut task h k channel s.ledger ledger lang.spelling result →
+    pub put_out : (k : Held R K S) (ledger : Ledger) (faults task input channel subtask : ℕ) (result : Result Unit CoreFault) → IsSinkTask s task input channel subtask → EndsPutOut task input h k channel s.ledger ledger lang.spelling result →
         StepsIfOk result lang (Work task channel) s (record s { held = left_by result (Some k); ledger = ledger; faults = faults })
     -- no other call is a plain step
     pub inject : (k : Held R K S) (faults task : ℕ) (result : Result Unit CoreFault) → EndsInject s.graph task h k result → Stays lang s (record s { held = left_by result (Some k); faults = faults })
-    pub copy_operator : (k : Held R K S) (faults task channel : ℕ) (operator : O) (result : Result Unit CoreFault) → IsOperatorTask s task channel operator → EndsCopyOperator s.graph task h k channel result →
+    pub operator_barrier : (k : Held R K S) (faults task input channel : ℕ) (operator : O) (result : Result Effect CoreFault) → IsOperatorTask s task input channel operator → EndsOperatorBarrier s.graph task h k input channel result →
         Stays lang s (record s { held = left_by result (Some k); faults = faults })
-    pub copy_sink : (k : Held R K S) (ledger : Ledger) (faults task channel subtask : ℕ) (result : Result Unit CoreFault) → IsSinkTask s task channel subtask → EndsCopySink task h k channel subtask s.ledger ledger result →
+    pub sink_barrier : (k : Held R K S) (ledger : Ledger) (faults task input channel subtask : ℕ) (result : Result Effect CoreFault) → IsSinkTask s task input channel subtask → EndsSinkBarrier task input h k channel subtask s.ledger ledger result →
         Stays lang s (record s { held = left_by result (Some k); ledger = ledger; faults = faults })
     pub trigger : (k : Held R K S) (stored : Stored) (faults : ℕ) (result : Result ℕ CoreFault) → EndsTrigger h k s.stored stored result → Stays lang s (record s { held = left_by result (Some k); stored = stored; faults = faults })
     pub persist : (k : Held R K S) (stored : Stored) (faults task : ℕ) (spelling : Part R K S → List ℕ) (result : Result Unit CoreFault) → EndsPersist s.graph task h k s.stored stored spelling result →
