@@ -17,7 +17,6 @@ use Rattle.dataflow_model.specs.Graph.{Channel}
 use Rattle.job_graph.specs.Expanded.{Expanded, meets, is_input, is_marked, inputs_of}
 use Rattle.job_state.specs.Held.{marked_inputs, opened}
 use Rattle.task_part.specs.Spelling.{Logs}
-use Rattle.core_model.specs.Keeps.{LogsSuit}
 use Rattle.core_model.specs.Language.{Language}
 use Rattle.core_model.specs.Restart.{IsInPart, IsStart, AreStarts, Suits, first_start, part_for, logs_in, openings_of}
 use Rattle.core_model.specs.View.{log_at, part_view}

@@ -1,7 +1,7 @@
 -- A sound engine keeps what a fresh one keeps.
 use Rattle.std.proofs.Common.{◌≡◌, MatchOption, Option, Some, None, ℕ, true, refl}
 use Rattle.job_state.specs.Held.{Held}
-use Rattle.core_model.specs.Keeps.{Keeps, Shape, RunsIn}
+use Rattle.core_model.specs.Keeps.{Keeps, RunsIn}
 use Rattle.core_model.specs.Language.{Language}
 use Rattle.core_model.specs.Sound.{IsSound}
 use Rattle.core_model.specs.State.{State}

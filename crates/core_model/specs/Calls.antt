@@ -5,7 +5,7 @@ use Rattle.std.specs.declared.cmp.Ordering.{Ordering}
 use Rattle.abs_codec.specs.Entries.{value_at}
 use Rattle.alignment.specs.Table.{effect_of, is_blocked}
 use Rattle.alignment.specs.declared.input.Effect.{Effect}
-use Rattle.alignment.specs.declared.input.Effect.TheVariants.{Blocked, Copy, Closed, CopyAndDone, Done}
+use Rattle.alignment.specs.declared.input.Effect.TheVariants.{Copy, CopyAndDone}
 use Rattle.alignment.specs.declared.input.Phase.TheVariants.{AtRest}
 use Rattle.channels.specs.declared.item.Item.TheVariants.{Record, Barrier}
 use Rattle.commit_sink.specs.Ledger.{Ledger, appended, begun, pre_committed}
@@ -15,7 +15,7 @@ use Rattle.dataflow_model.specs.Machine.{state_under}
 use Rattle.job_graph.specs.Expanded.{Expanded, inputs_of}
 use Rattle.job_graph.specs.declared.role.Role.TheVariants as role
 use Rattle.job_state.specs.Held.{Held, copy_at, came_at, gate_at, logs_of, with_logs, record_taken, barrier_taken, Reads, Operates, CopiesSource, CopiesOperator, sink_copied, with_started, with_acknowledged, with_completed}
-use Rattle.job_state.specs.Sending.{items_at, without_head}
+use Rattle.job_state.specs.Sending.{items_at}
 use Rattle.job_state.specs.declared.holding.Holding.TheVariants as holds
 use Rattle.snapshot_store.specs.Store.{Stored, with_part, completed, reserved, discarded_below}
 use Rattle.source_log.specs.Partitions.{records_at}
