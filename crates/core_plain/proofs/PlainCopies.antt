@@ -19,7 +19,7 @@ use Rattle.core_model.specs.State.{State}
 use Rattle.core_model.specs.View.{attempt_of, job_of, is_logged_in}
 use Rattle.core_model.specs.declared.fault.CoreFault.{CoreFault}
 use Rattle.core_model.specs.declared.fault.CoreFault.TheVariants.{NoSuchTask, NoCheckpoint, NotReady, ChannelBlocked, Memory, Device}
-use Rattle.core_model.proofs.CallGoes.{after, runs_of, shape_of}
+use Rattle.core_model.proofs.CallGoes.{runs_of, shape_of}
 use Rattle.core_model.proofs.CallInjects.{copy_within}
 use Rattle.core_model.proofs.Copies.{source_copies, takes_barrier, operator_copies, sink_copies}
 use Rattle.core_model.proofs.LedgerCopy.{Copied, copy_in}

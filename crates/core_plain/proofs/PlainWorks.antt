@@ -1,6 +1,6 @@
 -- An operator that works its first record makes one plain step, and so does a sink.
-use Rattle.std.proofs.Common.{◌≡◌, Option, Some, Result, Ok, Err, is_some, false, slice_get, ℕ, refl, sym, ap, subst, ◌∙◌}
-use Rattle.std.specs.Option.{option_map, option_map_or}
+use Rattle.std.proofs.Common.{◌≡◌, Option, Some, Result, Ok, Err, slice_get, ℕ, refl, sym, ap, subst, ◌∙◌}
+use Rattle.std.specs.Option.{option_map}
 use Rattle.std.proofs.lemmas.Option.{same_Some, slice_get_within}
 use Rattle.checkpoint_model.specs.Attempt.{bare}
 use Rattle.checkpoint_model.specs.Durable.{IsSink, Appends}
@@ -9,13 +9,13 @@ use Rattle.checkpoint_model.specs.EngineLaws.{EngineMoves, with_attempt}
 use Rattle.checkpoint_model.specs.Held.{held_run}
 use Rattle.checkpoint_model.specs.HeldLaws.{HasOneOpen}
 use Rattle.commit_sink.specs.Ledger.{Ledger}
-use Rattle.dataflow_model.specs.Graph.{Task, OperatorTask, SinkTask, Channel}
+use Rattle.dataflow_model.specs.Graph.{Task, OperatorTask, SinkTask}
 use Rattle.dataflow_model.specs.Machine.{Work}
 use Rattle.job_graph.specs.PlainGraph.{task_of, operator_task}
 use Rattle.job_graph.specs.declared.role.Role.{Role}
 use Rattle.job_graph.specs.declared.role.Role.TheVariants as role
 use Rattle.job_graph.proofs.PlainTasks.{tasks-graph_of}
-use Rattle.job_state.specs.Held.{Held, copy_at}
+use Rattle.job_state.specs.Held.{Held}
 use Rattle.job_state.specs.Sending.{items_at}
 use Rattle.core_model.specs.Calls.{EndsOperate, OperatesNext, EndsPutOut, PutsOut, input_at, left_by}
 use Rattle.core_model.specs.Keeps.{Keeps, SinkIn, GateFits, Shape}
