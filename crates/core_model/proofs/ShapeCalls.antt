@@ -1,5 +1,5 @@
 -- Each change of what a running job holds keeps its shape.
-use Rattle.std.proofs.Common.{◌≡◌, ◌≢◌, ◌<◌, ◌+◌, ◌&&◌, ◌++◌, not, inl, inr, if◌then◌else◌, All, Option, Some, None, slice_get, slice_set, slice_index_or, unwrap_or, is_some, length, map, drop, replicate, ℕ, zero, suc, Bool, true, false, List, [], ◌∷◌, refl, sym, ap, ap₂, subst, ◌∙◌, arith, Ordering}
+use Rattle.std.proofs.Common.{◌≡◌, ◌≢◌, ◌<◌, ◌+◌, ◌&&◌, ◌++◌, not, inl, inr, if◌then◌else◌, All, Option, Some, None, slice_get, slice_set, slice_index_or, unwrap_or, is_some, length, map, drop, replicate, ℕ, zero, suc, Bool, true, false, List, [], ◌∷◌, refl, sym, ap, subst, ◌∙◌, arith, Ordering}
 use Rattle.std.proofs.lemmas.Bool.{true≢false, and_parts, cases_Bool, cases_lt}
 use Rattle.std.proofs.lemmas.Bool.Decides.{eqb_tells}
 use Rattle.std.proofs.lemmas.List.Elements.{All-append, All-from_recursion}
@@ -13,7 +13,7 @@ use Rattle.abs_codec.specs.Entries.{value_at}
 use Rattle.channels.specs.declared.item.Item.{Item}
 use Rattle.channels.specs.declared.item.Item.TheVariants.{Record}
 use Rattle.commit_sink.specs.Sink.{Sinking}
-use Rattle.coordinator.specs.Coordinator.{Coordination, IsReady, has_acked, started, acknowledged, completed}
+use Rattle.coordinator.specs.Coordinator.{Coordination, IsReady, started, acknowledged, completed}
 use Rattle.dataflow_model.specs.Graph.{Meaning}
 use Rattle.dataflow_model.specs.Machine.{received, kept_under}
 use Rattle.job_graph.specs.Expanded.{Expanded, IsExpanded, is_marked, meets}
@@ -31,6 +31,7 @@ use Rattle.core_model.proofs.Gates.{log_elsewhere, index_set_other}
 use Rattle.core_model.proofs.GatesKept.{no_inputs, rests_without, rests_unpending, fits_rest, fits_same, fits_barrier, fits_beside}
 use Rattle.core_model.proofs.Lists.{get_set_same, get_set_other, set_past, set_length}
 use Rattle.core_model.proofs.Fitting.{fit_puts, fit_taken, fit_records, fit_barriers, fit_received}
+use Rattle.core_model.proofs.StoreComplete.{ready_acked}
 use Rattle.core_model.proofs.Shapes.{HoldsGood, replicate_length, shape_task, shape_channels, shape_logs, shape_gates, copy_forms_set, shape_coordination, shape_cleared}
 
 -- the first of a channel's items fits
@@ -68,16 +69,9 @@ copy_set copies task p within = ap (λ (o : Option (Option _)). unwrap_or o None
 copy_beside : {P : Type 0} (copies : List (Option P)) (task t : ℕ) (p : P) → (t ≡ task → ⊥) → unwrap_or (slice_get (slice_set copies task (Some p)) t) None ≡ unwrap_or (slice_get copies t) None
 copy_beside copies task t p apart = ap (λ (o : Option (Option _)). unwrap_or o None) (get_set_other copies task t (Some p) apart)
 
--- every task has acknowledged
-ready_acked : (c : Coordination) → IsReady c → (task : ℕ) → task < length c.acked → has_acked c task ≡ true
-ready_acked c ready task within = ap₂ (λ (a b : Bool). a && b) ready.0 (ready.1 task false within)
-
 module _ {R K S O : Type 0} (cmp : K → K → Ordering) (RecordFits : R → Type 0) (IsGood : O → S → Type 0) (graph : Expanded) (operators : List O) where
   abbrev IsShape : Held R K S → Type 0
   IsShape held = Shape cmp RecordFits IsGood graph operators held
-
-  no_operator : (n number : ℕ) (entries : List (K × S)) → holds.Source n ≡ holds.Operator entries → ⊥
-  no_operator n number entries e = cc
 
   source_good : (offset : ℕ) (r : Role) → HoldsGood {R = R} cmp RecordFits IsGood graph operators r (holds.Source offset)
   source_good offset r = λ number operator entries key state is op same value. absurd cc
@@ -86,10 +80,6 @@ module _ {R K S O : Type 0} (cmp : K → K → Ordering) (RecordFits : R → Typ
   sink_good sink r = λ number operator entries key state is op same value. absurd cc
 
   module _ (old : Held R K S) (shape : IsShape old) where
-    pub shape_taken : (channel : ℕ) → IsShape (record old { channels = without_head channel old.channels })
-    shape_taken channel =
-        shape_channels cmp RecordFits IsGood graph operators old shape (without_head channel old.channels) (set_length old.channels channel (drop 1 (items_at old.channels channel))) (fit_taken RecordFits channel old.channels shape.fit)
-
     pub shape_reads : (meaning : Meaning R K S O) (task partition offset : ℕ) (row : R) (new : Held R K S) → slice_get graph.tasks task ≡ Some (role.Source partition) → RecordFits row → Reads meaning graph task offset row old new → IsShape new
     shape_reads meaning task partition offset row new is fits reads =
         let moved : Held R K S = record old { tasks = slice_set old.tasks task (holds.Source (offset + 1)) } in
