@@ -13,7 +13,7 @@ use Rattle.abs_codec.specs.Entries.{value_at}
 use Rattle.channels.specs.declared.item.Item.{Item}
 use Rattle.channels.specs.declared.item.Item.TheVariants.{Record}
 use Rattle.commit_sink.specs.Sink.{Sinking}
-use Rattle.coordinator.specs.Coordinator.{Coordination, IsReady, started, acknowledged, completed}
+use Rattle.coordinator.specs.Coordinator.{IsReady, started, acknowledged, completed}
 use Rattle.dataflow_model.specs.Graph.{Meaning}
 use Rattle.dataflow_model.specs.Machine.{received, kept_under}
 use Rattle.job_graph.specs.Expanded.{Expanded, IsExpanded, is_marked, meets}
