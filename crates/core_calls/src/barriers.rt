@@ -1,16 +1,19 @@
 //! Barriers are taken, and tasks copy what they hold (Carbone et al. 2015).
 
-ghost use Rattle.std.specs.Prelude.{◌≡◌, ◌≢◌, ◌<◌, ◌≤◌, ◌↔◌, ℕ, List, Err, Some, None, length, slice_get, OnErr, IfSome, IfNone};
-ghost use Rattle.std.specs.Option.{option_copied};
+ghost use Rattle.std.specs.Prelude.{◌≡◌, ◌<◌, List, true, Err, Some, None, length, slice_get, IfOk, IfErr};
+ghost use Rattle.alignment.specs.Table.{effect_of};
 ghost use Rattle.commit_sink.specs.Ledger.{open_refusal};
 ghost use Rattle.commit_sink.specs.Sink.{Sinking};
 ghost use Rattle.job_graph.specs.declared.role.Role.TheVariants as Role;
 ghost use Rattle.job_state.specs.declared.holding.Holding.TheVariants as Holding;
 ghost use Rattle.core_model.specs.declared.fault.CoreFault.TheVariants as CoreFault;
-ghost use Rattle.core_model.specs.Calls.{EndsInject, EndsCopyOperator, EndsCopySink, IsBarrierNext};
-ghost use Rattle.core_model.specs.Keeps.{AreHeld};
+ghost use Rattle.core_model.specs.Calls.{input_at, is_copy, EndsInject, EndsOperatorBarrier, EndsSinkBarrier, IsBlocked, IsBarrierNext};
+ghost use Rattle.core_model.specs.Keeps.{AreHeld, GateFits};
+ghost use Rattle.job_state.specs.Held.{gate_at};
+ghost use Rattle.core_calls.specs.Taking.{RefusesBarrier, GateAwaits, EndsSinkCopy};
 
 use crate::dataflow::source_offset;
+use alignment::Effect;
 use channels::Item;
 use commit_sink::{TransactionFault, Transactions};
 use core_model::CoreFault;
@@ -18,60 +21,87 @@ use job_graph::{Graph, Role};
 use job_state::{Attempt, Holding};
 use operators::Operator;
 
-/// The pending checkpoint, if its barrier stands at the head of the channel and the task has not copied for it.
-fn barrier_at<O: Operator>(attempt: &Attempt<O>, task: u32, channel: u32) -> Option<u64>
-    ensures some { IfSome result (IsBarrierNext task attempt.now channel) }
-    ensures none { IfNone result ((n : ℕ) → IsBarrierNext task attempt.now channel n → ⊥) }
+/// The pending checkpoint, whose barrier stands at the head of an input, which is this channel, and is to be taken.
+fn barrier_at<O: Operator>(
+    attempt: &Attempt<O>,
+    task: u32,
+    input: u32,
+    channel: u32,
+) -> Result<u64, CoreFault>
+    requires { input < length (gate_at attempt.now task).inputs }
+    ensures ok { IfOk result (λ checkpoint. ¬ IsBlocked task input attempt.now × IsBarrierNext attempt.now channel checkpoint) }
+    ensures err { IfErr result (RefusesBarrier task input channel attempt.now) }
 {
+    if attempt.is_blocked(task, input) {
+        return Err(CoreFault::ChannelBlocked);
+    }
     let Some(Item::Barrier(number)) = attempt.head(channel) else {
-        return None;
+        return Err(CoreFault::NotReady);
     };
     let number = *number;
-    if attempt.pending() != Some(number) || attempt.copy(task).is_some() {
-        return None;
+    if attempt.pending() != Some(number) || attempt.came(channel) {
+        return Err(CoreFault::NotReady);
     }
-    Some(number)
+    Ok(number)
 }
 
-/// An operator takes the barrier at the head of its input, copies its map, and sends the barrier.
-pub fn copy_operator<O: Operator>(
+/// Whether a task copies at such a barrier.
+fn is_copy(effect: Effect) -> bool
+    ensures { result ≡ is_copy effect }
+{
+    match effect {
+        Effect::Copy | Effect::CopyAndDone => true,
+        Effect::Blocked | Effect::Closed | Effect::Done => false,
+    }
+}
+
+/// An operator takes the barrier at the head of an input, which is this channel. Where it copies, it copies its map and sends the barrier.
+pub fn operator_barrier<O: Operator>(
     attempt: &mut Attempt<O>,
     graph: &Graph,
     task: u32,
+    input: u32,
     channel: u32,
-) -> Result<(), CoreFault>
+) -> Result<Effect, CoreFault>
+    requires gate { GateFits graph.now attempt.old task }
+    requires leads { input_at graph.now task input ≡ Some channel }
     requires holds { (entries : List (O.Key × O.State)) × (slice_get attempt.old.tasks task ≡ Some (Holding.Operator entries)) }
     requires copies { task < length attempt.old.copies }
+    requires came { length attempt.old.came ≡ length graph.now.channels }
     requires channels { length attempt.old.channels ≡ length graph.now.channels }
-    ensures { EndsCopyOperator graph.now task attempt.old attempt.new channel result }
+    ensures { EndsOperatorBarrier graph.now task attempt.old attempt.new input channel result }
 {
-    let Some(checkpoint) = barrier_at(attempt, task, channel) else {
-        return Err(CoreFault::NotReady);
-    };
-    attempt.copy_operator(graph, task, channel, checkpoint)?;
-    Ok(())
+    let checkpoint = barrier_at(attempt, task, input, channel)?;
+    let effect = attempt.effect(task, input);
+    if is_copy(effect) {
+        attempt.copy_operator(graph, task, input, channel, checkpoint)?;
+    } else {
+        attempt.take_barrier(task, input, channel, checkpoint);
+    }
+    Ok(effect)
 }
 
-/// A sink takes the barrier at the head of its input: it begins a transaction, pre-commits the one that was open, and copies the names of those
-/// that are pre-committed.
-pub fn copy_sink<O: Operator, X: Transactions>(
+/// A sink that copies begins a transaction, pre-commits the one that was open, and copies the names of those that are pre-committed.
+fn copy_sink<O: Operator, X: Transactions>(
     attempt: &mut Attempt<O>,
     transactions: &mut X,
     subtask: u32,
     task: u32,
+    input: u32,
     channel: u32,
+    checkpoint: u64,
 ) -> Result<(), CoreFault>
+    requires gate { GateAwaits task input channel checkpoint attempt.old }
+    requires barrier { IsBarrierNext attempt.old channel checkpoint }
+    requires effect { is_copy (effect_of (gate_at attempt.old task) input) ≡ true }
     requires holds { (sink : Sinking) × (slice_get attempt.old.tasks task ≡ Some (Holding.Sink sink)) × (open_refusal (X.state transactions.old) sink.open_one ≡ None) }
     requires copies { task < length attempt.old.copies }
     requires subtask { subtask < (X.state transactions.old).subtasks }
-    ensures ends { EndsCopySink task attempt.old attempt.new channel subtask (X.state transactions.old) (X.state transactions.new) result }
+    ensures ends { EndsSinkCopy task input attempt.old attempt.new channel subtask (X.state transactions.old) (X.state transactions.new) result }
     ensures counted { result ≡ Err CoreFault.Device → X.fault_count transactions.old < X.fault_count transactions.new }
 {
-    let Some(checkpoint) = barrier_at(attempt, task, channel) else {
-        return Err(CoreFault::NotReady);
-    };
     let Some(Holding::Sink(sink)) = attempt.holding(task) else {
-        return Err(CoreFault::NotReady);
+        return Err(CoreFault::Memory);
     };
     let open = sink.open();
     let names = sink.names()?;
@@ -85,8 +115,46 @@ pub fn copy_sink<O: Operator, X: Transactions>(
         return Err(CoreFault::Device);
     }
     next.set_open(begun);
-    attempt.copy_sink(task, channel, names, next);
+    attempt.copy_sink(task, input, channel, checkpoint, names, next);
     Ok(())
+}
+
+/// A sink takes the barrier at the head of an input, which is this channel. Where it copies, it begins a transaction, pre-commits the one that was
+/// open, and copies the names of those that are pre-committed.
+pub fn sink_barrier<O: Operator, X: Transactions>(
+    attempt: &mut Attempt<O>,
+    graph: &Graph,
+    transactions: &mut X,
+    subtask: u32,
+    task: u32,
+    input: u32,
+    channel: u32,
+) -> Result<Effect, CoreFault>
+    requires gate { GateFits graph.now attempt.old task }
+    requires leads { input_at graph.now task input ≡ Some channel }
+    requires holds { (sink : Sinking) × (slice_get attempt.old.tasks task ≡ Some (Holding.Sink sink)) × (open_refusal (X.state transactions.old) sink.open_one ≡ None) }
+    requires copies { task < length attempt.old.copies }
+    requires came { length attempt.old.came ≡ length graph.now.channels }
+    requires subtask { subtask < (X.state transactions.old).subtasks }
+    ensures ends { EndsSinkBarrier task input attempt.old attempt.new channel subtask (X.state transactions.old) (X.state transactions.new) result }
+    ensures counted { result ≡ Err CoreFault.Device → X.fault_count transactions.old < X.fault_count transactions.new }
+{
+    let checkpoint = barrier_at(attempt, task, input, channel)?;
+    let effect = attempt.effect(task, input);
+    if is_copy(effect) {
+        copy_sink(
+            attempt,
+            transactions,
+            subtask,
+            task,
+            input,
+            channel,
+            checkpoint,
+        )?;
+    } else {
+        attempt.take_barrier(task, input, channel, checkpoint);
+    }
+    Ok(effect)
 }
 
 /// Source `task` copies its offset for the pending checkpoint, and sends the barrier.

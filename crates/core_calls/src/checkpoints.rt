@@ -5,13 +5,13 @@ ghost use Rattle.coordinator.specs.Coordinator.{IsReady, has_acked, ack_refusal}
 ghost use Rattle.coordinator.specs.Coordinator as coordination;
 ghost use Rattle.snapshot_store.specs.Store.{put_refusal, complete_refusal};
 ghost use Rattle.abs_codec.specs.Reading.{whole_of};
-ghost use Rattle.job_state.specs.Held.{copy_at};
+ghost use Rattle.job_state.specs.Held.{copy_at, logs_of, with_logs};
 ghost use Rattle.task_part.specs.declared.part.Part.{Part};
-ghost use Rattle.task_part.specs.Spelling.{part_spelling, part_at};
+ghost use Rattle.task_part.specs.Spelling.{logs_now, part_spelling, part_at};
 ghost use Rattle.core_model.specs.declared.fault.CoreFault.TheVariants as CoreFault;
 ghost use Rattle.core_model.specs.Calls.{EndsTrigger, EndsPersist, EndsComplete, WhereReached};
 
-use abs_codec::{Codec, CodecFault};
+use abs_codec::NoMemory;
 use commit_sink::Transactions;
 use core_model::CoreFault;
 use job_graph::Graph;
@@ -19,6 +19,7 @@ use job_state::{Attempt, Holding};
 use operators::Operator;
 use snapshot_store::{SnapshotStore, StoreFault};
 use std::alloc::Global;
+use task_part::{Part, write_with_logs};
 
 /// A checkpoint begins under a number of its own. The parts below the last complete number are discarded first.
 pub fn trigger<O: Operator, S: SnapshotStore>(
@@ -47,20 +48,45 @@ pub fn trigger<O: Operator, S: SnapshotStore>(
     }
 }
 
-/// The spelling of a value, from which the value is read again.
-fn spelled<T: Codec>(alloc: Global, value: &T) -> Result<Vec<u8>, CoreFault>
-    ensures ok { IfOk result (λ bytes. bytes.items ≡ T.spelling value.now) }
-    ensures readable { OnOk result (whole_of T.reading (T.spelling value.now) ≡ Ok value.now) }
+/// The logs of a task, each with its channel.
+fn logs_of<'a, O: Operator>(
+    alloc: Global,
+    attempt: &'a Attempt<O>,
+    graph: &Graph,
+    task: u32,
+) -> Result<Vec<(u32, &'a [O::Record])>, NoMemory>
+    ensures { IfOk result (λ logs. logs_now logs.items ≡ logs_of graph.now attempt.now task) }
+{
+    let mut logs = Vec::new(alloc);
+    for &number in graph.inputs(task) {
+        if graph.is_marked(number) {
+            logs.push((number, attempt.logged(number)))?;
+        }
+    }
+    Ok(logs)
+}
+
+/// The spelling of the part that a task's copy is with the task's logs, from which the part is read again.
+fn spelled<O: Operator>(
+    alloc: Global,
+    attempt: &Attempt<O>,
+    graph: &Graph,
+    task: u32,
+    copy: &Part<O::Record, O::Key, O::State>,
+) -> Result<Vec<u8>, CoreFault>
+    ensures ok { IfOk result (λ bytes. bytes.items ≡ part_spelling O.Record.spelling O.Key.spelling O.State.spelling (with_logs (logs_of graph.now attempt.now task) copy.now)) }
+    ensures readable { OnOk result (whole_of (part_at O.Record.reading O.Key.cmp O.Key.reading O.State.reading) (part_spelling O.Record.spelling O.Key.spelling O.State.spelling (with_logs (logs_of graph.now attempt.now task) copy.now)) ≡ Ok (with_logs (logs_of graph.now attempt.now task) copy.now)) }
     ensures err { IfErr result (λ fault. fault ≡ CoreFault.Memory) }
 {
+    let logs = logs_of(alloc, attempt, graph, task)?;
     let mut bytes = Vec::new(alloc);
-    match value.encode(&mut bytes) {
+    match write_with_logs(copy, &logs, &mut bytes) {
         Ok(()) => Ok(bytes),
         Err(_) => Err(CoreFault::Memory),
     }
 }
 
-/// Puts the part of a task that has copied.
+/// Puts the part of a task that has copied, and whose logs are closed.
 pub fn persist<O: Operator, S: SnapshotStore>(
     alloc: Global,
     attempt: &mut Attempt<O>,
@@ -73,7 +99,7 @@ pub fn persist<O: Operator, S: SnapshotStore>(
     ensures ends { EndsPersist graph.now task attempt.old attempt.new (S.state store.old) (S.state store.new) (part_spelling O.Record.spelling O.Key.spelling O.State.spelling) result }
     ensures counted { result ≡ Err CoreFault.Device → S.fault_count store.old < S.fault_count store.new }
     ensures grows { S.fault_count store.old ≤ S.fault_count store.new }
-    ensures readable { WhereReached result ((p : Part O.Record O.Key O.State) → copy_at attempt.old task ≡ Some p → whole_of (part_at O.Record.reading O.Key.cmp O.Key.reading O.State.reading) (part_spelling O.Record.spelling O.Key.spelling O.State.spelling p) ≡ Ok p) }
+    ensures readable { WhereReached result ((p : Part O.Record O.Key O.State) → copy_at attempt.old task ≡ Some p → whole_of (part_at O.Record.reading O.Key.cmp O.Key.reading O.State.reading) (part_spelling O.Record.spelling O.Key.spelling O.State.spelling (with_logs (logs_of graph.now attempt.old task) p)) ≡ Ok (with_logs (logs_of graph.now attempt.old task) p)) }
 {
     if graph.role(task).is_none() {
         return Err(CoreFault::NoSuchTask);
@@ -84,10 +110,10 @@ pub fn persist<O: Operator, S: SnapshotStore>(
     let Some(part) = attempt.copy(task) else {
         return Err(CoreFault::NotReady);
     };
-    if attempt.has_acked(task) {
+    if !attempt.is_closed(task) || attempt.has_acked(task) {
         return Err(CoreFault::NotReady);
     }
-    let bytes = spelled(alloc, part)?;
+    let bytes = spelled(alloc, attempt, graph, task, part)?;
     match store.put(checkpoint, task, &bytes) {
         Ok(()) => {
             attempt.acknowledge(checkpoint, task);

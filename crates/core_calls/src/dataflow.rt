@@ -1,6 +1,6 @@
 //! Records move: sources read, operators and sinks work.
 
-ghost use Rattle.std.specs.Prelude.{◌≡◌, ◌≢◌, ◌<◌, ◌≤◌, ◌+◌, ◌^◌, ℕ, List, Err, Some, None, length, slice_get, OnOk, OnErr, IfOk, IfSome, IfNone};
+ghost use Rattle.std.specs.Prelude.{◌≡◌, ◌≢◌, ◌<◌, ◌≤◌, ◌+◌, ◌^◌, ℕ, List, Err, Some, None, length, slice_get, OnOk, OnErr, IfOk, IfErr, IfSome, IfNone};
 ghost use Rattle.std.specs.Option.{option_copied};
 ghost use Rattle.abs_codec.specs.Entries.{value_at};
 ghost use Rattle.abs_codec.specs.Spelling.{Fits};
@@ -8,12 +8,16 @@ ghost use Rattle.dataflow_model.specs.Machine.{state_under};
 ghost use Rattle.operators.specs.Operator.{IsGoodState};
 ghost use Rattle.commit_sink.specs.Ledger.{open_refusal};
 ghost use Rattle.commit_sink.specs.Sink.{Sinking};
+ghost use Rattle.channels.specs.declared.item.Item.TheVariants as Item;
+ghost use Rattle.job_state.specs.Held.{gate_at};
+ghost use Rattle.job_state.specs.Sending.{items_at};
 ghost use Rattle.job_state.specs.declared.holding.Holding.TheVariants as Holding;
 ghost use Rattle.job_graph.specs.declared.role.Role.TheVariants as Role;
 ghost use Rattle.core_model.specs.declared.fault.CoreFault.TheVariants as CoreFault;
 ghost use Rattle.core_model.specs.Language.{language};
-ghost use Rattle.core_model.specs.Calls.{input_at, state_of, EndsRead, EndsOperate, EndsPutOut};
-ghost use Rattle.core_model.specs.Keeps.{AreHeld, AllFit};
+ghost use Rattle.core_model.specs.Calls.{input_at, state_of, IsBlocked, EndsRead, EndsOperate, EndsPutOut};
+ghost use Rattle.core_model.specs.Keeps.{AreHeld, AllFit, GateFits};
+ghost use Rattle.core_calls.specs.Taking.{RefusesRecord};
 ghost use Rattle.source_log.specs.Partitions.{records_at};
 
 use abs_codec::{Codec, NoMemory};
@@ -122,60 +126,106 @@ fn outcome_of<O: Operator>(
     Ok((key, outcome))
 }
 
-/// An operator works the record at the head of its input.
+/// The record at the head of an input, which is this channel, where it may be taken.
+fn first_record<O: Operator>(
+    attempt: &Attempt<O>,
+    task: u32,
+    input: u32,
+    channel: u32,
+) -> Result<&O::Record, CoreFault>
+    requires { input < length (gate_at attempt.now task).inputs }
+    ensures ok { IfOk result (λ row. ¬ IsBlocked task input attempt.now × (slice_get (items_at attempt.now.channels channel) 0 ≡ Some (Item.Record row.now))) }
+    ensures err { IfErr result (RefusesRecord task input channel attempt.now) }
+{
+    if attempt.is_blocked(task, input) {
+        return Err(CoreFault::ChannelBlocked);
+    }
+    match attempt.head(channel) {
+        Some(Item::Record(row)) => Ok(row),
+        Some(Item::Barrier(_)) => Err(CoreFault::NotReady),
+        None => Err(CoreFault::NotReady),
+    }
+}
+
+/// An operator works the record at the head of an input, which is this channel.
 pub fn operate<O: Operator>(
     alloc: Global,
     attempt: &mut Attempt<O>,
     graph: &Graph,
     operator: &O,
     task: u32,
+    input: u32,
     channel: u32,
 ) -> Result<(), CoreFault>
+    requires gate { GateFits graph.now attempt.old task }
+    requires leads { input_at graph.now task input ≡ Some channel }
     requires holds { (entries : List (O.Key × O.State)) × (slice_get attempt.old.tasks task ≡ Some (Holding.Operator entries)) }
     requires channels { length attempt.old.channels ≡ length graph.now.channels }
+    requires logs { length attempt.old.logs ≡ length graph.now.channels }
     requires fit { AllFit (Fits O.Record.HasSpelling O.Record.spelling) attempt.old }
     requires good { (entries : List (O.Key × O.State)) (key : O.Key) (state : O.State) → slice_get attempt.old.tasks task ≡ Some (Holding.Operator entries) → value_at O.Key.cmp entries key ≡ Some state → IsGoodState (Fits O.State.HasSpelling O.State.spelling) O.Suits operator.now state }
-    ensures { EndsOperate graph.now task attempt.old attempt.new channel (language O.meaning O.Key.cmp O.Record.spelling O.Record.reading O.Key.reading O.State.reading) operator.now result }
+    ensures { EndsOperate graph.now task attempt.old attempt.new input channel (language O.meaning O.Key.cmp O.Record.spelling O.Record.reading O.Key.reading O.State.reading) operator.now result }
 {
-    let Some(Item::Record(row)) = attempt.head(channel) else {
-        return Err(CoreFault::NotReady);
-    };
+    let row = first_record(attempt, task, input, channel)?;
     let (key, outcome) = outcome_of(alloc, attempt, operator, task, row)?;
-    attempt.operate(graph, task, channel, key, outcome.state, outcome.sent)?;
+    attempt.operate(
+        graph,
+        task,
+        input,
+        channel,
+        key,
+        outcome.state,
+        outcome.sent,
+    )?;
     Ok(())
 }
 
-/// A sink puts the record at the head of its input last in its open transaction.
+/// The spelling of a record.
+fn row_spelling<R: Codec>(alloc: Global, row: &R) -> Result<Vec<u8>, CoreFault>
+    ensures ok { IfOk result (λ bytes. bytes.items ≡ R.spelling row.now) }
+    ensures err { IfErr result (λ fault. fault ≡ CoreFault.Memory) }
+{
+    let mut bytes = Vec::new(alloc);
+    match row.encode(&mut bytes) {
+        Ok(()) => Ok(bytes),
+        Err(_) => Err(CoreFault::Memory),
+    }
+}
+
+/// A sink puts the record at the head of an input, which is this channel, last in its open transaction.
 pub fn put_out<O: Operator, X: Transactions>(
     alloc: Global,
     attempt: &mut Attempt<O>,
+    graph: &Graph,
     transactions: &mut X,
     task: u32,
+    input: u32,
     channel: u32,
 ) -> Result<(), CoreFault>
+    requires gate { GateFits graph.now attempt.old task }
+    requires leads { input_at graph.now task input ≡ Some channel }
     requires holds { (sink : Sinking) × (slice_get attempt.old.tasks task ≡ Some (Holding.Sink sink)) × (open_refusal (X.state transactions.old) sink.open_one ≡ None) }
+    requires logs { length attempt.old.logs ≡ length graph.now.channels }
     requires fit { AllFit (Fits O.Record.HasSpelling O.Record.spelling) attempt.old }
-    ensures ends { EndsPutOut task attempt.old attempt.new channel (X.state transactions.old) (X.state transactions.new) O.Record.spelling result }
+    ensures ends { EndsPutOut task input attempt.old attempt.new channel (X.state transactions.old) (X.state transactions.new) O.Record.spelling result }
     ensures counted { result ≡ Err CoreFault.Device → X.fault_count transactions.old < X.fault_count transactions.new }
     ensures grows { X.fault_count transactions.old ≤ X.fault_count transactions.new }
 {
-    let Some(Item::Record(row)) = attempt.head(channel) else {
-        return Err(CoreFault::NotReady);
-    };
+    let bytes = row_spelling(alloc, first_record(attempt, task, input, channel)?)?;
     let Some(Holding::Sink(sink)) = attempt.holding(task) else {
         return Err(CoreFault::NotReady);
     };
     let open = sink.open();
-    let mut bytes = Vec::new(alloc);
-    if row.encode(&mut bytes).is_err() {
-        return Err(CoreFault::Memory);
-    }
+    attempt.log_head(task, input, channel)?;
     match transactions.append(open, &bytes) {
         Ok(()) => {
             attempt.take(channel);
             Ok(())
         }
-        Err(TransactionFault::Memory) => Err(CoreFault::Memory),
+        Err(TransactionFault::Memory) => {
+            attempt.unlog(task, input, channel);
+            Err(CoreFault::Memory)
+        }
         Err(_) => Err(CoreFault::Device),
     }
 }

@@ -9,7 +9,7 @@ mod checkpoints;
 mod commits;
 mod dataflow;
 
-pub use barriers::{copy_operator, copy_sink, inject};
+pub use barriers::{inject, operator_barrier, sink_barrier};
 pub use checkpoints::{complete, persist, trigger};
 pub use commits::commit;
 pub use dataflow::{input_of, operate, put_out, read_next};
