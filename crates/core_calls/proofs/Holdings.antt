@@ -1,6 +1,9 @@
 -- What a task holds, and the head of its input.
-use Rattle.std.proofs.Common.{◌≡◌, ◌≤◌, ℕ, zero, suc, Option, Some, None, List, [], ◌∷◌, slice_get, length, unwrap_or, All, sym, ap, ◌∙◌, subst, arith}
+use Rattle.std.proofs.Common.{◌≡◌, ◌≤◌, ℕ, zero, suc, Option, Some, None, Err, List, [], ◌∷◌, slice_get, length, unwrap_or, All, sym, ap, ◌∙◌, subst, arith}
 use Rattle.std.specs.declared.cmp.Ordering.{Ordering}
+use Rattle.commit_sink.specs.Ledger.{Ledger, Ends}
+use Rattle.commit_sink.specs.declared.transactions.TransactionFault.{TransactionFault}
+use Rattle.commit_sink.specs.declared.transactions.TransactionFault.TheVariants.{Memory}
 use Rattle.abs_codec.specs.Entries.{value_at}
 use Rattle.core_model.specs.Calls.{state_of}
 use Rattle.dataflow_model.specs.Graph.{Meaning}
@@ -42,7 +45,13 @@ module _ {K S : Type 0} (cmp : K → K → Ordering) (entries : List (K × S)) w
   found_is P (Some key) state all e = all key state e
 
 -- an operator's work, by the same key, state and records
-pub works_same : {R K S O : Type 0} (meaning : Meaning R K S O) (cmp : K → K → Ordering) (graph : Expanded) (task input : ℕ) (key is : Option K) (state next : S) (sent out : List (ℕ × R)) (h k : Held R K S)
-    → key ≡ is → state ≡ next → sent ≡ out → Operates meaning cmp graph task input key state sent h k → Operates meaning cmp graph task input is next out h k
-works_same meaning cmp graph task input key is state next sent out h k a b d works =
-    subst (λ x. Operates meaning cmp graph task input x next out h k) a (subst (λ x. Operates meaning cmp graph task input key x out h k) b (subst (λ x. Operates meaning cmp graph task input key state x h k) d works))
+pub works_same : {R K S O : Type 0} (meaning : Meaning R K S O) (cmp : K → K → Ordering) (graph : Expanded) (task input channel : ℕ) (row : R) (key is : Option K) (state next : S) (sent out : List (ℕ × R)) (h k : Held R K S)
+    → key ≡ is → state ≡ next → sent ≡ out → Operates meaning cmp graph task input channel row key state sent h k → Operates meaning cmp graph task input channel row is next out h k
+works_same meaning cmp graph task input channel row key is state next sent out h k a b d works =
+    subst (λ x. Operates meaning cmp graph task input channel row x next out h k) a
+    (subst (λ x. Operates meaning cmp graph task input channel row key x out h k) b (subst (λ x. Operates meaning cmp graph task input channel row key state x h k) d works))
+
+-- a call that is refused memory leaves the transactions
+pub memory_leaves : (old new : Ledger × ℕ) (refusal : Option TransactionFault) (after : Ledger) (fault : TransactionFault) → fault ≡ Memory → Ends {T = Unit {0}} old new refusal after (Err fault) → new.0 ≡ old.0
+memory_leaves old new refusal after Memory is ends = ends.1
+memory_leaves old new refusal after other is ends = absurd cc
