@@ -11,3 +11,6 @@ mod input;
 
 pub use gate::Gate;
 pub use input::{Effect, Phase};
+
+#[cfg(test)]
+mod tests;
