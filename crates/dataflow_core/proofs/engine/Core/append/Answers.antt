@@ -1,6 +1,7 @@
 use Rattle.core_model.proofs.CallFails.{keeps_appended}
 use Rattle.dataflow_core.proofs.Appending.{appends_or_not}
 use Rattle.dataflow_core.proofs.Plain.{append_stays}
+use Rattle.core_model.proofs.Sounds.{keeps_as_fresh, sound_as_fresh}
 use Rattle.dataflow_core.proofs.engine.Core.append.Goals as goal
 
 pub invariant_of-self : goal.invariant_of-self
@@ -10,3 +11,9 @@ invariant_of-self g c =
 
 pub returns-clause-stays : goal.returns-clause-stays
 returns-clause-stays g c = rw (← c.self.view_is) (append_stays _ _ _ _ c.self.invariant (g.P.Partitions.records c.append.new.self))
+
+pub returns-clause-sound : goal.returns-clause-sound
+returns-clause-sound g c =
+    rw (← c.self.view_is)
+    (λ sound. sound_as_fresh _ _ _ _ (keeps_appended _ _ _ _ (keeps_as_fresh _ _ _ _ c.self.invariant sound) _ (g.P.Partitions.records c.append.new.self) c.args.partition c.args.row
+    (appends_or_not (g.P.Partitions.records c.self.inside.log) (g.P.Partitions.records c.append.new.self) _ _ _ _ c.append.result c.append.ensures)))

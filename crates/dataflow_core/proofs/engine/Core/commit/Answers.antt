@@ -2,6 +2,7 @@ use Rattle.core_model.proofs.CallCommits.{keeps_commit}
 use Rattle.dataflow_core.proofs.Serving.{reaches}
 use Rattle.core_plain.proofs.PlainCommits.{plain_commit}
 use Rattle.dataflow_core.proofs.Plain.{withdraws}
+use Rattle.core_model.proofs.Sounds.{keeps_as_fresh, sound_as_fresh}
 use Rattle.dataflow_core.proofs.engine.Core.commit.Goals as goal
 
 pub invariant_of-self-2 : goal.invariant_of-self-2
@@ -20,10 +21,16 @@ returns-clause-stays g c =
     (plain_commit _ _ _ _ c.in-Some.attempt c.commit-outcome.new.attempt 0 c.args.sink (g.X.Transactions.state c.commit-outcome.new.transactions) c.self.invariant c.in-Some.is c.commit-outcome.result c.commit-outcome.ensures.ends)
 
 pub returns-clause-reaches : goal.returns-clause-reaches
-returns-clause-reaches g c = λ fresh.
-    rw c.leave.ensures.answer (reaches _ _ _ _ c.self.invariant c.in-Some.attempt c.in-Some.is fresh c.args.sink c.commit-outcome.new.attempt (g.X.Transactions.state c.commit-outcome.new.transactions) c.commit-outcome.result c.commit-outcome.ensures.ends)
+returns-clause-reaches g c =
+    rw (← c.self.view_is, c.leave.ensures.answer)
+    (λ sound. reaches _ _ _ _ c.self.invariant c.in-Some.attempt c.in-Some.is sound c.args.sink c.commit-outcome.new.attempt (g.X.Transactions.state c.commit-outcome.new.transactions) c.commit-outcome.result c.commit-outcome.ensures.ends)
 
 pub returns-clause-begins : goal.returns-clause-begins
 returns-clause-begins g c =
     rw (← c.self.view_is)
     (withdraws _ _ _ _ c.self.invariant (g.X.Transactions.state c.commit-outcome.new.transactions) _ 0 (g.met.X.Transactions.ordered c.commit-outcome.new.transactions) (keeps_commit _ _ _ _ c.self.invariant c.in-Some.attempt c.in-Some.is c.args.sink c.commit-outcome.new.attempt (g.X.Transactions.state c.commit-outcome.new.transactions) 0 c.commit-outcome.result c.commit-outcome.ensures.ends).1)
+
+pub returns-clause-sound : goal.returns-clause-sound
+returns-clause-sound g c =
+    rw (← c.self.view_is, c.leave.ensures.left)
+    (λ sound. sound_as_fresh _ _ _ _ (keeps_commit _ _ _ _ (keeps_as_fresh _ _ _ _ c.self.invariant sound) c.in-Some.attempt c.in-Some.is c.args.sink c.commit-outcome.new.attempt (g.X.Transactions.state c.commit-outcome.new.transactions) _ c.commit-outcome.result c.commit-outcome.ensures.ends).0)

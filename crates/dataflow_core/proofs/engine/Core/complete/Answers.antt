@@ -2,6 +2,7 @@ use Rattle.core_model.proofs.CallCompletes.{keeps_complete}
 use Rattle.core_model.proofs.StoreComplete.{coordinator_completes}
 use Rattle.dataflow_core.proofs.Plain.{complete_stays}
 use Rattle.dataflow_core.proofs.Serving.{completes, whole}
+use Rattle.core_model.proofs.Sounds.{keeps_as_fresh, sound_as_fresh}
 use Rattle.dataflow_core.proofs.engine.Core.complete.Goals as goal
 
 pub complete-outcome-requires-clause-may : goal.complete-outcome-requires-clause-may
@@ -27,3 +28,8 @@ returns-clause-stays g c =
 
 pub returns-clause-whole : goal.returns-clause-whole
 returns-clause-whole g c = rw c.leave.ensures.answer (whole _ _ _ _ c.self.invariant c.in-Some.attempt c.in-Some.is (g.S.SnapshotStore.state c.complete-outcome.new.store) c.complete-outcome.new.attempt c.complete-outcome.result c.complete-outcome.ensures.ends)
+
+pub returns-clause-sound : goal.returns-clause-sound
+returns-clause-sound g c =
+    rw (← c.self.view_is, c.leave.ensures.left)
+    (λ sound. sound_as_fresh _ _ _ _ (keeps_complete _ _ _ _ (keeps_as_fresh _ _ _ _ c.self.invariant sound) c.in-Some.attempt c.in-Some.is c.complete-outcome.new.attempt (g.S.SnapshotStore.state c.complete-outcome.new.store) _ (g.met.S.SnapshotStore.numbered c.complete-outcome.new.store) c.complete-outcome.result c.complete-outcome.ensures.ends).0)

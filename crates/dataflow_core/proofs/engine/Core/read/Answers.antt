@@ -2,6 +2,7 @@ use Rattle.std.proofs.Common.{refl}
 use Rattle.core_model.proofs.CallReads.{keeps_read}
 use Rattle.dataflow_core.proofs.Plain.{read_is_plain}
 use Rattle.dataflow_core.proofs.Serving.{partitions_there}
+use Rattle.core_model.proofs.Sounds.{keeps_as_fresh, sound_as_fresh}
 use Rattle.dataflow_core.proofs.engine.Core.read.Goals as goal
 
 pub read_next-outcome-requires-clause-partitions : goal.read_next-outcome-requires-clause-partitions
@@ -26,3 +27,8 @@ pub returns-clause-ends : goal.returns-clause-ends
 returns-clause-ends g c =
     rw (← c.self.view_is, c.in-Some.is, c.read_next-outcome.ensures.same, c.leave.ensures.left, c.leave.ensures.answer)
     (c.read_next-outcome.new.attempt, c.read_next-outcome.ensures.ends, refl)
+
+pub returns-clause-sound : goal.returns-clause-sound
+returns-clause-sound g c =
+    rw (← c.self.view_is, c.read_next-outcome.ensures.same, c.leave.ensures.left)
+    (λ sound. sound_as_fresh _ _ _ _ (keeps_read _ _ _ _ c.in-Some.attempt c.read_next-outcome.new.attempt _ c.args.task (keeps_as_fresh _ _ _ _ c.self.invariant sound) c.in-Some.is c.read_next-outcome.result c.read_next-outcome.ensures.fits c.read_next-outcome.ensures.ends).0)

@@ -1,11 +1,9 @@
 use Rattle.std.proofs.Common.{◌<◌, sym, subst, ◌∙◌}
 use Rattle.abs_codec.specs.Spelling.{Fits}
 use Rattle.core_calls.proofs.Numbers.{sink_within}
-use Rattle.core_model.proofs.CallRestarts.{keeps_restart, restart_withdraws}
+use Rattle.core_model.proofs.CallRestarts.{restart_withdraws}
 use Rattle.core_model.specs.RestartLaws.{OperatorsAreLawful}
-use Rattle.core_model.proofs.RestartParts.{never_bad}
-use Rattle.core_model.proofs.RestartSteps.{restart_goes}
-use Rattle.dataflow_core.proofs.Raising.{none_is, raised_by, number_bad, cut_by}
+use Rattle.dataflow_core.proofs.Raising.{none_is, raised_by, number_bad, restart_kept, restart_sound, restart_goes_on, cut_by, not_bad}
 use Rattle.dataflow_core.proofs.engine.Core.restart.Goals as goal
 
 pub restarted-outcome-requires : goal.restarted-outcome-requires
@@ -18,15 +16,21 @@ invariant_of-self g c =
     let down = none_is c.self.inside.attempt (sym c.is_some.ensures ∙ c.if-is_some.false) in
     let ledger = g.X.Transactions.state c.restarted-outcome.new.transactions in
     rw (c.restarted-outcome.ensures.same, c.raise.ensures.holds, raised_by c.restarted-outcome.result c.self.inside.attempt down)
-    (keeps_restart _ (Fits g.O.Key.Codec.HasSpelling g.O.Key.Codec.spelling) _ _ _ c.self.invariant ledger _ c.restarted-outcome.result (rw (← c.deref.ensures.value) c.restarted-outcome.ensures.ends)
-    (λ fresh. restart_goes _ (Fits g.O.Key.Codec.HasSpelling g.O.Key.Codec.spelling) _ _ _ c.self.invariant down fresh ledger 0 c.restarted-outcome.result (rw (← c.deref.ensures.value) c.restarted-outcome.ensures.ends)))
+    (restart_kept _ (Fits g.O.Key.Codec.HasSpelling g.O.Key.Codec.spelling) _ _ _ c.self.invariant down ledger _ _ c.restarted-outcome.result (rw (← c.deref.ensures.value) c.restarted-outcome.ensures.ends))
+
+pub returns-clause-sound : goal.returns-clause-sound
+returns-clause-sound g c =
+    let down = none_is c.self.inside.attempt (sym c.is_some.ensures ∙ c.if-is_some.false) in
+    let ledger = g.X.Transactions.state c.restarted-outcome.new.transactions in
+    rw (← c.self.view_is, c.restarted-outcome.ensures.same, c.raise.ensures.holds, raised_by c.restarted-outcome.result c.self.inside.attempt down)
+    (λ sound. restart_sound _ (Fits g.O.Key.Codec.HasSpelling g.O.Key.Codec.spelling) _ _ _ c.self.invariant down ledger _ _ sound c.restarted-outcome.result (rw (← c.deref.ensures.value) c.restarted-outcome.ensures.ends))
 
 pub returns-clause-goes : goal.returns-clause-goes
 returns-clause-goes g c =
     let down = none_is c.self.inside.attempt (sym c.is_some.ensures ∙ c.if-is_some.false) in
     let ledger = g.X.Transactions.state c.restarted-outcome.new.transactions in
     rw (← c.self.view_is, c.restarted-outcome.ensures.same, c.raise.ensures.holds, raised_by c.restarted-outcome.result c.self.inside.attempt down)
-    (λ fresh. restart_goes _ (Fits g.O.Key.Codec.HasSpelling g.O.Key.Codec.spelling) _ _ _ c.self.invariant down fresh ledger 0 c.restarted-outcome.result (rw (← c.deref.ensures.value) c.restarted-outcome.ensures.ends))
+    (λ sound. restart_goes_on _ (Fits g.O.Key.Codec.HasSpelling g.O.Key.Codec.spelling) _ _ _ c.self.invariant down ledger 0 0 sound c.restarted-outcome.result (rw (← c.deref.ensures.value) c.restarted-outcome.ensures.ends))
 
 pub returns-clause-begins : goal.returns-clause-begins
 returns-clause-begins g c = λ subtask.
@@ -38,7 +42,7 @@ returns-clause-cut g c =
     let down = none_is c.self.inside.attempt (sym c.is_some.ensures ∙ c.if-is_some.false) in
     let ledger = g.X.Transactions.state c.restarted-outcome.new.transactions in
     rw (← c.self.view_is, c.restarted-outcome.ensures.same, c.raise.ensures.number, c.raise.ensures.holds, raised_by c.restarted-outcome.result c.self.inside.attempt down)
-    (λ fresh. cut_by _ (Fits g.O.Key.Codec.HasSpelling g.O.Key.Codec.spelling) _ _ _ c.self.invariant down fresh ledger _ c.restarted-outcome.result (rw (← c.deref.ensures.value) c.restarted-outcome.ensures.ends))
+    (λ sound. cut_by _ (Fits g.O.Key.Codec.HasSpelling g.O.Key.Codec.spelling) _ _ _ c.self.invariant down ledger _ _ sound c.restarted-outcome.result (rw (← c.deref.ensures.value) c.restarted-outcome.ensures.ends))
 
 pub returns-clause-good : goal.returns-clause-good
 returns-clause-good g c =
@@ -48,5 +52,5 @@ returns-clause-good g c =
     let laws : OperatorsAreLawful g.O.Operator.meaning g.O.Key.Ord.cmp (Fits g.O.Record.Codec.HasSpelling g.O.Record.Codec.spelling) (Fits g.O.Key.Codec.HasSpelling g.O.Key.Codec.spelling) (Fits g.O.State.Codec.HasSpelling g.O.State.Codec.spelling) g.O.Operator.Suits =
     record { same_key = o.same_key; exact = o.key_is_exact; keys = o.key_fits; fresh = o.fresh_is_good; states = o.state_stays_good; sent = o.sent_fits } in
     rw (← c.self.view_is, c.raise.ensures.number)
-    (λ fresh fit. number_bad c.restarted-outcome.result
-    (never_bad _ _ (Fits g.O.Key.Codec.HasSpelling g.O.Key.Codec.spelling) (Fits g.O.State.Codec.HasSpelling g.O.State.Codec.spelling) g.O.Operator.Suits _ c.self.invariant down fresh laws fit ledger c.restarted-outcome.result (rw (← c.deref.ensures.value) c.restarted-outcome.ensures.ends)))
+    (λ sound fit. number_bad c.restarted-outcome.result
+    (not_bad _ _ (Fits g.O.Key.Codec.HasSpelling g.O.Key.Codec.spelling) (Fits g.O.State.Codec.HasSpelling g.O.State.Codec.spelling) g.O.Operator.Suits _ c.self.invariant down sound laws fit ledger c.restarted-outcome.result (rw (← c.deref.ensures.value) c.restarted-outcome.ensures.ends)))

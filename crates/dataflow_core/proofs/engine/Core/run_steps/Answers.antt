@@ -1,15 +1,15 @@
 use Rattle.std.proofs.Common.{rules, ◌<◌, slice_get, length, take, ap, ◌∙◌, arith}
 use Rattle.std.proofs.lemmas.List.{take_more}
 use Rattle.job_graph.specs.Expanded.{Expanded}
-use Rattle.core_model.proofs.CallExact.{keeps_exact}
+use Rattle.dataflow_core.proofs.Raising.{sound_exact}
 use Rattle.dataflow_core.proofs.StepRuns.{begins_on, run_more}
 use Rattle.dataflow_core.proofs.engine.Core.run_steps.Goals as goal
 
 pub returns-then-is_err-clause-exact : goal.returns-then-is_err-clause-exact
-returns-then-is_err-clause-exact g c = rw (← c.self.view_is) (λ fresh. keeps_exact _ _ _ _ c.self.invariant fresh)
+returns-then-is_err-clause-exact g c = rw (← c.self.view_is) (λ sound. sound_exact _ _ _ _ c.self.invariant sound)
 
 pub returns-clause-exact : goal.returns-clause-exact
-returns-clause-exact g c = rw (← c.self-2.view_is) (λ fresh. keeps_exact _ _ _ _ c.self-2.invariant fresh)
+returns-clause-exact g c = rw (← c.self-2.view_is) (λ sound. sound_exact _ _ _ _ c.self-2.invariant (rw (c.self-2.view_is) (c.loop-step.invariant.sound sound)))
 
 -- the replies so far, and one more
 pub loop-step-preserved : goal.loop-step-preserved
@@ -17,11 +17,12 @@ loop-step-preserved g c =
     let within : c.loop-step.step-index < length c.args.steps.now = omega arith in
     record {
       run = rw (take_more c.args.steps.now c.loop-step.step-index c.step-item.result within, ← c.step-item.is, c.push_reserved.ensures.items)
-          (run_more _ _ _ _ (take c.loop-step.step-index c.args.steps.now) c.loop-step.replies.items c.args.self.now c.loop-step.self c.step-reply.new.self _ c.step-reply.result c.loop-step.invariant.run c.step-reply.ensures.ends);
+          (run_more _ _ _ _ _ (take c.loop-step.step-index c.args.steps.now) c.loop-step.replies.items c.args.self.now c.loop-step.self c.step-reply.new.self _ c.step-reply.result c.loop-step.invariant.run c.step-reply.ensures.ends);
       count = search rules;
       room = search rules;
       graph = c.step-reply.ensures.same.0 ∙ c.loop-step.invariant.graph;
       fresh = c.step-reply.ensures.same.1 ∙ c.loop-step.invariant.fresh;
+      sound = λ sound. c.step-reply.ensures.sound (c.loop-step.invariant.sound sound);
       begins = λ task subtask at.
           begins_on _ _ _ (c.loop-step.invariant.begins task subtask at) (c.step-reply.ensures.begins task subtask (ap (λ (graph : Expanded). slice_get graph.tasks task) c.loop-step.invariant.graph ∙ at));
     }

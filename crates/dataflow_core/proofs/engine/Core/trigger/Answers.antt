@@ -1,5 +1,6 @@
 use Rattle.core_model.proofs.CallTriggers.{keeps_trigger}
 use Rattle.dataflow_core.proofs.Plain.{trigger_stays}
+use Rattle.core_model.proofs.Sounds.{keeps_as_fresh, sound_as_fresh}
 use Rattle.dataflow_core.proofs.engine.Core.trigger.Goals as goal
 
 pub invariant_of-self-2 : goal.invariant_of-self-2
@@ -16,3 +17,8 @@ pub returns-clause-stays : goal.returns-clause-stays
 returns-clause-stays g c =
     rw (← c.self.view_is, c.leave.ensures.left)
     (trigger_stays _ _ _ _ c.self.invariant c.in-Some.attempt c.trigger-outcome.new.attempt c.in-Some.is (g.S.SnapshotStore.state c.trigger-outcome.new.store) c.trigger-outcome.result c.trigger-outcome.ensures.ends)
+
+pub returns-clause-sound : goal.returns-clause-sound
+returns-clause-sound g c =
+    rw (← c.self.view_is, c.leave.ensures.left)
+    (λ sound. sound_as_fresh _ _ _ _ (keeps_trigger _ _ _ _ (keeps_as_fresh _ _ _ _ c.self.invariant sound) c.in-Some.attempt c.in-Some.is c.trigger-outcome.new.attempt (g.S.SnapshotStore.state c.trigger-outcome.new.store) _ (g.met.S.SnapshotStore.numbered c.trigger-outcome.new.store) c.trigger-outcome.result c.trigger-outcome.ensures.ends).0)
