@@ -41,7 +41,7 @@ const RUNS: [Run; 5] = [
     Run {
         job: LOOP,
         rows: &[(0, "x", 2), (0, "y", 1)],
-        steps: "read 0; work 1 0; read 0; trigger; inject 0; work 1 0; barrier 1 0; work 1 1; work 1 1; barrier 1 1; work 1 1; barrier 2 0; work 2 0; work 2 0; persist 0; persist 1; persist 2; complete; work 1 1",
+        steps: "read 0; work 1 0; read 0; trigger; inject 0; work 1 0; barrier 1 0; work 1 1; work 1 1; barrier 1 1; work 1 1; barrier 2 0; work 2 0; work 2 0; persist 0; persist 1; persist 2; complete",
     },
     Run {
         job: TWO_SINKS,
@@ -147,7 +147,7 @@ fn tasks(alloc: Global, graph: &Graph, operators: &[RowOp]) -> Result<Vec<Task<R
         let task = match graph.role(task) {
             Some(Role::Source(partition)) => Task::Source(partition as usize),
             Some(Role::Operator(number)) => match operators.get(number as usize) {
-                Some(operator) => Task::Operator(operator.copy(alloc)?),
+                Some(operator) => Task::Operator(operator.copy()?),
                 None => return Err(Fail::new("an operator is not there")),
             },
             Some(Role::Sink(_)) => Task::Sink,

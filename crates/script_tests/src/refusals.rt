@@ -79,14 +79,6 @@ const REFUSED: [(&str, &str); 20] = [
         r#"{"job":JOIN,"partitions":[[]],"steps":["trigger "]}"#,
         "step 0: bad step\n",
     ),
-    (
-        r#"{"job":JOIN,"partitions":[[]],"steps":[]}"#,
-        "script: not served yet\n",
-    ),
-    (
-        r#"{"job":LOOP,"partitions":[[]],"steps":[]}"#,
-        "script: not served yet\n",
-    ),
 ];
 
 #[test]
