@@ -1,7 +1,8 @@
 //! A job restarts: the parts of its last complete checkpoint say what its tasks start from, and the transactions are settled.
 //!
 //! All parts are read and judged before any transaction is touched. Then each sink's transactions are settled: those that its part names are
-//! committed, the oldest first; every other that is neither committed nor aborted is aborted; and a new one is opened.
+//! committed, the oldest first; every other that is neither committed nor aborted is aborted; and a new one is opened. The attempt begins with the
+//! parts' logs in the back-edges.
 #![tactic(auto)]
 
 mod fault;
