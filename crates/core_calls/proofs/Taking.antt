@@ -4,7 +4,7 @@ use Rattle.std.proofs.lemmas.Option.{slice_get_within}
 use Rattle.alignment.specs.Table.{Alignment}
 use Rattle.alignment.specs.declared.input.Phase.TheVariants.{AtRest}
 use Rattle.job_graph.specs.Expanded.{Expanded}
-use Rattle.job_state.specs.Held.{Held, gate_at, log_with}
+use Rattle.job_state.specs.Held.{Held, log_with}
 use Rattle.core_model.specs.Calls.{input_at, IsBarrierNext}
 use Rattle.core_model.specs.Keeps.{GateFits}
 use Rattle.core_model.proofs.CallTasks.{LeadsTo, input_leads}
