@@ -18,7 +18,7 @@ const LOOP: &str =
     r#"{"vertices":[{"name":"s","kind":"source"},{"name":"d","kind":"loop_down"}],"edges":[{"from":"s","to":"d"},{"from":"d","to":"d","port":1,"back":true}]}"#;
 
 /// Each has the faults of those after it too, where that can be.
-const REFUSED: [(&str, &str); 20] = [
+const REFUSED: [(&str, &str); 18] = [
     ("{", "script: not JSON\n"),
     ("\u{feff}{}", "script: not JSON\n"),
     ("[]", "script: bad field\n"),
