@@ -101,7 +101,7 @@ fn copy_sink<O: Operator, X: Transactions>(
     ensures counted { result ≡ Err CoreFault.Device → X.fault_count transactions.old < X.fault_count transactions.new }
 {
     let Some(Holding::Sink(sink)) = attempt.holding(task) else {
-        return Err(CoreFault::Memory);
+        return Err(CoreFault::NotReady);
     };
     let open = sink.open();
     let names = sink.names()?;
