@@ -1,3 +1,4 @@
+use Rattle.std.proofs.Common.{refl}
 use Rattle.task_part.specs.Spelling.{part_spelling}
 use Rattle.core_model.proofs.CallPersists.{keeps_persist}
 use Rattle.dataflow_core.proofs.Plain.{persist_stays}
@@ -23,3 +24,8 @@ pub returns-clause-sound : goal.returns-clause-sound
 returns-clause-sound g c =
     rw (← c.self.view_is, c.leave.ensures.left)
     (λ sound. sound_as_fresh _ _ _ _ (keeps_persist _ _ _ _ (keeps_as_fresh _ _ _ _ c.self.invariant sound) c.in-Some.attempt c.in-Some.is c.args.task c.persist-outcome.new.attempt (g.S.SnapshotStore.state c.persist-outcome.new.store) _ (part_spelling g.O.Record.Codec.spelling g.O.Key.Codec.spelling g.O.State.Codec.spelling) (g.met.S.SnapshotStore.numbered c.persist-outcome.new.store) c.persist-outcome.result c.persist-outcome.ensures.readable c.persist-outcome.ensures.ends).0)
+
+pub returns-clause-ends : goal.returns-clause-ends
+returns-clause-ends g c =
+    rw (← c.self.view_is, c.in-Some.is, c.leave.ensures.left, c.leave.ensures.answer)
+    (c.persist-outcome.new.attempt, c.persist-outcome.ensures.ends, refl)

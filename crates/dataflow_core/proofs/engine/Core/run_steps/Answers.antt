@@ -1,6 +1,9 @@
 use Rattle.std.proofs.Common.{rules, ◌<◌, slice_get, length, take, ap, ◌∙◌, arith}
 use Rattle.std.proofs.lemmas.List.{take_more}
+use Rattle.abs_codec.specs.Spelling.{Fits}
 use Rattle.job_graph.specs.Expanded.{Expanded}
+use Rattle.operators.specs.Operator.{IsGoodState}
+use Rattle.task_part.specs.Spelling.{part_spelling}
 use Rattle.dataflow_core.proofs.Raising.{sound_exact}
 use Rattle.dataflow_core.proofs.StepRuns.{begins_on, run_more}
 use Rattle.dataflow_core.proofs.engine.Core.run_steps.Goals as goal
@@ -17,7 +20,7 @@ loop-step-preserved g c =
     let within : c.loop-step.step-index < length c.args.steps.now = omega arith in
     record {
       run = rw (take_more c.args.steps.now c.loop-step.step-index c.step-item.result within, ← c.step-item.is, c.push_reserved.ensures.items)
-          (run_more _ _ _ _ _ (take c.loop-step.step-index c.args.steps.now) c.loop-step.replies.items c.args.self.now c.loop-step.self c.step-reply.new.self _ c.step-reply.result c.loop-step.invariant.run c.step-reply.ensures.ends);
+          (run_more _ (Fits g.O.Key.Codec.HasSpelling g.O.Key.Codec.spelling) (Fits g.O.Record.Codec.HasSpelling g.O.Record.Codec.spelling) (IsGoodState (Fits g.O.State.Codec.HasSpelling g.O.State.Codec.spelling) g.O.Operator.Suits) (part_spelling g.O.Record.Codec.spelling g.O.Key.Codec.spelling g.O.State.Codec.spelling) (take c.loop-step.step-index c.args.steps.now) c.loop-step.replies.items c.args.self.now c.loop-step.self c.step-reply.new.self _ c.step-reply.result c.loop-step.invariant.run c.step-reply.ensures.ends);
       count = search rules;
       room = search rules;
       graph = c.step-reply.ensures.same.0 ∙ c.loop-step.invariant.graph;
