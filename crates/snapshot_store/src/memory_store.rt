@@ -12,10 +12,11 @@ ghost use Rattle.snapshot_store.specs.MemoryLaws.{memory_numbered, IsGreatest-pr
 
 use crate::flaky_store::FaultlessStore;
 use crate::store::{SnapshotStore, StoreFault};
+use abs_codec::Bytes;
 use std::alloc::{AllocError, Global};
 use std::collections::BTreeMap;
 
-type Parts = BTreeMap<(u64, u32), Vec<u8>>;
+type Parts = BTreeMap<(u64, u32), Bytes>;
 
 type Numbers = BTreeMap<u64, bool>;
 
@@ -106,8 +107,8 @@ fn mark_complete(numbers: &mut Numbers, number: u64)
     }
 }
 
-fn keep_part(parts: &mut Parts, number: u64, task: u32, part: Vec<u8>) -> Result<(), AllocError>
-    ensures ok { OnOk result (parts_of parts.new.entries ≡ fin.insert (parts_of parts.old.entries) (number, task) part.items) }
+fn keep_part(parts: &mut Parts, number: u64, task: u32, part: Bytes) -> Result<(), AllocError>
+    ensures ok { OnOk result (parts_of parts.new.entries ≡ fin.insert (parts_of parts.old.entries) (number, task) part) }
     ensures err { OnErr result (parts_of parts.new.entries ≡ parts_of parts.old.entries) }
 {
     parts.insert((number, task), part)?;
@@ -196,7 +197,7 @@ impl SnapshotStore for MemoryStore {
         if has_part(&self.parts, number, task) {
             return Err(StoreFault::AlreadyPut);
         }
-        let part = bytes.to_vec(self.alloc)?;
+        let part = Bytes::from_slice(self.alloc, bytes)?;
         note_number(&mut self.numbers, number)?;
         keep_part(&mut self.parts, number, task, part)?;
         Ok(())
