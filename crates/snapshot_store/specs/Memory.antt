@@ -1,5 +1,5 @@
 -- What a store in memory keeps, and what it stands for.
-use Rattle.std.specs.Prelude.{◌<◌, ◌≤◌, ◌^◌, ℕ, Bool, false, List, map, Option, Some, None, IsSome}
+use Rattle.std.specs.Prelude.{◌<◌, ◌≤◌, ◌^◌, ℕ, Bool, false, List, filter, map, Option, Some, None, IsSome}
 use Rattle.std.specs.Ordering.{nat_cmp}
 use Rattle.std.specs.Map.{lookup}
 use Rattle.std.specs.BTreeMap.{is_at}
@@ -35,3 +35,7 @@ pub record IsKept (tasks next : ℕ) (parts : List ((ℕ × ℕ) × List ℕ)) (
 
 abbrev pub memory_state : ℕ → ℕ → List ((ℕ × ℕ) × List ℕ) → List (ℕ × Bool) → Stored
 memory_state tasks next parts numbers = record { tasks = tasks; next = next; parts = parts_of parts; complete = complete_of numbers }
+
+-- the numbers that are marked complete, in the order of the list
+abbrev pub marked_keys : List (ℕ × Bool) → List ℕ
+marked_keys es = map (λ (e : ℕ × Bool). e.0) (filter (λ (e : ℕ × Bool). e.1) es)

@@ -58,7 +58,7 @@ then_equal Less s e = absurd (cc e)
 then_equal Equal s e = (refl, e)
 then_equal Greater s e = absurd (cc e)
 
-key_same : (a b : ℕ × ℕ) → key_cmp a b ≡ Equal → a ≡ b
+pub key_same : (a b : ℕ × ℕ) → key_cmp a b ≡ Equal → a ≡ b
 key_same a b e =
     let both : (nat_cmp a.0 b.0 ≡ Equal) × (nat_cmp a.1 b.1 ≡ Equal) = then_equal (nat_cmp a.0 b.0) (nat_cmp a.1 b.1) e in
     λ i. (set.nat_cmp-IsAntisymmetric a.0 b.0 both.0 i, set.nat_cmp-IsAntisymmetric a.1 b.1 both.1 i)
@@ -146,7 +146,7 @@ parts_of-filter es p = fin.same_map key_cmp_total key_same (parts_of (filter (λ
     is_equal Equal e = refl
     is_equal Greater e = absurd (cc e)
 
-no_number : (n : ℕ) → IsSome (entry_of [] n) → ⊥
+pub no_number : (n : ℕ) → IsSome (entry_of [] n) → ⊥
 no_number n there = cc there
 
 no_part : (n t : ℕ) → IsSome (fin.get (parts_of []) (n, t)) → ⊥
@@ -168,7 +168,7 @@ no_parts parts none = fin.same_map key_cmp_total key_same (parts_of parts) fin.e
     nothing q None e = refl
     nothing q (Some v) e = absurd (none q.0 q.1 (ap is_some e))
 
-no_complete : (numbers : List (ℕ × Bool)) → ((n : ℕ) → IsSome (entry_of numbers n) → ⊥) → complete_of numbers ≡ set.empty
+pub no_complete : (numbers : List (ℕ × Bool)) → ((n : ℕ) → IsSome (entry_of numbers n) → ⊥) → complete_of numbers ≡ set.empty
 no_complete numbers none = set.same_set nat_cmp_total set.nat_cmp-IsAntisymmetric (complete_of numbers) set.empty (λ q.
     contains-complete_of numbers q ∙ nothing q (entry_of numbers q) refl ∙ sym (set.contains-empty nat_cmp q))
   where

@@ -16,23 +16,23 @@ use abs_codec::Bytes;
 use std::alloc::{AllocError, Global};
 use std::collections::BTreeMap;
 
-type Parts = BTreeMap<(u64, u32), Bytes>;
+pub(crate) type Parts = BTreeMap<(u64, u32), Bytes>;
 
-type Numbers = BTreeMap<u64, bool>;
+pub(crate) type Numbers = BTreeMap<u64, bool>;
 
 /// No number is given out from here on.
 const NUMBERS_END: u64 = 1 << 63;
 
 #[derive(Drop)]
 pub struct MemoryStore {
-    alloc: Global,
-    tasks: u32,
-    next: u64,
-    parts: Parts,
+    pub(crate) alloc: Global,
+    pub(crate) tasks: u32,
+    pub(crate) next: u64,
+    pub(crate) parts: Parts,
     /// The numbers that have had a part, and whether each is complete. So there is room for a number before it is complete.
-    numbers: Numbers,
+    pub(crate) numbers: Numbers,
     /// The greatest complete number.
-    latest: Option<u64>,
+    pub(crate) latest: Option<u64>,
     ghost greatest: { IsGreatest (complete_of numbers.entries) latest } by { IsGreatest-prop (complete_of numbers.entries) latest },
     ghost kept: { IsKept tasks next parts.entries numbers.entries } by { Prim.hlevel props },
 }
@@ -83,7 +83,7 @@ fn newer(latest: Option<u64>, number: u64) -> u64
 }
 
 /// Makes room for a number.
-fn note_number(numbers: &mut Numbers, number: u64) -> Result<(), AllocError>
+pub(crate) fn note_number(numbers: &mut Numbers, number: u64) -> Result<(), AllocError>
     ensures same { complete_of numbers.new.entries ≡ complete_of numbers.old.entries }
     ensures there { OnOk result (IsSome (entry_of numbers.new.entries number)) }
     ensures keeps { (n : ℕ) → IsSome (entry_of numbers.old.entries n) → IsSome (entry_of numbers.new.entries n) }
@@ -148,13 +148,6 @@ impl MemoryStore {
             numbers: BTreeMap::new(alloc),
             latest: None,
         }
-    }
-
-    /// The number that is given out next.
-    pub fn next_number(&self) -> u64
-        ensures { result ≡ (⟦<MemoryStore as SnapshotStore>⟧.state self.now).next }
-    {
-        self.next
     }
 }
 
