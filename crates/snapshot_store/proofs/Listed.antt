@@ -1,6 +1,6 @@
 -- A map and a set are the lists that they were made from, where these rise; and what a store is that was made from lists.
-use Rattle.std.proofs.Common.{◌≡◌, ◌⊎◌, ◌<◌, ◌≤◌, ◌+◌, ◌-◌, ℕ, zero, suc, Bool, true, false, cond, List, [], ◌∷◌, ◌++◌, ◌^◌, map, length, take, get_or, Option, Some, None, refl, sym, ap, subst, ◌∙◌, arith, inl, inr, ⊎_elim}
-use Rattle.std.specs.Prelude.{filter, ◌&&◌, ◌||◌, IsSome, is_some, slice_get}
+use Rattle.std.proofs.Common.{◌≡◌, ◌<◌, ◌≤◌, ◌+◌, ◌-◌, ℕ, zero, suc, Bool, true, false, cond, List, [], ◌∷◌, ◌^◌, map, length, take, get_or, Some, None, refl, sym, ap, subst, ◌∙◌, arith, ⊎_elim}
+use Rattle.std.specs.Prelude.{filter, ◌&&◌, ◌||◌, IsSome, slice_get}
 use Rattle.std.specs.List.{All, Contains, list_any, AllByRecursion, range_with_len}
 use Rattle.std.proofs.Math.Bool.{and-false}
 use Rattle.std.proofs.lemmas.List.Kept.{IsStrictlySortedBy-filter}
@@ -18,7 +18,7 @@ use Rattle.std.specs.declared.cmp.Ordering.TheVariants.{Less, Equal, Greater}
 use Rattle.std.proofs.lemmas.Bool.{cases_lt}
 use Rattle.std.proofs.Math.Seq.{take-suc}
 use Rattle.std.proofs.lemmas.Map.Keys.{any_passes_from_place, below_from_sorted, sorted_from_strictly_increasing}
-use Rattle.std.proofs.lemmas.Map.Views.{Contains-from_any, exact_unsigned_eq}
+use Rattle.std.proofs.lemmas.Map.Views.{Contains-from_any}
 use Rattle.std.proofs.lemmas.List.Elements.{recursion_from_All}
 use Rattle.std.specs.FinMap.Entries.{by_order}
 use Rattle.std.specs.FinMap as fin
@@ -112,7 +112,7 @@ passing p n ks rises same below = same_rising (filter p (range_with_len 0 n)) ks
         let lt : q < n = below q e in
         let there : get_or (range_with_len 0 n) q 0 ≡ q = let f = get_or-range_with_len 0 n q 0 lt in omega (arith, f) in
         ap (λ b. b && p q) (any_passes_from_place (eq_by_cmp nat_cmp q) (range_with_len 0 n) q q
-            (slice_get-get_or (range_with_len 0 n) q 0 (subst (λ m. q < m) (sym (length-range_with_len 0 n)) lt) ∙ ap Some there) (ap is_eq (tied_itself nat_cmp_total q)))
+        (slice_get-get_or (range_with_len 0 n) q 0 (subst (λ m. q < m) (sym (length-range_with_len 0 n)) lt) ∙ ap Some there) (ap is_eq (tied_itself nat_cmp_total q)))
     one q false e = ap (λ b. list_any (eq_by_cmp nat_cmp q) (range_with_len 0 n) && b) e ∙ and-false (list_any (eq_by_cmp nat_cmp q) (range_with_len 0 n)) ∙ sym e
 
 -- the numbers so far are complete, after the next is marked

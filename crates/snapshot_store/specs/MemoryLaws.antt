@@ -1,7 +1,6 @@
 -- What a store in memory stands for, call by call.
 use Rattle.std.specs.Prelude.{◌≡◌, ◌<◌, ◌≤◌, ◌==◌, ◌&&◌, ◌||◌, ℕ, Bool, true, false, cond, List, [], ◌∷◌, map, Option, Some, None, IsSome, is_some, refl, not, nat_lt, Result, Ok, Err, OnOk, OnErr, ◌⊎◌}
 use Rattle.std.specs.Result.{is_err}
-use Rattle.std.specs.Option.{option_map}
 use Rattle.std.specs.List.{list_any}
 use Rattle.std.specs.Prelude.{filter}
 use Rattle.std.proofs.lemmas.Map.Entries.{lookup-filter-keys}

@@ -3,7 +3,6 @@ use Rattle.std.specs.Map.{lookup}
 use Rattle.std.specs.BTreeMap.{is_at}
 use Rattle.snapshot_store.specs.Store.{key_cmp}
 use Rattle.std.specs.Prelude.{IsSome}
-use Rattle.std.specs.List.{All}
 use Rattle.snapshot_store.specs.Lists.{WasGiven}
 use Rattle.snapshot_store.specs.Memory.{complete_of, entry_of}
 use Rattle.snapshot_store.proofs.lists.note_numbers.Given as goal

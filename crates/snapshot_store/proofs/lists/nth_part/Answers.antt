@@ -1,6 +1,5 @@
-use Rattle.std.proofs.Common.{ap, sym, ◌∙◌, ℕ, List, ◌∷◌, arith, Some}
+use Rattle.std.proofs.Common.{ap, sym, ◌∙◌, ℕ, List, Some}
 use Rattle.std.specs.Prelude.{slice_get}
-use Rattle.std.specs.BTreeMap as tree
 use Rattle.std.specs.Map.Iter.{deref_pair}
 use Rattle.std.proofs.lemmas.Map.Iter.{rest_more, rest_all}
 use Rattle.snapshot_store.specs.StoreLaws.{key_cmp_total}
