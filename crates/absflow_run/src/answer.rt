@@ -2,8 +2,8 @@
 
 use crate::opening::RowCore;
 use alignment::Effect;
-use dataflow_core::CoreFault;
-use script_file::Step;
+use dataflow_core::{CoreFault, DeviceCall};
+use script_file::{FaultCall, Step};
 use source_log::SourceFault;
 use std::fmt;
 
@@ -88,6 +88,14 @@ impl From<Result<(), SourceFault>> for Answer {
     }
 }
 
+fn device_call(call: FaultCall) -> DeviceCall {
+    match call {
+        FaultCall::Log(call) => DeviceCall::Log(call),
+        FaultCall::Store(call) => DeviceCall::Store(call),
+        FaultCall::Transactions(call) => DeviceCall::Transactions(call),
+    }
+}
+
 /// Makes a step.
 pub(crate) fn make_step(core: &mut RowCore, step: Step) -> Answer {
     match step {
@@ -102,5 +110,9 @@ pub(crate) fn make_step(core: &mut RowCore, step: Step) -> Answer {
         Step::Fail => core.fail().into(),
         Step::Restart => core.restart().into(),
         Step::Append(partition, row) => core.append(partition, row.into_row()).into(),
+        Step::Fault(call, when) => {
+            core.arm(device_call(call), when);
+            Answer::Accepted
+        }
     }
 }

@@ -4,17 +4,22 @@ ghost use Rattle.std.specs.Prelude.{◌≡◌, count_by, length};
 ghost use Rattle.job_graph.specs.Expanded.{is_source};
 
 use crate::refusal::Refusal;
-use commit_sink::MemoryTransactions;
+use commit_sink::{FlakyTransactions, MemoryTransactions};
 use dataflow_core::{Core, is_served};
 use job_graph::Graph;
 use job_spec::JobSpec;
 use operators::{Row, RowOp};
-use snapshot_store::MemoryStore;
-use source_log::{MemoryLog, Partitions};
+use snapshot_store::{FlakyStore, MemoryStore};
+use source_log::{FlakyLog, MemoryLog, Partitions};
 use std::alloc::Global;
 
-/// A core over rows, with its devices in memory.
-pub type RowCore = Core<RowOp, MemoryStore, MemoryTransactions, MemoryLog<Row>>;
+/// A core over rows, with its devices in memory, which fail where a script lets them.
+pub type RowCore = Core<
+    RowOp,
+    FlakyStore<MemoryStore>,
+    FlakyTransactions<MemoryTransactions>,
+    FlakyLog<MemoryLog<Row>>,
+>;
 
 /// A core of this job over new devices and this log. It is down. A job that no core serves is refused.
 pub(crate) fn open(
@@ -31,7 +36,8 @@ pub(crate) fn open(
     if !is_served(&graph) || tasks == 0 || operators.len() != graph.operators() as usize {
         return Err(Refusal::NotServed);
     }
-    let store = MemoryStore::new(alloc, tasks);
-    let transactions = MemoryTransactions::new(alloc, sinks);
+    let log = FlakyLog::new(log);
+    let store = FlakyStore::new(MemoryStore::new(alloc, tasks));
+    let transactions = FlakyTransactions::new(MemoryTransactions::new(alloc, sinks));
     Ok(Core::open(alloc, graph, operators, log, store, transactions))
 }

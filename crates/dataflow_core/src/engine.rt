@@ -53,9 +53,9 @@ pub struct Core<O: Operator, S: SnapshotStore, X: Transactions, P: Partitions<Re
     pub(crate) alloc: Global,
     graph: Graph,
     operators: Vec<O>,
-    log: P,
-    store: S,
-    transactions: X,
+    pub(crate) log: P,
+    pub(crate) store: S,
+    pub(crate) transactions: X,
     attempt: Option<Attempt<O>>,
     pub(crate) is_fresh: bool,
 }

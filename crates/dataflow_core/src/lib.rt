@@ -6,6 +6,7 @@
 #![tactic(auto)]
 
 mod engine;
+mod faults;
 mod rows;
 mod simple;
 mod steps;
@@ -13,5 +14,6 @@ mod tasks;
 
 pub use core_model::CoreFault;
 pub use engine::Core;
+pub use faults::DeviceCall;
 pub use simple::is_served;
 pub use steps::{Reply, Step};

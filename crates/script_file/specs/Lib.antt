@@ -1,4 +1,6 @@
 pub mod Faults
+pub mod Cuts
+pub mod Faulty
 pub mod JobFaults
 pub mod Json
 pub mod Numbers

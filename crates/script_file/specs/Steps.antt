@@ -1,29 +1,20 @@
 -- The steps of a script.
-use Rattle.std.specs.Prelude.{ℕ, ℤ, ◌==◌, List, [], length, nat_lt, Option, Some, None, unwrap_or, Result, Ok, Err, if◌then◌else◌, codes}
-use Rattle.std.specs.List.{before_first, after_first, position_or_len}
+use Rattle.std.specs.Prelude.{ℕ, ℤ, List, [], unwrap_or, Result, Ok, Err, if◌then◌else◌, codes}
 use Rattle.std.specs.Str.{bytes_eq}
 use Rattle.serde_json.specs.Data.{Data}
 use Rattle.serde_json.specs.Find.{as_str}
 use Rattle.script_file.specs.declared.step.Step.{Step}
-use Rattle.script_file.specs.declared.step.Step.TheVariants.{Read, Work, Barrier, Trigger, Inject, Persist, Complete, Commit, Fail, Restart, Append}
+use Rattle.script_file.specs.declared.step.Step.TheVariants.{Read, Work, Barrier, Trigger, Inject, Persist, Complete, Commit, Fail, Restart, Append, Fault}
 use Rattle.script_file.specs.declared.fault.ItemFault.{ItemFault}
 use Rattle.script_file.specs.declared.fault.ItemFault.TheVariants as one
 use Rattle.script_file.specs.declared.fault.ScriptFault.{ScriptFault}
 use Rattle.script_file.specs.declared.fault.ScriptFault.TheVariants as whole
 use Rattle.operators.specs.declared.row.Row.{Row}
-use Rattle.script_file.specs.Faults.{◌>>=◌, or_fault}
+use Rattle.script_file.specs.Cuts.{cut, bad}
+use Rattle.script_file.specs.Faults.{◌>>=◌}
+use Rattle.script_file.specs.Faulty.{fault_of}
 use Rattle.script_file.specs.Rows.{row_with}
 use Rattle.script_file.specs.Numbers.{number_of, signed_number_of}
-
--- what stands before the first space and after it
-unfoldable pub cut : List ℕ → Option (List ℕ × List ℕ)
-cut text =
-    if nat_lt (position_or_len (λ b. b == 32) text) (length text) then Some (before_first (λ b. b == 32) text, after_first (λ b. b == 32) text)
-    else None
-
--- the value, or a bad step where there is none
-abbrev pub bad : {A : Type 0} → Option A → Result A ItemFault
-bad o = or_fault one.Bad o
 
 abbrev pub number_of_text : List ℕ → Result ℕ ItemFault
 number_of_text text = bad (number_of text)
@@ -68,7 +59,8 @@ step_with word rest =
     else (if bytes_eq word (codes "persist") then one_number Persist rest
     else (if bytes_eq word (codes "commit") then one_number Commit rest
     else (if bytes_eq word (codes "append") then (appended rest >>= λ a. Ok (Append a.0 a.1))
-    else Err one.Bad))))))
+    else (if bytes_eq word (codes "fault") then (fault_of rest >>= λ f. Ok (Fault f.0 f.1))
+    else Err one.Bad)))))))
 
 -- the step that a text is
 unfoldable pub step_of : List ℕ → Result Step ItemFault

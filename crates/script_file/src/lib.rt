@@ -7,6 +7,7 @@
 
 mod contents;
 mod fault;
+mod faulty;
 mod members;
 mod number;
 mod outline;
@@ -16,6 +17,7 @@ mod step;
 
 pub use contents::{Contents, contents_of};
 pub use fault::{ItemFault, ScriptFault};
+pub use faulty::FaultCall;
 pub use outline::{Outline, json_value, outline_of};
 pub use rows::{FittingRow, partitions, read_row};
 pub use script::Script;

@@ -2,13 +2,16 @@
 
 ghost use Rattle.std.specs.Prelude.{◌≡◌, []};
 ghost use Rattle.script_file.specs.Faults.{FindsItem, Gives};
-ghost use Rattle.script_file.specs.Steps.{bad, cut, number_of_text, signed_of_text, one_number, two_numbers, appended, step_with, step_of, step_at};
+ghost use Rattle.script_file.specs.Cuts.{bad, cut};
+ghost use Rattle.script_file.specs.Steps.{number_of_text, signed_of_text, one_number, two_numbers, appended, step_with, step_of, step_at};
 ghost use Rattle.script_file.specs.Lists.{each_after};
 ghost use Rattle.serde_json.specs.View.{view, items_view};
 
 use crate::fault::{ItemFault, ScriptFault};
+use crate::faulty::{FaultCall, fault};
 use crate::number::{number, signed_number};
 use crate::rows::{FittingRow, fitting_row};
+use fault_plan::When;
 use serde_json::Value;
 use std::alloc::Global;
 
@@ -37,10 +40,12 @@ pub enum Step {
     Restart,
     /// `append P V KEY`: the row is put last into the partition.
     Append(u32, FittingRow),
+    /// `fault CALL WHEN`: the next call of the device fails, before its work or after it.
+    Fault(FaultCall, When),
 }
 
 /// What stands before the first space and after it.
-fn cut(text: &str) -> Result<(&str, &str), ItemFault>
+pub(crate) fn cut(text: &str) -> Result<(&str, &str), ItemFault>
     ensures { FindsItem (λ p. (p.0.now, p.1.now)) result (bad (cut text.now)) }
 {
     text.split_once(' ').ok_or(ItemFault::Bad)
@@ -96,6 +101,10 @@ fn step_with(alloc: Global, word: &str, rest: &str) -> Result<Step, ItemFault>
         "append" => {
             let (partition, row) = appended(alloc, rest)?;
             Ok(Step::Append(partition, row))
+        }
+        "fault" => {
+            let (call, when) = fault(rest)?;
+            Ok(Step::Fault(call, when))
         }
         _ => Err(ItemFault::Bad),
     }

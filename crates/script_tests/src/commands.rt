@@ -20,6 +20,10 @@ pub(crate) const SUM: &str =
 pub(crate) const FORK: &str =
     r#"{"vertices":[{"name":"s","kind":"source"},{"name":"f","kind":"add","n":0,"parallelism":2},{"name":"g","kind":"add","n":0,"parallelism":2},{"name":"o","kind":"sink","parallelism":2}],"edges":[{"from":"s","to":"f","route":"hash"},{"from":"s","to":"g","route":"broadcast"},{"from":"f","to":"o"}]}"#;
 
+/// A source that sends each record to both of two sinks: tasks 0, 1 and 2.
+pub(crate) const TWO_SINKS: &str =
+    r#"{"vertices":[{"name":"s","kind":"source"},{"name":"A","kind":"sink"},{"name":"B","kind":"sink"}],"edges":[{"from":"s","to":"A"},{"from":"s","to":"B"}]}"#;
+
 /// What a command is to come to.
 #[derive(Clone, Copy)]
 pub(crate) struct Wanted<'a> {
@@ -55,6 +59,17 @@ pub(crate) fn script_text(
 ) -> Result<String, AllocError> {
     let steps = steps.replace(alloc, "; ", "\",\"")?;
     format!(in alloc; "{{\"job\":{job},\"partitions\":[{partitions}],\"steps\":[\"{steps}\"]}}")
+}
+
+/// What a script writes: these answers, parted by `; ` and numbered from 0, then these lines.
+pub(crate) fn answers_then(alloc: Global, answers: &str, rows: &str) -> Result<String, AllocError> {
+    let mut out = String::new(alloc);
+    for (number, answer) in answers.split("; ").enumerate() {
+        let line = format!(in alloc; "{number} {answer}\n")?;
+        out.push_str(&line)?;
+    }
+    out.push_str(rows)?;
+    Ok(out)
 }
 
 /// Asserts that the script comes to what is wanted.

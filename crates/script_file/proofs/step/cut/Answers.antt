@@ -2,7 +2,7 @@ use Rattle.std.proofs.Common.{◌≡◌, ◌==◌, ◌<◌, ℕ, List, Bor, Opti
 use Rattle.std.specs.List.{position_or_len, before_first, after_first}
 use Rattle.std.proofs.lemmas.Bool.{lt-ltb, le-ltb}
 use Rattle.script_file.specs.declared.fault.ItemFault.TheVariants as one
-use Rattle.script_file.specs.Steps.{bad, cut}
+use Rattle.script_file.specs.Cuts.{bad, cut}
 use Rattle.script_file.specs.Faults.{FindsItem}
 use Rattle.script_file.proofs.step.cut.Goals as goal
 
