@@ -7,3 +7,4 @@ pub mod Committed
 pub mod Begun
 pub mod Ready
 pub mod Unsettled
+pub mod Listed

@@ -1,5 +1,6 @@
 pub mod Ledger
 pub mod Roomy
+pub mod Lists
 pub mod Shares
 pub mod Ends
 pub mod Sink

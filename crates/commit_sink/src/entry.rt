@@ -4,13 +4,13 @@ ghost use Rattle.std.specs.Prelude.{◌≡◌, ◌<◌, ◌+◌, [], ◌∷◌, 
 ghost use Rattle.commit_sink.specs.Ledger.{Transaction};
 
 use crate::transactions::{Progress, TransactionFault};
-use abs_codec::Bytes;
+use abs_codec::{Bytes, Items};
 use std::alloc::Global;
 use std::marker::Model;
 
 /// A transaction.
 #[derive(Drop)]
-pub(crate) struct Entry {
+pub struct Entry {
     subtask: u32,
     progress: Progress,
     records: Vec<Bytes>,
@@ -33,6 +33,29 @@ impl Entry {
             progress: Progress::Open,
             records: Vec::new(alloc),
         }
+    }
+
+    /// The transaction of a subtask that has come so far, with its records, which are not copied.
+    pub fn of(subtask: u32, progress: Progress, records: Items<Bytes>) -> Entry
+        ensures { result ≡ record { subtask = subtask; progress = progress; records = records } }
+    {
+        Entry {
+            subtask,
+            progress,
+            records: records.into_vec(),
+        }
+    }
+
+    /// Its subtask, how far it has come, and its records.
+    pub(crate) fn into_parts(self) -> (u32, Progress, Vec<Bytes>)
+        ensures { self ≡ record { subtask = result.0; progress = result.1; records = result.2.items } }
+    {
+        let Entry {
+            subtask,
+            progress,
+            records,
+        } = self;
+        (subtask, progress, records)
     }
 
     pub(crate) fn subtask(&self) -> u32

@@ -7,12 +7,14 @@
 
 mod entry;
 mod flaky_transactions;
+mod lists;
 mod memory_transactions;
 mod roomy;
 mod share;
 mod sink;
 mod transactions;
 
+pub use entry::Entry;
 pub use flaky_transactions::{FaultlessTransactions, FlakyTransactions, TransactionCall};
 pub use memory_transactions::MemoryTransactions;
 pub use sink::{Pending, Sink};

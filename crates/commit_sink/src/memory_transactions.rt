@@ -21,11 +21,11 @@ use std::alloc::{AllocError, Global};
 #[derive(Drop)]
 pub struct MemoryTransactions {
     alloc: Global,
-    subtasks: u32,
+    pub(crate) subtasks: u32,
     /// By their numbers, from 1.
-    transactions: Vec<Entry>,
+    pub(crate) transactions: Vec<Entry>,
     /// The committed ones in the order of commit, with a place for each that is neither committed nor aborted.
-    committed: Roomy<u64>,
+    pub(crate) committed: Roomy<u64>,
     /// By subtask, up to the last that has begun a transaction.
     shares: Vec<Share>,
     ghost kept: { IsKept subtasks transactions.items committed shares.items } by { Prim.hlevel props },
@@ -259,7 +259,7 @@ fn unsettled_of(
 
 impl MemoryTransactions {
     ghost use Rattle.std.specs.Prelude.{◌≡◌, ◌≤◌, Some, length, slice_get, IfSome, IfNone};
-    ghost use Rattle.commit_sink.specs.Ledger.{blank};
+    ghost use Rattle.commit_sink.specs.Ledger.{Ends, appended, blank, open_refusal};
 
     /// Transactions of so many subtasks, none of them begun. It takes no memory.
     pub fn new(alloc: Global, subtasks: u32) -> MemoryTransactions
@@ -274,20 +274,23 @@ impl MemoryTransactions {
         }
     }
 
-    /// The transaction at a place in the order of numbers, from 0: its subtask, how far it has come, and its records.
-    pub fn transaction_at(&self, index: u64) -> Option<(u32, Progress, &[Bytes])>
-        ensures some { IfSome result (λ t. slice_get (⟦<MemoryTransactions as Transactions>⟧.state self.now).transactions index ≡ Some (record { subtask = t.0; progress = t.1; records = t.2.now })) }
-        ensures none { IfNone result (length (⟦<MemoryTransactions as Transactions>⟧.state self.now).transactions ≤ index) }
+    /// Puts a record last in an open transaction. It is not copied.
+    pub(crate) fn append_bytes(
+        &mut self,
+        transaction: u64,
+        row: Bytes,
+    ) -> Result<(), TransactionFault>
+        ensures { Ends (⟦<MemoryTransactions as Transactions>⟧.state self.old, 0) (⟦<MemoryTransactions as Transactions>⟧.state self.new, 0)
+            (open_refusal (⟦<MemoryTransactions as Transactions>⟧.state self.old) transaction) (appended (⟦<MemoryTransactions as Transactions>⟧.state self.old) transaction row) result }
     {
-        let entry = self.transactions.get(index as usize)?;
-        Some((entry.subtask(), entry.progress(), entry.records()))
-    }
-
-    /// The number at a place in the order of commit, from 0.
-    pub fn committed_at(&self, index: u64) -> Option<u64>
-        ensures { result ≡ slice_get (⟦<MemoryTransactions as Transactions>⟧.state self.now).committed index }
-    {
-        self.committed.as_slice().get(index as usize).copied()
+        let place = open_place(&self.transactions, transaction)?;
+        let subtask = subtask_of(&self.transactions, place);
+        if is_full(&self.shares, subtask) {
+            return Err(TransactionFault::Memory);
+        }
+        append_row(&mut self.transactions, place, row)?;
+        add_row(&mut self.shares, subtask);
+        Ok(())
     }
 }
 
@@ -320,15 +323,9 @@ impl Transactions for MemoryTransactions {
     }
 
     fn append(&mut self, transaction: u64, bytes: &[u8]) -> Result<(), TransactionFault> {
-        let place = open_place(&self.transactions, transaction)?;
-        let subtask = subtask_of(&self.transactions, place);
-        if is_full(&self.shares, subtask) {
-            return Err(TransactionFault::Memory);
-        }
+        let _ = open_place(&self.transactions, transaction)?;
         let row = Bytes::from_slice(self.alloc, bytes)?;
-        append_row(&mut self.transactions, place, row)?;
-        add_row(&mut self.shares, subtask);
-        Ok(())
+        self.append_bytes(transaction, row)
     }
 
     fn pre_commit(&mut self, transaction: u64, checkpoint: u64) -> Result<(), TransactionFault> {

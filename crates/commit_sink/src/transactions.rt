@@ -90,35 +90,41 @@ pub trait Transactions {
         requires { subtask < (state self.old).subtasks }
         ensures ends { Ends (state self.old, fault_count self.old) (state self.new, fault_count self.new)
             None (begun (state self.old) subtask) result }
+        ensures told { result ≢ Err TransactionFault.Fault → fault_count self.new ≡ fault_count self.old }
         ensures number { IfOk result (λ n. n ≡ length (state self.old).transactions + 1) };
 
     /// Puts a record last in an open transaction.
     fn append(&mut self, transaction: u64, bytes: &[u8]) -> Result<(), TransactionFault>
-        ensures { Ends (state self.old, fault_count self.old) (state self.new, fault_count self.new)
-            (open_refusal (state self.old) transaction) (appended (state self.old) transaction bytes.now) result };
+        ensures ends { Ends (state self.old, fault_count self.old) (state self.new, fault_count self.new)
+            (open_refusal (state self.old) transaction) (appended (state self.old) transaction bytes.now) result }
+        ensures told { result ≢ Err TransactionFault.Fault → fault_count self.new ≡ fault_count self.old };
 
     /// Closes an open transaction, to be committed once the checkpoint is complete.
     fn pre_commit(&mut self, transaction: u64, checkpoint: u64) -> Result<(), TransactionFault>
         ensures ends { Ends (state self.old, fault_count self.old) (state self.new, fault_count self.new)
             (open_refusal (state self.old) transaction) (pre_committed (state self.old) transaction checkpoint) result }
+        ensures told { result ≢ Err TransactionFault.Fault → fault_count self.new ≡ fault_count self.old }
         ensures takes_no_memory { result ≢ Err TransactionFault.Memory };
 
     /// Commits a transaction that is pre-committed. One that is committed stays as it is.
     fn commit(&mut self, transaction: u64) -> Result<(), TransactionFault>
         ensures ends { Ends (state self.old, fault_count self.old) (state self.new, fault_count self.new)
             (commit_refusal (state self.old) transaction) (after_commit (state self.old) transaction) result }
+        ensures told { result ≢ Err TransactionFault.Fault → fault_count self.new ≡ fault_count self.old }
         ensures takes_no_memory { result ≢ Err TransactionFault.Memory };
 
     /// Drops the records of a transaction that is open or pre-committed. One that is aborted stays as it is.
     fn abort(&mut self, transaction: u64) -> Result<(), TransactionFault>
         ensures ends { Ends (state self.old, fault_count self.old) (state self.new, fault_count self.new)
             (abort_refusal (state self.old) transaction) (aborted (state self.old) transaction) result }
+        ensures told { result ≢ Err TransactionFault.Fault → fault_count self.new ≡ fault_count self.old }
         ensures takes_no_memory { result ≢ Err TransactionFault.Memory };
 
     /// The open and the pre-committed transactions of a subtask in rising number, a pre-committed one with its checkpoint.
     fn unsettled(&mut self, subtask: u32) -> Result<Vec<(u64, Option<u64>)>, TransactionFault>
         ensures ends { Ends (state self.old, fault_count self.old) (state self.new, fault_count self.new)
             None (state self.old) result }
+        ensures told { result ≢ Err TransactionFault.Fault → fault_count self.new ≡ fault_count self.old }
         ensures numbers { IfOk result (λ numbers. numbers.items ≡ unsettled_of (state self.old) subtask) };
 
     /// How many records of a subtask are committed.

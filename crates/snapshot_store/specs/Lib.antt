@@ -1,5 +1,6 @@
 pub mod Store
 pub mod StoreLaws
+pub mod Lists
 pub mod Memory
 pub mod MemoryLaws
 pub mod Calls

@@ -1,7 +1,6 @@
 -- What a store in memory stands for, call by call.
-use Rattle.std.specs.Prelude.{◌≡◌, ◌<◌, ◌≤◌, ◌==◌, ◌&&◌, ◌||◌, ℕ, Bool, true, false, cond, List, [], ◌∷◌, map, Option, Some, None, IsSome, is_some, Vec, refl, not, nat_lt, Result, Ok, Err, OnOk, OnErr, ◌⊎◌}
+use Rattle.std.specs.Prelude.{◌≡◌, ◌<◌, ◌≤◌, ◌==◌, ◌&&◌, ◌||◌, ℕ, Bool, true, false, cond, List, [], ◌∷◌, map, Option, Some, None, IsSome, is_some, refl, not, nat_lt, Result, Ok, Err, OnOk, OnErr, ◌⊎◌}
 use Rattle.std.specs.Result.{is_err}
-use Rattle.std.specs.Option.{option_map}
 use Rattle.std.specs.List.{list_any}
 use Rattle.std.specs.Prelude.{filter}
 use Rattle.std.proofs.lemmas.Map.Entries.{lookup-filter-keys}
@@ -9,7 +8,6 @@ use Rattle.std.specs.Ordering.{nat_cmp, is_eq, eq_by_cmp, ordering_then}
 use Rattle.std.specs.Cmp.{nat_cmp_total, eq_by_cmp_equiv, unsigned_tied, unsigned_ties}
 use Rattle.std.specs.declared.cmp.Ordering.{Ordering}
 use Rattle.std.specs.declared.cmp.Ordering.TheVariants.{Less, Equal, Greater}
-use Rattle.std.specs.declared.alloc.Global.{Global}
 use Rattle.std.specs.Map.{lookup}
 use Rattle.std.specs.BTreeMap.{is_at}
 use Rattle.std.specs.FinMap as fin
@@ -22,25 +20,22 @@ use Rattle.std.proofs.Math.Bool.{or-true}
 use Rattle.std.proofs.Props.{props}
 use Rattle.snapshot_store.specs.Store.{IsNumbered, IsGreatest, blank, key_cmp, all_below}
 use Rattle.snapshot_store.specs.StoreLaws.{key_cmp_total}
-use Rattle.snapshot_store.specs.Memory.{IsKept, holds, bytes_of, parts_of, is_marked, entry_of, complete_of, memory_state}
+use Rattle.snapshot_store.specs.Memory.{IsKept, holds, parts_of, is_marked, entry_of, complete_of, memory_state}
 
 abbrev Parts : Type 0
-Parts = List ((ℕ × ℕ) × Vec ℕ Global)
+Parts = List ((ℕ × ℕ) × List ℕ)
 
-abbrev pub content : Option (Vec ℕ Global) → Option (List ℕ)
-content o = option_map (λ (v : Vec ℕ Global). v.items) o
-
-find-bytes : (es : Parts) (q : ℕ × ℕ) → fin.find key_cmp q (bytes_of es) ≡ content (lookup (is_at (key_cmp q)) es)
-find-bytes [] q = refl
-find-bytes (e ∷ es) q =
-    elim (is_eq (key_cmp q e.0)) as (λ b. cond b (Some e.1.items) (fin.find key_cmp q (bytes_of es)) ≡ content (cond b (Some e.1) (lookup (is_at (key_cmp q)) es))) [
+find-lookup : (es : Parts) (q : ℕ × ℕ) → fin.find key_cmp q es ≡ lookup (is_at (key_cmp q)) es
+find-lookup [] q = refl
+find-lookup (e ∷ es) q =
+    elim (is_eq (key_cmp q e.0)) as (λ b. cond b (Some e.1) (fin.find key_cmp q es) ≡ cond b (Some e.1) (lookup (is_at (key_cmp q)) es)) [
       | true ↦ refl
-      | false ↦ find-bytes es q
+      | false ↦ find-lookup es q
     ]
 
 -- the part under a key is what stands under it
-pub get-parts_of : (es : Parts) (q : ℕ × ℕ) → fin.get (parts_of es) q ≡ content (lookup (is_at (key_cmp q)) es)
-get-parts_of es q = fin.get-from_entries key_cmp_total (bytes_of es) q ∙ find-bytes es q
+pub get-parts_of : (es : Parts) (q : ℕ × ℕ) → fin.get (parts_of es) q ≡ lookup (is_at (key_cmp q)) es
+get-parts_of es q = fin.get-from_entries key_cmp_total es q ∙ find-lookup es q
 
 marked_listed : (es : List (ℕ × Bool)) (n : ℕ) → (list_any (eq_by_cmp nat_cmp n) (map (λ (e : ℕ × Bool). e.0) es) && is_marked es n) ≡ is_marked es n
 marked_listed [] n = refl
@@ -62,24 +57,19 @@ then_equal Less s e = absurd (cc e)
 then_equal Equal s e = (refl, e)
 then_equal Greater s e = absurd (cc e)
 
-key_same : (a b : ℕ × ℕ) → key_cmp a b ≡ Equal → a ≡ b
+pub key_same : (a b : ℕ × ℕ) → key_cmp a b ≡ Equal → a ≡ b
 key_same a b e =
     let both : (nat_cmp a.0 b.0 ≡ Equal) × (nat_cmp a.1 b.1 ≡ Equal) = then_equal (nat_cmp a.0 b.0) (nat_cmp a.1 b.1) e in
     λ i. (set.nat_cmp-IsAntisymmetric a.0 b.0 both.0 i, set.nat_cmp-IsAntisymmetric a.1 b.1 both.1 i)
 
-pub parts_of-insert : (old new : Parts) (k : ℕ × ℕ) (v : Vec ℕ Global)
+pub parts_of-insert : (old new : Parts) (k : ℕ × ℕ) (v : List ℕ)
     → ((q : ℕ × ℕ) → lookup (is_at (key_cmp q)) new ≡ cond (is_eq (key_cmp k q)) (Some v) (lookup (is_at (key_cmp q)) old))
-    → parts_of new ≡ fin.insert (parts_of old) k v.items
-parts_of-insert old new k v same = fin.same_map key_cmp_total key_same (parts_of new) (fin.insert (parts_of old) k v.items) (λ q.
-    get-parts_of new q ∙ ap content (same q)
-    ∙ pushed (is_eq (key_cmp k q)) (lookup (is_at (key_cmp q)) old)
-    ∙ ap (λ b. cond b (Some v.items) (content (lookup (is_at (key_cmp q)) old))) ((eq_by_cmp_equiv key_cmp_total).symm k q)
-    ∙ ap (cond (eq_by_cmp key_cmp q k) (Some v.items)) (sym (get-parts_of old q))
-    ∙ sym (fin.get-insert key_cmp_total (parts_of old) k v.items q))
-  where
-    pushed : (b : Bool) (o : Option (Vec ℕ Global)) → content (cond b (Some v) o) ≡ cond b (Some v.items) (content o)
-    pushed true o = refl
-    pushed false o = refl
+    → parts_of new ≡ fin.insert (parts_of old) k v
+parts_of-insert old new k v same = fin.same_map key_cmp_total key_same (parts_of new) (fin.insert (parts_of old) k v) (λ q.
+    get-parts_of new q ∙ same q
+    ∙ ap (λ b. cond b (Some v) (lookup (is_at (key_cmp q)) old)) ((eq_by_cmp_equiv key_cmp_total).symm k q)
+    ∙ ap (cond (eq_by_cmp key_cmp q k) (Some v)) (sym (get-parts_of old q))
+    ∙ sym (fin.get-insert key_cmp_total (parts_of old) k v q))
 
 pub complete_of-same : (old new : List (ℕ × Bool)) → ((q : ℕ) → is_marked new q ≡ is_marked old q) → complete_of new ≡ complete_of old
 complete_of-same old new same = set.same_set nat_cmp_total set.nat_cmp-IsAntisymmetric (complete_of new) (complete_of old) (λ q.
@@ -91,10 +81,6 @@ complete_of-insert old new n same = set.same_set nat_cmp_total set.nat_cmp-IsAnt
     ∙ ap (λ b. b || is_marked old q) (sym (unsigned_tied q n))
     ∙ ap (λ b. eq_by_cmp nat_cmp q n || b) (sym (contains-complete_of old q))
     ∙ sym (set.contains-insert nat_cmp_total (complete_of old) n q))
-
-some_content : (o : Option (Vec ℕ Global)) → IsSome (content o) → IsSome o
-some_content None s = s
-some_content (Some v) s = s
 
 some_marked : (o : Option Bool) → holds o ≡ true → IsSome o
 some_marked None e = absurd (cc e)
@@ -120,12 +106,8 @@ all_below_fails p (suc n) k lt fails = ⊎_elim
     (λ other. let ne : k ≢ n = other.1 in let below : k < n = omega arith in ap (λ b. p n && b) (all_below_fails p n k below fails) ∙ and-false (p n))
     (eqb_tells k n)
 
-is_some_content : (o : Option (Vec ℕ Global)) → is_some (content o) ≡ is_some o
-is_some_content None = refl
-is_some_content (Some v) = refl
-
 pub has-parts_of : (es : Parts) (q : ℕ × ℕ) → is_some (fin.get (parts_of es) q) ≡ is_some (lookup (is_at (key_cmp q)) es)
-has-parts_of es q = ap is_some (get-parts_of es q) ∙ is_some_content (lookup (is_at (key_cmp q)) es)
+has-parts_of es q = ap is_some (get-parts_of es q)
 
 -- to note a new number leaves the complete ones
 pub complete_of-noted : (old new : List (ℕ × Bool)) (n : ℕ) → is_some (entry_of old n) ≡ false
@@ -151,11 +133,10 @@ complete_of-marked old new n same = complete_of-insert old new n (λ q. ap holds
     marked false o = refl
 
 -- to keep the parts whose keys pass a test
-pub parts_of-filter : (es : Parts) (p : ℕ × ℕ → Bool) → parts_of (filter (λ (e : (ℕ × ℕ) × Vec ℕ Global). p e.0) es) ≡ fin.retain_keys (parts_of es) p
-parts_of-filter es p = fin.same_map key_cmp_total key_same (parts_of (filter (λ (e : (ℕ × ℕ) × Vec ℕ Global). p e.0) es)) (fin.retain_keys (parts_of es) p) (λ q.
-    get-parts_of (filter (λ (e : (ℕ × ℕ) × Vec ℕ Global). p e.0) es) q
-    ∙ ap content (lookup-filter-keys (is_at (key_cmp q)) p (p q) (λ k t. ap p (sym (key_same q k (is_equal (key_cmp q k) t)))) es)
-    ∙ kept (p q) (lookup (is_at (key_cmp q)) es)
+pub parts_of-filter : (es : Parts) (p : ℕ × ℕ → Bool) → parts_of (filter (λ (e : (ℕ × ℕ) × List ℕ). p e.0) es) ≡ fin.retain_keys (parts_of es) p
+parts_of-filter es p = fin.same_map key_cmp_total key_same (parts_of (filter (λ (e : (ℕ × ℕ) × List ℕ). p e.0) es)) (fin.retain_keys (parts_of es) p) (λ q.
+    get-parts_of (filter (λ (e : (ℕ × ℕ) × List ℕ). p e.0) es) q
+    ∙ lookup-filter-keys (is_at (key_cmp q)) p (p q) (λ k t. ap p (sym (key_same q k (is_equal (key_cmp q k) t)))) es
     ∙ ap (λ o. cond (p q) o None) (sym (get-parts_of es q))
     ∙ sym (fin.get-retain_keys (parts_of es) p q (λ x t. ap p (sym (key_same q x t)))))
   where
@@ -164,11 +145,7 @@ parts_of-filter es p = fin.same_map key_cmp_total key_same (parts_of (filter (λ
     is_equal Equal e = refl
     is_equal Greater e = absurd (cc e)
 
-    kept : (b : Bool) (o : Option (Vec ℕ Global)) → content (cond b o None) ≡ cond b (content o) None
-    kept true o = refl
-    kept false o = refl
-
-no_number : (n : ℕ) → IsSome (entry_of [] n) → ⊥
+pub no_number : (n : ℕ) → IsSome (entry_of [] n) → ⊥
 no_number n there = cc there
 
 no_part : (n t : ℕ) → IsSome (fin.get (parts_of []) (n, t)) → ⊥
@@ -190,7 +167,7 @@ no_parts parts none = fin.same_map key_cmp_total key_same (parts_of parts) fin.e
     nothing q None e = refl
     nothing q (Some v) e = absurd (none q.0 q.1 (ap is_some e))
 
-no_complete : (numbers : List (ℕ × Bool)) → ((n : ℕ) → IsSome (entry_of numbers n) → ⊥) → complete_of numbers ≡ set.empty
+pub no_complete : (numbers : List (ℕ × Bool)) → ((n : ℕ) → IsSome (entry_of numbers n) → ⊥) → complete_of numbers ≡ set.empty
 no_complete numbers none = set.same_set nat_cmp_total set.nat_cmp-IsAntisymmetric (complete_of numbers) set.empty (λ q.
     contains-complete_of numbers q ∙ nothing q (entry_of numbers q) refl ∙ sym (set.contains-empty nat_cmp q))
   where

@@ -5,6 +5,7 @@
 #![tactic(auto)]
 
 mod flaky_store;
+mod lists;
 mod memory_store;
 mod store;
 

@@ -12,26 +12,27 @@ ghost use Rattle.snapshot_store.specs.MemoryLaws.{memory_numbered, IsGreatest-pr
 
 use crate::flaky_store::FaultlessStore;
 use crate::store::{SnapshotStore, StoreFault};
+use abs_codec::Bytes;
 use std::alloc::{AllocError, Global};
 use std::collections::BTreeMap;
 
-type Parts = BTreeMap<(u64, u32), Vec<u8>>;
+pub(crate) type Parts = BTreeMap<(u64, u32), Bytes>;
 
-type Numbers = BTreeMap<u64, bool>;
+pub(crate) type Numbers = BTreeMap<u64, bool>;
 
 /// No number is given out from here on.
 const NUMBERS_END: u64 = 1 << 63;
 
 #[derive(Drop)]
 pub struct MemoryStore {
-    alloc: Global,
-    tasks: u32,
-    next: u64,
-    parts: Parts,
+    pub(crate) alloc: Global,
+    pub(crate) tasks: u32,
+    pub(crate) next: u64,
+    pub(crate) parts: Parts,
     /// The numbers that have had a part, and whether each is complete. So there is room for a number before it is complete.
-    numbers: Numbers,
+    pub(crate) numbers: Numbers,
     /// The greatest complete number.
-    latest: Option<u64>,
+    pub(crate) latest: Option<u64>,
     ghost greatest: { IsGreatest (complete_of numbers.entries) latest } by { IsGreatest-prop (complete_of numbers.entries) latest },
     ghost kept: { IsKept tasks next parts.entries numbers.entries } by { Prim.hlevel props },
 }
@@ -82,7 +83,7 @@ fn newer(latest: Option<u64>, number: u64) -> u64
 }
 
 /// Makes room for a number.
-fn note_number(numbers: &mut Numbers, number: u64) -> Result<(), AllocError>
+pub(crate) fn note_number(numbers: &mut Numbers, number: u64) -> Result<(), AllocError>
     ensures same { complete_of numbers.new.entries ≡ complete_of numbers.old.entries }
     ensures there { OnOk result (IsSome (entry_of numbers.new.entries number)) }
     ensures keeps { (n : ℕ) → IsSome (entry_of numbers.old.entries n) → IsSome (entry_of numbers.new.entries n) }
@@ -106,8 +107,8 @@ fn mark_complete(numbers: &mut Numbers, number: u64)
     }
 }
 
-fn keep_part(parts: &mut Parts, number: u64, task: u32, part: Vec<u8>) -> Result<(), AllocError>
-    ensures ok { OnOk result (parts_of parts.new.entries ≡ fin.insert (parts_of parts.old.entries) (number, task) part.items) }
+fn keep_part(parts: &mut Parts, number: u64, task: u32, part: Bytes) -> Result<(), AllocError>
+    ensures ok { OnOk result (parts_of parts.new.entries ≡ fin.insert (parts_of parts.old.entries) (number, task) part) }
     ensures err { OnErr result (parts_of parts.new.entries ≡ parts_of parts.old.entries) }
 {
     parts.insert((number, task), part)?;
@@ -147,13 +148,6 @@ impl MemoryStore {
             numbers: BTreeMap::new(alloc),
             latest: None,
         }
-    }
-
-    /// The number that is given out next.
-    pub fn next_number(&self) -> u64
-        ensures { result ≡ (⟦<MemoryStore as SnapshotStore>⟧.state self.now).next }
-    {
-        self.next
     }
 }
 
@@ -196,7 +190,7 @@ impl SnapshotStore for MemoryStore {
         if has_part(&self.parts, number, task) {
             return Err(StoreFault::AlreadyPut);
         }
-        let part = bytes.to_vec(self.alloc)?;
+        let part = Bytes::from_slice(self.alloc, bytes)?;
         note_number(&mut self.numbers, number)?;
         keep_part(&mut self.parts, number, task, part)?;
         Ok(())

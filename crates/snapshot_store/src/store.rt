@@ -58,24 +58,28 @@ pub trait SnapshotStore {
     fn reserve(&mut self) -> Result<u64, StoreFault>
         ensures ends { Ends (state self.old, fault_count self.old) (state self.new, fault_count self.new)
             (reserve_refusal (state self.old)) (reserved (state self.old)) result }
+        ensures told { result ≢ Err StoreFault.Fault → fault_count self.new ≡ fault_count self.old }
         ensures number { IfOk result (λ n. n ≡ (state self.old).next) }
         ensures takes_no_memory { result ≢ Err StoreFault.Memory };
 
     /// Keeps the part of a task.
     fn put(&mut self, number: u64, task: u32, bytes: &[u8]) -> Result<(), StoreFault>
-        ensures { Ends (state self.old, fault_count self.old) (state self.new, fault_count self.new)
-            (put_refusal (state self.old) number task) (with_part (state self.old) number task bytes.now) result };
+        ensures ends { Ends (state self.old, fault_count self.old) (state self.new, fault_count self.new)
+            (put_refusal (state self.old) number task) (with_part (state self.old) number task bytes.now) result }
+        ensures told { result ≢ Err StoreFault.Fault → fault_count self.new ≡ fault_count self.old };
 
     /// Makes a number complete. A second time changes nothing.
     fn complete(&mut self, number: u64) -> Result<(), StoreFault>
         ensures ends { Ends (state self.old, fault_count self.old) (state self.new, fault_count self.new)
             (complete_refusal (state self.old) number) (completed (state self.old) number) result }
+        ensures told { result ≢ Err StoreFault.Fault → fault_count self.new ≡ fault_count self.old }
         ensures takes_no_memory { result ≢ Err StoreFault.Memory };
 
     /// The greatest complete number.
     fn latest(&mut self) -> Result<Option<u64>, StoreFault>
         ensures ends { Ends (state self.old, fault_count self.old) (state self.new, fault_count self.new)
             None (state self.old) result }
+        ensures told { result ≢ Err StoreFault.Fault → fault_count self.new ≡ fault_count self.old }
         ensures number { IfOk result (IsLatest (state self.old)) }
         ensures takes_no_memory { result ≢ Err StoreFault.Memory };
 
@@ -83,12 +87,14 @@ pub trait SnapshotStore {
     fn get(&mut self, number: u64, task: u32) -> Result<Vec<u8>, StoreFault>
         ensures ends { Ends (state self.old, fault_count self.old) (state self.new, fault_count self.new)
             (get_refusal (state self.old) number task) (state self.old) result }
+        ensures told { result ≢ Err StoreFault.Fault → fault_count self.new ≡ fault_count self.old }
         ensures bytes { IfOk result (λ bytes. part_of (state self.old) number task ≡ Some bytes.items) };
 
     /// Drops the parts of all numbers below, complete or not. The numbers stay complete.
     fn discard_below(&mut self, number: u64) -> Result<(), StoreFault>
         ensures ends { Ends (state self.old, fault_count self.old) (state self.new, fault_count self.new)
             None (discarded_below (state self.old) number) result }
+        ensures told { result ≢ Err StoreFault.Fault → fault_count self.new ≡ fault_count self.old }
         ensures takes_no_memory { result ≢ Err StoreFault.Memory };
 
     /// How often a call has failed. At 2^64 - 1, no call fails any more.

@@ -59,6 +59,7 @@ pub trait Partitions {
     fn read(&mut self, partition: u32, offset: u64) -> Result<Option<Self::Record>, SourceFault>
         ensures ends { Ends (records self.old, fault_count self.old) (records self.new, fault_count self.new)
             (partition_refusal (records self.old) partition) (records self.old) result }
+        ensures told { result ≢ Err SourceFault.Fault → fault_count self.new ≡ fault_count self.old }
         ensures same { records self.new ≡ records self.old }
         ensures row { IfOk result (λ row. row ≡ slice_get (records_at (records self.old) partition) offset) }
         ensures fits { IfOk result (λ row. IfSome row (Fits Self.Record.HasSpelling Self.Record.spelling)) }
@@ -67,8 +68,9 @@ pub trait Partitions {
     /// Puts a record last.
     fn append(&mut self, partition: u32, row: Self::Record) -> Result<(), SourceFault>
         requires { Fits Self.Record.HasSpelling Self.Record.spelling row }
-        ensures { Ends (records self.old, fault_count self.old) (records self.new, fault_count self.new)
-            (append_refusal (records self.old) partition) (appended (records self.old) partition row) result };
+        ensures ends { Ends (records self.old, fault_count self.old) (records self.new, fault_count self.new)
+            (append_refusal (records self.old) partition) (appended (records self.old) partition row) result }
+        ensures told { result ≢ Err SourceFault.Fault → fault_count self.new ≡ fault_count self.old };
 
     /// How often a call has failed. At 2^64 - 1, no call fails any more.
     fn faults(&self) -> u64

@@ -7,7 +7,7 @@ use Rattle.dataflow_core.proofs.engine.Core.append.Goals as goal
 pub invariant_of-self : goal.invariant_of-self
 invariant_of-self g c =
     keeps_appended _ _ _ _ c.self.invariant _ (g.P.Partitions.records c.append.new.self) c.args.partition c.args.row
-    (appends_or_not (g.P.Partitions.records c.self.inside.log) (g.P.Partitions.records c.append.new.self) _ _ _ _ c.append.result c.append.ensures)
+    (appends_or_not (g.P.Partitions.records c.self.inside.log) (g.P.Partitions.records c.append.new.self) _ _ _ _ c.append.result c.append.ensures.ends)
 
 pub returns-clause-stays : goal.returns-clause-stays
 returns-clause-stays g c = rw (← c.self.view_is) (append_stays _ _ _ _ c.self.invariant (g.P.Partitions.records c.append.new.self))
