@@ -16,4 +16,4 @@ pub returns-clause-sound : goal.returns-clause-sound
 returns-clause-sound g c =
     rw (← c.self.view_is)
     (λ sound. sound_as_fresh _ _ _ _ (keeps_appended _ _ _ _ (keeps_as_fresh _ _ _ _ c.self.invariant sound) _ (g.P.Partitions.records c.append.new.self) c.args.partition c.args.row
-    (appends_or_not (g.P.Partitions.records c.self.inside.log) (g.P.Partitions.records c.append.new.self) _ _ _ _ c.append.result c.append.ensures)))
+    (appends_or_not (g.P.Partitions.records c.self.inside.log) (g.P.Partitions.records c.append.new.self) _ _ _ _ c.append.result c.append.ensures.ends)))
