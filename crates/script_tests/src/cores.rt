@@ -2,30 +2,55 @@
 
 use abs_codec::{Codec, Text};
 use absflow_run::RowCore;
-use commit_sink::{FlakyTransactions, MemoryTransactions};
+use commit_sink::{FlakyTransactions, MemoryTransactions, Transactions};
 use dataflow_core::Core;
 use job_graph::Graph;
 use job_spec::JobSpec;
 use operators::Row;
-use snapshot_store::{FlakyStore, MemoryStore};
-use source_log::{FlakyLog, MemoryLog};
+use snapshot_store::{FlakyStore, MemoryStore, SnapshotStore};
+use source_log::{FlakyLog, MemoryLog, Partitions};
 use std::alloc::Global;
 use std::test::Fail;
 
-/// The job over new devices and empty partitions, running.
-pub(crate) fn running(alloc: Global, job: &str) -> Result<RowCore, Fail> {
+/// The devices of a core.
+pub(crate) type Log = FlakyLog<MemoryLog<Row>>;
+
+pub(crate) type Store = FlakyStore<MemoryStore>;
+
+pub(crate) type Sinks = FlakyTransactions<MemoryTransactions>;
+
+/// The job over these devices, down.
+pub(crate) fn open_over(
+    alloc: Global,
+    job: &str,
+    log: Log,
+    store: Store,
+    sinks: Sinks,
+) -> Result<RowCore, Fail> {
     let job = JobSpec::read(alloc, job.as_bytes())?;
     let graph = Graph::expand(alloc, &job)?;
     let operators = job.operators(alloc)?;
-    let log = FlakyLog::new(MemoryLog::new(alloc, graph.sources())?);
-    let tasks = graph.tasks();
-    let sinks = graph.sinks();
-    if tasks == 0 || operators.len() != graph.operators() as usize {
-        return Err(Fail::new("the job is not served"));
+    if operators.len() != graph.operators() as usize || log.count() != graph.sources() {
+        return Err(Fail::new("other operators or partitions than the job's"));
     }
+    if store.tasks() != graph.tasks() || sinks.subtasks() != graph.sinks() {
+        return Err(Fail::new("other devices than the job's"));
+    }
+    Ok(Core::open(alloc, graph, operators, log, store, sinks))
+}
+
+/// The job over new devices and empty partitions, running.
+pub(crate) fn running(alloc: Global, job: &str) -> Result<RowCore, Fail> {
+    let spec = JobSpec::read(alloc, job.as_bytes())?;
+    let graph = Graph::expand(alloc, &spec)?;
+    let tasks = graph.tasks();
+    if tasks == 0 {
+        return Err(Fail::new("the job has no task"));
+    }
+    let log = FlakyLog::new(MemoryLog::new(alloc, graph.sources())?);
     let store = FlakyStore::new(MemoryStore::new(alloc, tasks));
-    let transactions = FlakyTransactions::new(MemoryTransactions::new(alloc, sinks));
-    let mut core = Core::open(alloc, graph, operators, log, store, transactions);
+    let sinks = FlakyTransactions::new(MemoryTransactions::new(alloc, graph.sinks()));
+    let mut core = open_over(alloc, job, log, store, sinks)?;
     core.restart()?;
     Ok(core)
 }

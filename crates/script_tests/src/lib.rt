@@ -11,6 +11,8 @@ mod crashes;
 #[cfg(test)]
 mod faults;
 #[cfg(test)]
+mod handed;
+#[cfg(test)]
 mod jobs;
 #[cfg(test)]
 mod loops;
