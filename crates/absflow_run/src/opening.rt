@@ -1,7 +1,9 @@
 //! The core that a script's steps are made on.
 
-ghost use Rattle.std.specs.Prelude.{◌≡◌, count_by, length};
+ghost use Rattle.std.specs.Prelude.{◌≡◌, ◌≤◌, count_by, length};
 ghost use Rattle.job_graph.specs.Expanded.{is_source};
+ghost use Rattle.job_graph.specs.PlainGraph.{HaveOperators};
+ghost use Rattle.job_spec.specs.Job.{operators_of};
 
 use crate::refusal::Refusal;
 use commit_sink::{FlakyTransactions, MemoryTransactions};
@@ -28,12 +30,14 @@ pub(crate) fn open(
     graph: Graph,
     log: MemoryLog<Row>,
 ) -> Result<RowCore, Refusal>
-    requires { length (⟦<MemoryLog<Row> as Partitions>⟧.records log) ≡ count_by is_source graph.tasks }
+    requires tasks { 1 ≤ length graph.tasks }
+    requires operators { HaveOperators graph (operators_of job.now) }
+    requires partitions { length (⟦<MemoryLog<Row> as Partitions>⟧.records log) ≡ count_by is_source graph.tasks }
 {
     let tasks = graph.tasks();
     let sinks = graph.sinks();
     let operators = job.operators(alloc)?;
-    if !is_served(&graph) || tasks == 0 || operators.len() != graph.operators() as usize {
+    if !is_served(&graph) {
         return Err(Refusal::NotServed);
     }
     let log = FlakyLog::new(log);
