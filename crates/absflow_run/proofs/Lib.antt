@@ -1,1 +1,3 @@
+mod JobTasks
 mod Rows
+mod ScriptParts

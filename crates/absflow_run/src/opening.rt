@@ -1,7 +1,9 @@
 //! The core that a script's steps are made on.
 
-ghost use Rattle.std.specs.Prelude.{◌≡◌, count_by, length};
+ghost use Rattle.std.specs.Prelude.{◌≡◌, ◌≤◌, count_by, length};
 ghost use Rattle.job_graph.specs.Expanded.{is_source};
+ghost use Rattle.job_graph.specs.PlainGraph.{HaveOperators};
+ghost use Rattle.job_spec.specs.Job.{operators_of};
 
 use crate::refusal::Refusal;
 use commit_sink::{FlakyTransactions, MemoryTransactions};
@@ -21,21 +23,20 @@ pub type RowCore = Core<
     FlakyLog<MemoryLog<Row>>,
 >;
 
-/// A core of this job over new devices and this log. It is down. A job that no core serves is refused.
+/// A core of this job over new devices and this log. It is down.
 pub(crate) fn open(
     alloc: Global,
     job: &JobSpec,
     graph: Graph,
     log: MemoryLog<Row>,
 ) -> Result<RowCore, Refusal>
-    requires { length (⟦<MemoryLog<Row> as Partitions>⟧.records log) ≡ count_by is_source graph.tasks }
+    requires tasks { 1 ≤ length graph.tasks }
+    requires operators { HaveOperators graph (operators_of job.now) }
+    requires partitions { length (⟦<MemoryLog<Row> as Partitions>⟧.records log) ≡ count_by is_source graph.tasks }
 {
     let tasks = graph.tasks();
     let sinks = graph.sinks();
     let operators = job.operators(alloc)?;
-    if tasks == 0 || operators.len() != graph.operators() as usize {
-        return Err(Refusal::NotServed);
-    }
     let log = FlakyLog::new(log);
     let store = FlakyStore::new(MemoryStore::new(alloc, tasks));
     let transactions = FlakyTransactions::new(MemoryTransactions::new(alloc, sinks));

@@ -22,9 +22,6 @@ pub(crate) enum Refusal {
     Script(ScriptFault),
     #[error("{0}")]
     Job(JobFault),
-    /// A job that is sound, and that the core does not serve.
-    #[error("script: not served yet")]
-    NotServed,
     /// The core was not started, or a committed row was not given.
     #[error("{0}")]
     Core(CoreFault),

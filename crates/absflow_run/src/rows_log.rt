@@ -24,18 +24,16 @@ fn append_rows(
     Ok(())
 }
 
-/// A log with these rows in its partitions, of which there are to be so many: a script that was read has as many.
+/// A log with these rows in its partitions, of which there are so many.
 pub(crate) fn rows_log(
     alloc: Global,
     count: u32,
     partitions: Vec<Vec<FittingRow>>,
 ) -> Result<MemoryLog<Row>, Refusal>
+    requires { length partitions.items ≡ count }
     ensures count { IfOk result (λ log. length (⟦<MemoryLog<Row> as Partitions>⟧.records log) ≡ count) }
     ensures rows { IfOk result (λ log. ⟦<MemoryLog<Row> as Partitions>⟧.records log ≡ map (λ rows. rows.items) partitions.items) }
 {
-    if partitions.len() != count as usize {
-        return Err(Refusal::NotServed);
-    }
     let mut log = MemoryLog::new(alloc, count)?;
     for (partition, rows) in (0..count).zip(partitions) {
         append_rows(&mut log, partition, rows)?;
