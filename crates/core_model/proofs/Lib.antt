@@ -45,6 +45,7 @@ pub mod LedgerDevices
 pub mod CallGoes
 pub mod CallPersists
 pub mod CallCompletes
+pub mod CompleteCuts
 pub mod CallTriggers
 pub mod LedgerOrdered
 pub mod CallCommits

@@ -9,6 +9,7 @@ pub mod Goes
 pub mod CallLaws
 pub mod Commits
 pub mod CheckpointLaws
+pub mod CompleteCut
 pub mod Restart
 pub mod RestartLaws
 pub mod Sound

@@ -10,6 +10,7 @@ mod start;
 ghost use Rattle.core_model.specs.Language.{Language};
 ghost use Rattle.core_model.specs.CallLaws.{ReadsKeepEngines, InjectsKeepEngines, OperatesKeepEngines, OperatorBarriersKeepEngines, PutsOutKeepEngines, SinkBarriersKeepEngines};
 ghost use Rattle.core_model.specs.CheckpointLaws.{TriggersKeepEngines, PersistsKeepEngines, CompletesKeepEngines, CommitsKeepEngines, CommitsReachEveryCheckpoint, FailuresKeepEngines, FreshEnginesAreExact, FreshEnginesCommitOutputs, StepsWithdrawNoRow};
+ghost use Rattle.core_model.specs.CompleteCut.{CompletesAreTheCut};
 ghost use Rattle.core_model.specs.RestartLaws.{RestartsKeepEngines, RestartsWithdrawNoRow, FreshRestartsAreSteps, FreshRestartsGiveTheCut, FreshRestartsAreNotBad};
 ghost use Rattle.core_model.specs.Laws.{ReadsAreSteps, OperatesAreSteps, InjectsAreSteps, CommittedAreRows, AppendsKeepSinks, CopiesKeepSinks, CommitsKeepSinks};
 
@@ -104,6 +105,11 @@ pub fn commits_keep_engines<R, K, S, O>()
 /// A commit at Ok leaves as many committed transactions as there are complete checkpoints.
 pub fn commits_reach_every_checkpoint<R, K, S, O>()
     ensures { (lang : Language R K S O) → CommitsReachEveryCheckpoint lang }
+{}
+
+/// A checkpoint that completes is the cut that its attempt has made so far, and every task's part is in the store: on any engine, fresh or not.
+pub fn completes_are_the_cut<R, K, S, O>()
+    ensures { (lang : Language R K S O) → CompletesAreTheCut lang }
 {}
 
 /// A failure of the job keeps what every engine keeps, and is a step of the model.
