@@ -1,5 +1,5 @@
 -- A checkpoint that completes is the cut so far.
-use Rattle.std.proofs.Common.{◌≡◌, ◌<◌, ◌++◌, if◌then◌else◌, Some, Ok, Err, Result, IfOk, slice_get, length, ℕ, Bool, true, List, refl, sym, ap, subst, ◌∙◌, arith}
+use Rattle.std.proofs.Common.{◌≡◌, ◌<◌, ◌++◌, if◌then◌else◌, MatchOption, Option, Some, Ok, Err, Result, IfOk, slice_get, length, ℕ, Bool, true, List, refl, sym, ap, subst, ◌∙◌, arith}
 use Rattle.std.proofs.lemmas.List.{append-nil, length-map}
 use Rattle.std.proofs.lemmas.Option.{same_Some, slice_get_within}
 use Rattle.checkpoint_model.specs.Attempt as attempt
@@ -98,7 +98,7 @@ module _ {R K S O : Type 0} (lang : Language R K S O) (RecordFits : R → Type 0
     pub completes_cut : (n : ℕ) → EndsComplete h k s.stored stored (Ok n) → HasTheCut lang s h stored n
     completes_cut n ends = subst (λ (x : Stored). HasTheCut lang s h x n) (sym ends.2) (has_the_cut n ends.0 ends.1)
 
-    -- and where it is refused or fails, nothing is said
-    pub cut_if_ok : (result : Result ℕ CoreFault) → EndsComplete h k s.stored stored result → IfOk result (HasTheCut lang s h stored)
-    cut_if_ok (Ok n) ends = completes_cut n ends
+    -- and where the call is refused or fails, nothing is said
+    pub cut_if_ok : (result : Result ℕ CoreFault) → EndsComplete h k s.stored stored result → IfOk result (λ n. MatchOption s.held ⊥ (λ held. HasTheCut lang s held stored n))
+    cut_if_ok (Ok n) ends = subst (λ (o : Option (Held R K S)). MatchOption o ⊥ (λ held. HasTheCut lang s held stored n)) (sym was) (completes_cut n ends)
     cut_if_ok (Err fault) ends = tt

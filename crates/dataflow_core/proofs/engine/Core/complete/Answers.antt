@@ -1,4 +1,5 @@
 use Rattle.core_model.proofs.CallCompletes.{keeps_complete}
+use Rattle.core_model.proofs.CompleteCuts.{cut_if_ok}
 use Rattle.core_model.proofs.StoreComplete.{coordinator_completes}
 use Rattle.dataflow_core.proofs.Plain.{complete_stays}
 use Rattle.dataflow_core.proofs.Serving.{completes, whole}
@@ -28,6 +29,11 @@ returns-clause-stays g c =
 
 pub returns-clause-whole : goal.returns-clause-whole
 returns-clause-whole g c = rw c.leave.ensures.answer (whole _ _ _ _ c.self.invariant c.in-Some.attempt c.in-Some.is (g.S.SnapshotStore.state c.complete-outcome.new.store) c.complete-outcome.new.attempt c.complete-outcome.result c.complete-outcome.ensures.ends)
+
+pub returns-clause-cut : goal.returns-clause-cut
+returns-clause-cut g c =
+    rw (← c.self.view_is, c.leave.ensures.answer)
+    (cut_if_ok _ _ _ _ c.self.invariant c.in-Some.attempt c.in-Some.is c.complete-outcome.new.attempt (g.S.SnapshotStore.state c.complete-outcome.new.store) c.complete-outcome.result c.complete-outcome.ensures.ends)
 
 pub returns-clause-sound : goal.returns-clause-sound
 returns-clause-sound g c =
