@@ -44,7 +44,7 @@ pub enum CoreFault {
     /// A transaction's commit failed, and is to be asked for again.
     #[error("K13 CommitFault")]
     CommitFault,
-    /// No checkpoint number is left.
+    /// No number is left for a checkpoint, or for an attempt.
     #[error("K14 NumbersSpent")]
     NumbersSpent,
     /// The devices hold what no engine of this graph put there.

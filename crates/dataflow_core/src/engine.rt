@@ -298,7 +298,7 @@ impl<O: Operator, S: SnapshotStore, X: Transactions, P: Partitions<Record = O::R
         leave(&mut self.attempt, outcome)
     }
 
-    /// A task takes the barrier at the head of its input. Where it waits for no other it copies what it holds; a sink then begins a transaction and
+    /// A task takes the barrier at the head of its input. At the last of its unmarked inputs it copies what it holds; a sink then begins a transaction and
     /// pre-commits the old one.
     pub fn take_barrier(&mut self, task: u32, input: u32) -> Result<Effect, CoreFault>
         ensures ends { OnTransactions self.old self.new (λ h k. EndsBarrier self.old.graph task input h k self.old.ledger self.new.ledger) result }

@@ -59,7 +59,7 @@ pub(crate) fn work_task<O: Operator, X: Transactions>(
     }
 }
 
-/// A task takes the barrier at the head of its input, and copies what it holds where that was the last it waits for.
+/// A task takes the barrier at the head of its input, and copies what it holds at the last of its unmarked inputs.
 pub(crate) fn take_barrier<O: Operator, X: Transactions>(
     attempt: &mut Attempt<O>,
     graph: &Graph,

@@ -1,12 +1,13 @@
 //! Cores over new devices in memory, and rows for them.
 
 use abs_codec::{Codec, Text};
-use absflow_run::RowCore;
+use absflow_run::{Answer, RowCore, make_step};
 use commit_sink::{FlakyTransactions, MemoryTransactions, Transactions};
 use dataflow_core::Core;
 use job_graph::Graph;
 use job_spec::JobSpec;
 use operators::Row;
+use script_file::parse_step;
 use snapshot_store::{FlakyStore, MemoryStore, SnapshotStore};
 use source_log::{FlakyLog, MemoryLog, Partitions};
 use std::alloc::Global;
@@ -73,4 +74,10 @@ pub(crate) fn append(
         return Err(Fail::new("the row does not fit"));
     }
     Ok(core.append(partition, row)?)
+}
+
+/// Makes a step, and says whether it was accepted.
+pub(crate) fn accepts(alloc: Global, core: &mut RowCore, step: &str) -> Result<bool, Fail> {
+    let step = parse_step(alloc, step).map_err(|_| Fail::new("a bad step"))?;
+    Ok(!matches!(make_step(core, step), Answer::Refused(_)))
 }

@@ -2,14 +2,13 @@
 //! slow program puts out.
 
 use crate::commands::{COUNT, EARLY, LONG_LOOP, LOOP, TWO_SINKS};
-use crate::cores::{append, row, running};
+use crate::cores::{accepts, append, row, running};
 use abs_codec::{Text, decode_all};
-use absflow_run::{Answer, RowCore, make_step, row_line};
+use absflow_run::{RowCore, row_line};
 use job_graph::{Graph, Role, Route};
 use job_spec::JobSpec;
 use operators::{Operator, Row, RowOp, RowState};
 use plain_machine::{Channel, Job, Move, PlainMachine, Share, Task};
-use script_file::parse_step;
 use std::alloc::Global;
 use std::test::Fail;
 
@@ -49,12 +48,6 @@ const RUNS: [Run; 5] = [
         steps: "read 0; work 1 0; work 2 0; trigger; inject 0; barrier 1 0; barrier 2 0; persist 0; persist 1; persist 2; complete; commit 0; read 0; work 1 0; work 2 0; trigger; inject 0; barrier 1 0; barrier 2 0; persist 0; persist 1; persist 2; complete; commit 1",
     },
 ];
-
-/// Makes a step, and says whether it was accepted.
-fn accepts(alloc: Global, core: &mut RowCore, step: &str) -> Result<bool, Fail> {
-    let step = parse_step(alloc, step).map_err(|_| Fail::new("a bad step"))?;
-    Ok(!matches!(make_step(core, step), Answer::Refused(_)))
-}
 
 /// Reads and works until there is nothing left to read or work.
 fn to_rest(core: &mut RowCore, graph: &Graph) {

@@ -1,11 +1,10 @@
 //! The parts of a checkpoint, as they stand in the store.
 
 use crate::commands::{COUNT, EARLY, LINE, LONG_LOOP};
-use crate::cores::{append, running};
+use crate::cores::{Store, accepts, append, running};
 use absflow_run::RowCore;
-use dataflow_core::{Reply, Step};
-use operators::Row;
-use snapshot_store::{FlakyStore, MemoryStore, SnapshotStore, StoreFault};
+use snapshot_store::{SnapshotStore, StoreFault};
+use std::alloc::Global;
 use std::test::Fail;
 
 /// A source at offset 0, an operator without states, and a sink with one pre-committed transaction, of number 1.
@@ -66,9 +65,9 @@ fn parts_before_the_last_complete_checkpoint_are_discarded(rt: HostRuntime) -> R
 }
 
 /// Makes the steps, of which none is refused, and answers the store.
-fn store_after(mut core: RowCore, steps: &[Step<Row>]) -> Result<FlakyStore<MemoryStore>, Fail> {
-    for reply in core.run_steps(steps)? {
-        if matches!(reply, Reply::Refused(_)) {
+fn store_after(alloc: Global, mut core: RowCore, steps: &str) -> Result<Store, Fail> {
+    for step in steps.split("; ") {
+        if !accepts(alloc, &mut core, step)? {
             return Err(Fail::new("a step is refused"));
         }
     }
@@ -84,28 +83,9 @@ fn a_part_has_what_came_before_the_barriers(rt: HostRuntime) -> Result<(), Fail>
     append(alloc, &mut core, 0, "a", 1)?;
     append(alloc, &mut core, 0, "a", 2)?;
     append(alloc, &mut core, 1, "a", 5)?;
-    let steps = [
-        Step::Read(0),
-        Step::Trigger,
-        Step::Inject(0),
-        Step::Read(0),
-        Step::Work(2, 0),
-        Step::Barrier(2, 0),
-        Step::Read(1),
-        Step::Work(2, 1),
-        Step::Inject(1),
-        Step::Barrier(2, 1),
-        Step::Work(2, 0),
-        Step::Work(3, 0),
-        Step::Work(3, 0),
-        Step::Barrier(3, 0),
-        Step::Persist(0),
-        Step::Persist(1),
-        Step::Persist(2),
-        Step::Persist(3),
-        Step::Complete,
-    ];
-    let mut store = store_after(core, &steps)?;
+    let steps =
+        "read 0; trigger; inject 0; read 0; work 2 0; barrier 2 0; read 1; work 2 1; inject 1; barrier 2 1; work 2 0; work 3 0; work 3 0; barrier 3 0; persist 0; persist 1; persist 2; persist 3; complete";
+    let mut store = store_after(alloc, core, steps)?;
     let part: &[u8] = &[
         1, 0, 0, 0, 1, 0, 0, 0, 1, 0x61, 1, 0, 0, 0, 0, 0, 0, 0, 2, 0, 0, 0, 0,
     ];
@@ -119,24 +99,9 @@ fn a_part_has_what_went_round(rt: HostRuntime) -> Result<(), Fail> {
     let alloc = rt.alloc();
     let mut core = running(alloc, LONG_LOOP)?;
     append(alloc, &mut core, 0, "x", 3)?;
-    let steps = [
-        Step::Read(0),
-        Step::Work(1, 0),
-        Step::Work(2, 0),
-        Step::Trigger,
-        Step::Inject(0),
-        Step::Barrier(1, 0),
-        Step::Work(1, 1),
-        Step::Barrier(2, 0),
-        Step::Barrier(1, 1),
-        Step::Barrier(3, 0),
-        Step::Persist(0),
-        Step::Persist(1),
-        Step::Persist(2),
-        Step::Persist(3),
-        Step::Complete,
-    ];
-    let mut store = store_after(core, &steps)?;
+    let steps =
+        "read 0; work 1 0; work 2 0; trigger; inject 0; barrier 1 0; work 1 1; barrier 2 0; barrier 1 1; barrier 3 0; persist 0; persist 1; persist 2; persist 3; complete";
+    let mut store = store_after(alloc, core, steps)?;
     let part: &[u8] = &[
         1, 0, 0, 0, 0, 0, 0, 0, 1, 0, 0, 0, 2, 0, 0, 0, 1, 0, 0, 0, 1, 0x78, 0, 0, 0, 0, 0, 0, 0, 2,
     ];
@@ -150,24 +115,9 @@ fn an_early_barrier_leaves_an_empty_log(rt: HostRuntime) -> Result<(), Fail> {
     let alloc = rt.alloc();
     let mut core = running(alloc, EARLY)?;
     append(alloc, &mut core, 0, "k", 1)?;
-    let steps = [
-        Step::Trigger,
-        Step::Inject(0),
-        Step::Barrier(1, 0),
-        Step::Read(0),
-        Step::Work(1, 0),
-        Step::Barrier(2, 1),
-        Step::Barrier(2, 0),
-        Step::Work(2, 1),
-        Step::Work(2, 0),
-        Step::Barrier(3, 0),
-        Step::Persist(0),
-        Step::Persist(1),
-        Step::Persist(2),
-        Step::Persist(3),
-        Step::Complete,
-    ];
-    let mut store = store_after(core, &steps)?;
+    let steps =
+        "trigger; inject 0; barrier 1 0; read 0; work 1 0; barrier 2 1; barrier 2 0; work 2 1; work 2 0; barrier 3 0; persist 0; persist 1; persist 2; persist 3; complete";
+    let mut store = store_after(alloc, core, steps)?;
     let part: &[u8] = &[1, 0, 0, 0, 0, 0, 0, 0, 1, 0, 0, 0, 2, 0, 0, 0, 0];
     assert_eq!(&rt; store.get(1, 2)?.as_slice(), part);
     Ok(())
