@@ -1,10 +1,25 @@
 -- A sound engine keeps what a fresh one keeps.
-use Rattle.std.proofs.Common.{◌≡◌, MatchOption, Option, Some, None, ℕ, true, refl}
+use Rattle.std.proofs.Common.{◌≡◌, MatchOption, Option, Some, None, ℕ, true, refl, sym, subst}
+use Rattle.std.specs.Option.{option_map}
+use Rattle.checkpoint_model.specs.Held.{held_running, IsHeldSound}
 use Rattle.job_state.specs.Held.{Held}
 use Rattle.core_model.specs.Keeps.{Keeps, RunsIn}
 use Rattle.core_model.specs.Language.{Language}
-use Rattle.core_model.specs.Sound.{IsSound}
+use Rattle.core_model.specs.Sound.{IsSound, AreLegal}
 use Rattle.core_model.specs.State.{State}
+use Rattle.core_model.specs.View.{run_of, job_of, is_logged_in, devices_of}
+
+module _ {R K S O : Type 0} (lang : Language R K S O) (RecordFits : R → Type 0) (s : State O R K S) where
+  -- an engine that is down is sound exactly where its devices are legal
+  pub down_is_sound : s.held ≡ None → AreLegal lang RecordFits s.graph s.operators s.partitions s.stored s.ledger → IsSound lang RecordFits s
+  down_is_sound down legal = record {
+    tells = subst (λ (o : Option (Held R K S)). IsHeldSound (job_of lang s) (is_logged_in s) lang.spelling (devices_of lang s) (held_running (option_map (run_of lang.cmp s.graph) o))) (sym down) legal.tells;
+    whole = legal.whole;
+    formed = legal.formed;
+  }
+
+  pub sound_is_legal : IsSound lang RecordFits (record s { held = None }) → AreLegal lang RecordFits s.graph s.operators s.partitions s.stored s.ledger
+  sound_is_legal sound = record { tells = sound.tells; whole = sound.whole; formed = sound.formed }
 
 module _ {R K S O : Type 0} (lang : Language R K S O) (RecordFits : R → Type 0) (IsGood : O → S → Type 0) (s : State O R K S) where
   abbrev pub as_fresh : State O R K S

@@ -1,5 +1,9 @@
 -- When an engine is sound, whatever devices it was opened over.
+use Rattle.std.specs.Prelude.{List, None, false}
 use Rattle.checkpoint_model.specs.Held.{held_running, IsHeldSound}
+use Rattle.commit_sink.specs.Ledger.{Ledger}
+use Rattle.job_graph.specs.Expanded.{Expanded}
+use Rattle.snapshot_store.specs.Store.{Stored}
 use Rattle.core_model.specs.Keeps.{AllOrNone, PartsAreFormed}
 use Rattle.core_model.specs.Language.{Language}
 use Rattle.core_model.specs.State.{State}
@@ -11,3 +15,8 @@ pub record IsSound {R K S O : Type 0} (lang : Language R K S O) (RecordFits : R 
   pub tells : IsHeldSound (job_of lang s) (is_logged_in s) lang.spelling (devices_of lang s) (held_running (running_of lang s))
   pub whole : AllOrNone (job_of lang s) (store_of lang s.stored)
   pub formed : PartsAreFormed lang RecordFits s.graph s.stored
+
+-- Devices are legal for a job, its operators and its partitions: an engine that is down over them is sound.
+abbrev pub AreLegal : {R K S O : Type 0} → Language R K S O → (R → Type 0) → Expanded → List O → List (List R) → Stored → Ledger → Type 0
+AreLegal lang RecordFits graph operators partitions stored ledger =
+    IsSound lang RecordFits (record { graph = graph; operators = operators; partitions = partitions; stored = stored; ledger = ledger; held = None; is_fresh = false; faults = 0; attempts = 0 })

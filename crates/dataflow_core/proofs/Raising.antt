@@ -1,12 +1,12 @@
 -- A job that was down, after a restart.
-use Rattle.std.proofs.Common.{ap, ◌≡◌, ◌≢◌, IfOk, MatchOption, Option, Some, None, is_some, Result, Ok, Err, slice_get, ℕ, false, refl, true}
+use Rattle.std.proofs.Common.{ap, ◌≡◌, ◌≢◌, IfOk, MatchOption, Option, Some, None, is_some, Result, Ok, Err, slice_get, ℕ, false, refl}
 use Rattle.job_state.specs.Held.{Held}
 use Rattle.commit_sink.specs.Ledger.{Ledger}
 use Rattle.core_model.specs.Keeps.{Keeps}
 use Rattle.core_model.specs.Language.{Language}
 use Rattle.core_model.specs.Restart.{EndsRestart}
 use Rattle.core_model.specs.RestartLaws.{held_by, restarted, GoesOnFromCut, OperatorsAreLawful}
-use Rattle.core_model.specs.Sound.{IsSound}
+use Rattle.core_model.specs.Sound.{IsSound, AreLegal}
 use Rattle.core_model.specs.View.{job_of, devices_of}
 use Rattle.checkpoint_model.specs.Headline.{IsExactlyOnce}
 use Rattle.core_model.proofs.CallExact.{keeps_exact}
@@ -14,11 +14,12 @@ use Rattle.core_model.specs.State.{State}
 use Rattle.core_model.specs.declared.fault.CoreFault.{CoreFault}
 use Rattle.core_model.specs.declared.fault.CoreFault.TheVariants.{BadSnapshot}
 use Rattle.core_model.specs.Goes.{Goes}
+use Rattle.core_model.proofs.CallFails.{keeps_fail}
 use Rattle.core_model.proofs.CallRestarts.{keeps_restart}
 use Rattle.core_model.proofs.RestartCut.{gives_cut}
 use Rattle.core_model.proofs.RestartParts.{never_bad}
 use Rattle.core_model.proofs.RestartSteps.{restart_goes}
-use Rattle.core_model.proofs.Sounds.{as_fresh, keeps_as_fresh, sound_as_fresh, keeps_counted}
+use Rattle.core_model.proofs.Sounds.{as_fresh, keeps_as_fresh, sound_as_fresh, sound_is_legal, keeps_counted}
 use Rattle.operators.specs.Operator.{IsGoodState}
 use Rattle.source_log.specs.Partitions.{records_at}
 use Rattle.dataflow_core.specs.Running.{number_of, raised}
@@ -87,3 +88,10 @@ module _ {R K S O : Type 0} (lang : Language R K S O) (RecordFits : R → Type 0
 -- a sound engine is exactly once
 pub sound_exact : {R K S O : Type 0} (lang : Language R K S O) (RecordFits : R → Type 0) (IsGood : O → S → Type 0) (s : State O R K S) → Keeps lang RecordFits IsGood s → IsSound lang RecordFits s → IsExactlyOnce (job_of lang s) lang.spelling (devices_of lang s)
 sound_exact lang RecordFits IsGood s keeps sound = keeps_exact lang RecordFits IsGood (as_fresh lang RecordFits IsGood s) (keeps_as_fresh lang RecordFits IsGood s keeps sound) refl
+
+-- the devices of a sound engine are legal
+pub hands_out_legal : {R K S O : Type 0} (lang : Language R K S O) (RecordFits : R → Type 0) (IsGood : O → S → Type 0) (s : State O R K S) → Keeps lang RecordFits IsGood s → IsSound lang RecordFits s
+    → AreLegal lang RecordFits s.graph s.operators s.partitions s.stored s.ledger
+hands_out_legal lang RecordFits IsGood s keeps sound =
+    sound_is_legal lang RecordFits s
+    (sound_as_fresh lang RecordFits IsGood (record s { held = None }) (keeps_fail lang RecordFits IsGood (as_fresh lang RecordFits IsGood s) (keeps_as_fresh lang RecordFits IsGood s keeps sound) s.faults).0)

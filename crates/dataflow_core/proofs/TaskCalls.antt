@@ -1,5 +1,5 @@
 -- A task works, or takes a barrier, as what it is.
-use Rattle.std.proofs.Common.{◌≡◌, ◌<◌, Option, Some, None, Result, Ok, Err, MatchOption, slice_get, ℕ, List, refl, sym, ap, subst, ◌∙◌}
+use Rattle.std.proofs.Common.{◌≡◌, ◌<◌, Option, Some, None, Result, MatchOption, slice_get, ℕ, List, refl, sym, ap, subst, ◌∙◌}
 use Rattle.alignment.specs.declared.input.Effect.{Effect}
 use Rattle.commit_sink.specs.Ledger.{Ledger, IsOrdered}
 use Rattle.dataflow_model.specs.Machine.{Work}
