@@ -49,31 +49,56 @@ const RUNS: [Run; 5] = [
     },
 ];
 
-/// Reads and works until there is nothing left to read or work.
-fn to_rest(core: &mut RowCore, graph: &Graph) {
-    let mut moved = true;
-    while moved {
-        moved = false;
-        for task in 0..graph.tasks() {
-            moved |= core.read(task).is_ok();
-            for input in 0..graph.inputs(task).len() {
-                moved |= core.work(task, input as u32).is_ok();
+/// So many rounds are enough for each of the runs.
+const ROUNDS: u32 = 100;
+
+/// Each task reads, or works one record of each input, and this says whether any did.
+fn move_once(core: &mut RowCore, graph: &Graph) -> bool {
+    let mut moved = false;
+    for task in 0..graph.tasks() {
+        if core.read(task).is_ok() {
+            moved = true;
+        }
+        for (input, _) in (0..u32::MAX).zip(graph.inputs(task)) {
+            if core.work(task, input).is_ok() {
+                moved = true;
             }
         }
     }
+    moved
+}
+
+/// Reads and works until there is nothing left to read or work.
+fn to_rest(core: &mut RowCore, graph: &Graph) -> Result<(), Fail> {
+    for _ in 0..ROUNDS {
+        if !move_once(core, graph) {
+            return Ok(());
+        }
+    }
+    Err(Fail::new("the run goes on"))
+}
+
+/// Each task takes a barrier from each input that has one, and this says whether any did.
+fn take_once(core: &mut RowCore, graph: &Graph) -> bool {
+    let mut taken = false;
+    for task in 0..graph.tasks() {
+        for (input, _) in (0..u32::MAX).zip(graph.inputs(task)) {
+            if core.take_barrier(task, input).is_ok() {
+                taken = true;
+            }
+        }
+    }
+    taken
 }
 
 /// Takes barriers until there is none left to take.
-fn take_barriers(core: &mut RowCore, graph: &Graph) {
-    let mut taken = true;
-    while taken {
-        taken = false;
-        for task in 0..graph.tasks() {
-            for input in 0..graph.inputs(task).len() {
-                taken |= core.take_barrier(task, input as u32).is_ok();
-            }
+fn take_barriers(core: &mut RowCore, graph: &Graph) -> Result<(), Fail> {
+    for _ in 0..ROUNDS {
+        if !take_once(core, graph) {
+            return Ok(());
         }
     }
+    Err(Fail::new("barriers are left"))
 }
 
 /// A checkpoint, from its trigger to its commits.
@@ -82,7 +107,7 @@ fn settle(core: &mut RowCore, graph: &Graph) -> Result<(), Fail> {
     for task in 0..graph.tasks() {
         let _ = core.inject(task);
     }
-    take_barriers(core, graph);
+    take_barriers(core, graph)?;
     for task in 0..graph.tasks() {
         core.persist(task)?;
     }
@@ -166,6 +191,22 @@ fn partitions(alloc: Global, count: u32, run: &Run) -> Result<Vec<Vec<Row>>, Fai
     Ok(partitions)
 }
 
+/// Each task makes the moves that it can, one of each kind, and this says whether any did.
+fn move_plainly(alloc: Global, machine: &mut Machine, graph: &Graph) -> Result<bool, Fail> {
+    let mut moved = false;
+    for task in 0..graph.tasks() {
+        if machine.step(alloc, &Move::Read(task as usize))? {
+            moved = true;
+        }
+        for channel in graph.inputs(task) {
+            if machine.step(alloc, &Move::Work(task as usize, *channel as usize))? {
+                moved = true;
+            }
+        }
+    }
+    Ok(moved)
+}
+
 /// The plain slow program at rest.
 fn plain_at_rest(alloc: Global, run: &Run) -> Result<Machine, Fail> {
     let spec = JobSpec::read(alloc, run.job.as_bytes())?;
@@ -177,17 +218,12 @@ fn plain_at_rest(alloc: Global, run: &Run) -> Result<Machine, Fail> {
         partitions: partitions(alloc, graph.sources(), run)?,
     };
     let mut machine = Machine::new(alloc, job)?;
-    let mut moved = true;
-    while moved {
-        moved = false;
-        for task in 0..graph.tasks() {
-            moved |= machine.step(alloc, &Move::Read(task as usize))?;
-            for channel in graph.inputs(task) {
-                moved |= machine.step(alloc, &Move::Work(task as usize, *channel as usize))?;
-            }
+    for _ in 0..ROUNDS {
+        if !move_plainly(alloc, &mut machine, &graph)? {
+            return Ok(machine);
         }
     }
-    Ok(machine)
+    Err(Fail::new("the plain run goes on"))
 }
 
 /// What the plain slow program puts out at a sink subtask.
@@ -228,7 +264,7 @@ fn interrupted(alloc: Global, run: &Run, count: usize) -> Result<RowCore, Fail> 
     }
     core.fail()?;
     core.restart()?;
-    to_rest(&mut core, &graph);
+    to_rest(&mut core, &graph)?;
     settle(&mut core, &graph)?;
     Ok(core)
 }
