@@ -2,7 +2,8 @@
 
 use crate::commands::LINE;
 use crate::cores::{Log, Sinks, Store, append, open_over, running};
-use commit_sink::Transactions;
+use abs_codec::{Items, Map};
+use commit_sink::{MemoryTransactions, Progress, Transactions};
 use dataflow_core::CoreFault;
 use snapshot_store::{FlakyStore, MemoryStore, SnapshotStore};
 use std::alloc::Global;
@@ -87,5 +88,40 @@ fn a_damaged_part_is_refused_before_any_transaction(rt: HostRuntime) -> Result<(
     ] {
         expect_refusal(&rt, rt.alloc(), task, byte)?;
     }
+    Ok(())
+}
+
+/// What used devices hold is told in lists.
+#[test]
+fn used_devices_are_told_in_lists(rt: HostRuntime) -> Result<(), Fail> {
+    let (_, store, sinks) = used(rt.alloc())?;
+    let store = store.into_inner();
+    assert_eq!(&rt; store.next_number(), 2);
+    assert_eq!(&rt; store.complete_at(0), Some(1));
+    assert_eq!(&rt; store.complete_at(1), None);
+    let first: &[u8] = &[0, 0, 0, 0, 0, 0, 0, 0, 1];
+    assert_eq!(&rt; store.part_at(0), Some((1, 0, first)));
+    assert!(&rt; store.part_at(2).is_some());
+    assert_eq!(&rt; store.part_at(3), None);
+    let sinks = sinks.into_inner();
+    assert_eq!(&rt;
+        sinks.transaction_at(0).map(|t| t.1),
+        Some(Progress::PreCommitted(1))
+    );
+    assert_eq!(&rt; sinks.transaction_at(1).map(|t| t.1), Some(Progress::Open));
+    assert!(&rt; sinks.transaction_at(2).is_none());
+    assert_eq!(&rt; sinks.committed_at(0), None);
+    Ok(())
+}
+
+/// Lists make devices that go on from them.
+#[test]
+fn lists_make_devices(rt: HostRuntime) -> Result<(), Fail> {
+    let alloc = rt.alloc();
+    let mut store = MemoryStore::from_lists(alloc, 3, 7, Items::new(alloc), Map::new(alloc))?;
+    assert_eq!(&rt; store.reserve()?, 7);
+    assert_eq!(&rt; store.next_number(), 8);
+    let mut sinks = MemoryTransactions::from_lists(alloc, 1, Vec::new(alloc), Items::new(alloc))?;
+    assert_eq!(&rt; sinks.begin(0)?, 1);
     Ok(())
 }
