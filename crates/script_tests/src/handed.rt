@@ -2,8 +2,7 @@
 
 use crate::commands::LINE;
 use crate::cores::{Log, Sinks, Store, append, open_over, running};
-use abs_codec::{Items, Map};
-use commit_sink::{MemoryTransactions, Progress, Transactions};
+use commit_sink::{Progress, Transactions};
 use dataflow_core::CoreFault;
 use snapshot_store::{FlakyStore, MemoryStore, SnapshotStore};
 use std::alloc::Global;
@@ -111,17 +110,5 @@ fn used_devices_are_told_in_lists(rt: HostRuntime) -> Result<(), Fail> {
     assert_eq!(&rt; sinks.transaction_at(1).map(|t| t.1), Some(Progress::Open));
     assert!(&rt; sinks.transaction_at(2).is_none());
     assert_eq!(&rt; sinks.committed_at(0), None);
-    Ok(())
-}
-
-/// Lists make devices that go on from them.
-#[test]
-fn lists_make_devices(rt: HostRuntime) -> Result<(), Fail> {
-    let alloc = rt.alloc();
-    let mut store = MemoryStore::from_lists(alloc, 3, 7, Items::new(alloc), Map::new(alloc))?;
-    assert_eq!(&rt; store.reserve()?, 7);
-    assert_eq!(&rt; store.next_number(), 8);
-    let mut sinks = MemoryTransactions::from_lists(alloc, 1, Vec::new(alloc), Items::new(alloc))?;
-    assert_eq!(&rt; sinks.begin(0)?, 1);
     Ok(())
 }
