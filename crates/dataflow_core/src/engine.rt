@@ -237,7 +237,7 @@ impl<O: Operator, S: SnapshotStore, X: Transactions, P: Partitions<Record = O::R
         ensures sound { IsSound (language O.meaning O.Key.cmp O.Record.spelling O.Record.reading O.Key.reading O.State.reading) (Fits O.Record.HasSpelling O.Record.spelling) self.old → IsSound (language O.meaning O.Key.cmp O.Record.spelling O.Record.reading O.Key.reading O.State.reading) (Fits O.Record.HasSpelling O.Record.spelling) self.new }
         ensures begins { (subtask : ℕ) → Begins (committed_rows self.old.ledger subtask) (committed_rows self.new.ledger subtask) }
         ensures cut { IsSound (language O.meaning O.Key.cmp O.Record.spelling O.Record.reading O.Key.reading O.State.reading) (Fits O.Record.HasSpelling O.Record.spelling) self.old → IfOk result (λ last. MatchOption self.new.held ⊥ (λ k. GoesOnFromCut (language O.meaning O.Key.cmp O.Record.spelling O.Record.reading O.Key.reading O.State.reading) self.new last k)) }
-        ensures good { IsSound (language O.meaning O.Key.cmp O.Record.spelling O.Record.reading O.Key.reading O.State.reading) (Fits O.Record.HasSpelling O.Record.spelling) self.old → ((partition offset : ℕ) (row : O.Record) → slice_get (partitions.records_at self.old.partitions partition) offset ≡ Some row → Fits O.Record.HasSpelling O.Record.spelling row) → result ≢ Err CoreFault.BadSnapshot }
+        ensures good { IsSound (language O.meaning O.Key.cmp O.Record.spelling O.Record.reading O.Key.reading O.State.reading) (Fits O.Record.HasSpelling O.Record.spelling) self.old → result ≢ Err CoreFault.BadSnapshot }
         ensures counted { result ≡ Err CoreFault.Device → self.old.faults < self.new.faults }
         ensures same { (self.new.graph ≡ self.old.graph) × (self.new.is_fresh ≡ self.old.is_fresh) }
     {
@@ -247,6 +247,8 @@ impl<O: Operator, S: SnapshotStore, X: Transactions, P: Partitions<Record = O::R
         if self.attempts >= LAST_ATTEMPT {
             return Err(CoreFault::NumbersSpent);
         }
+        // `count` says that all records fit, so no part that a sound core wrote is bad.
+        let _ = self.log.count();
         let outcome = restarted(
             self.alloc,
             &self.graph,

@@ -1,6 +1,6 @@
 //! Tests of scripts and of job files, as the program runs and judges them: values worked out by hand, the texts of answers and refusals, and the
-//! order of refusals; parts of checkpoints byte by byte; every call of a device that fails; cores over devices that were used before; and failures at
-//! any place of a run, compared with the plain slow program.
+//! order of refusals; parts of checkpoints byte by byte; every call of a device that fails; cores over devices that were used before; devices that
+//! lists make; and failures at any place of a run, compared with the plain slow program.
 #![tactic(auto)]
 
 #[cfg(test)]
@@ -15,6 +15,8 @@ mod faults;
 mod handed;
 #[cfg(test)]
 mod jobs;
+#[cfg(test)]
+mod lists;
 #[cfg(test)]
 mod loops;
 #[cfg(test)]

@@ -1,4 +1,5 @@
 pub mod Partitions
+pub mod Rows
 pub mod MemoryLog
 pub mod Calls
 pub mod FlakyLog

@@ -7,6 +7,10 @@ use Rattle.source_log.specs.declared.partitions.SourceFault.TheVariants.{NoSuchP
 abbrev pub records_at : {R : Type 0} → List (List R) → ℕ → List R
 records_at partitions p = unwrap_or (slice_get partitions p) []
 
+-- every record is such
+abbrev pub AllFit : {R : Type 0} → (R → Type 0) → List (List R) → Type 0
+AllFit {R = R} RecordFits partitions = (p offset : ℕ) (row : R) → slice_get (records_at partitions p) offset ≡ Some row → RecordFits row
+
 -- The calls, each by why it is refused and what it leaves at Ok.
 
 abbrev pub partition_refusal : {R : Type 0} → List (List R) → ℕ → Option SourceFault

@@ -6,6 +6,7 @@
 mod flaky_log;
 mod memory_log;
 mod partitions;
+mod rows;
 
 pub use flaky_log::{FaultlessLog, FlakyLog, LogCall};
 pub use memory_log::MemoryLog;

@@ -3,7 +3,7 @@
 ghost use Rattle.std.specs.Prelude.{◌≡◌, ◌≢◌, ◌<◌, ◌≤◌, ◌^◌, ℕ, List, length, None, Some, Ok, Err, IfOk, IfSome, slice_get, MatchResult};
 ghost use Rattle.abs_codec.specs.Spelling.{Fits};
 ghost use Rattle.source_log.specs.declared.partitions.SourceFault.TheVariants.{Memory};
-ghost use Rattle.source_log.specs.Partitions.{Ends, records_at, partition_refusal, append_refusal, appended};
+ghost use Rattle.source_log.specs.Partitions.{AllFit, Ends, records_at, partition_refusal, append_refusal, appended};
 
 use abs_codec::Codec;
 use std::alloc::AllocFailed;
@@ -45,9 +45,10 @@ pub trait Partitions {
     /// How often a call has failed.
     ghost fault_count: { Self → ℕ };
 
-    /// How many partitions there are.
+    /// How many partitions there are. All records in them fit.
     fn count(&self) -> u32
-        ensures { result ≡ length (records self.now) };
+        ensures count { result ≡ length (records self.now) }
+        ensures fit { AllFit (Fits Self.Record.HasSpelling Self.Record.spelling) (records self.now) };
 
     /// How many records a partition has.
     fn len(&self, partition: u32) -> Result<u64, SourceFault>

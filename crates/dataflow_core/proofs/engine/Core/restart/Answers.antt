@@ -52,5 +52,5 @@ returns-clause-good g c =
     let laws : OperatorsAreLawful g.O.Operator.meaning g.O.Key.Ord.cmp (Fits g.O.Record.Codec.HasSpelling g.O.Record.Codec.spelling) (Fits g.O.Key.Codec.HasSpelling g.O.Key.Codec.spelling) (Fits g.O.State.Codec.HasSpelling g.O.State.Codec.spelling) g.O.Operator.Suits =
     record { same_key = o.same_key; exact = o.key_is_exact; keys = o.key_fits; fresh = o.fresh_is_good; states = o.state_stays_good; sent = o.sent_fits } in
     rw (← c.self.view_is, c.raise.ensures.number)
-    (λ sound fit. number_bad c.restarted-outcome.result
-    (not_bad _ _ (Fits g.O.Key.Codec.HasSpelling g.O.Key.Codec.spelling) (Fits g.O.State.Codec.HasSpelling g.O.State.Codec.spelling) g.O.Operator.Suits _ c.self.invariant down sound laws fit ledger c.restarted-outcome.result (rw (← c.deref.ensures.value) c.restarted-outcome.ensures.ends)))
+    (λ sound. number_bad c.restarted-outcome.result
+    (not_bad _ _ (Fits g.O.Key.Codec.HasSpelling g.O.Key.Codec.spelling) (Fits g.O.State.Codec.HasSpelling g.O.State.Codec.spelling) g.O.Operator.Suits _ c.self.invariant down sound laws c.count.ensures.fit ledger c.restarted-outcome.result (rw (← c.deref.ensures.value) c.restarted-outcome.ensures.ends)))
