@@ -20,6 +20,8 @@ mod lists;
 #[cfg(test)]
 mod loops;
 #[cfg(test)]
+mod messages;
+#[cfg(test)]
 mod parts;
 #[cfg(test)]
 mod refusals;
@@ -27,3 +29,7 @@ mod refusals;
 mod restarts;
 #[cfg(test)]
 mod runs;
+#[cfg(test)]
+mod steps;
+#[cfg(test)]
+mod turns;
