@@ -3,7 +3,7 @@
 use abs_codec::{Codec, Text, decode_all};
 use absflow_run::{Answer, RowCore, make_step, row_line};
 use commit_sink::{FlakyTransactions, MemoryTransactions, Transactions};
-use dataflow_core::Core;
+use dataflow_core::{Core, Reply};
 use job_graph::Graph;
 use job_spec::JobSpec;
 use operators::Row;
@@ -79,7 +79,7 @@ pub(crate) fn append(
 /// Makes a step, and says whether it was accepted.
 pub(crate) fn accepts(alloc: Global, core: &mut RowCore, step: &str) -> Result<bool, Fail> {
     let step = parse_step(alloc, step).map_err(|_| Fail::new("a bad step"))?;
-    Ok(!matches!(make_step(core, step), Answer::Refused(_)))
+    Ok(!matches!(make_step(core, step), Answer(Reply::Refused(_))))
 }
 
 /// Makes a step that is accepted.
