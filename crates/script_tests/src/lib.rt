@@ -12,6 +12,8 @@ mod crashes;
 #[cfg(test)]
 mod faults;
 #[cfg(test)]
+mod graphs;
+#[cfg(test)]
 mod handed;
 #[cfg(test)]
 mod jobs;
