@@ -7,7 +7,7 @@ ghost use Rattle.commit_sink.specs.Sink.{Sinking};
 ghost use Rattle.job_graph.specs.declared.role.Role.TheVariants as Role;
 ghost use Rattle.job_state.specs.declared.holding.Holding.TheVariants as Holding;
 ghost use Rattle.core_model.specs.declared.fault.CoreFault.TheVariants as CoreFault;
-ghost use Rattle.core_model.specs.Calls.{input_at, is_copy, EndsInject, EndsOperatorBarrier, EndsSinkBarrier, IsBlocked, IsBarrierNext};
+ghost use Rattle.core_model.specs.Calls.{input_at, is_copy, EndsInject, EndsOperatorBarrier, EndsSinkBarrier, IsBarrierDue};
 ghost use Rattle.core_model.specs.Keeps.{AreHeld, GateFits};
 ghost use Rattle.job_state.specs.Held.{gate_at};
 ghost use Rattle.core_calls.specs.Taking.{RefusesBarrier, GateAwaits, EndsSinkCopy};
@@ -29,7 +29,7 @@ fn barrier_at<O: Operator>(
     channel: u32,
 ) -> Result<u64, CoreFault>
     requires { input < length (gate_at attempt.now task).inputs }
-    ensures ok { IfOk result (λ checkpoint. ¬ IsBlocked task input attempt.now × IsBarrierNext attempt.now channel checkpoint) }
+    ensures ok { IfOk result (λ checkpoint. IsBarrierDue task input attempt.now channel checkpoint) }
     ensures err { IfErr result (RefusesBarrier task input channel attempt.now) }
 {
     if attempt.is_blocked(task, input) {
@@ -92,7 +92,7 @@ fn copy_sink<O: Operator, X: Transactions>(
     checkpoint: u64,
 ) -> Result<(), CoreFault>
     requires gate { GateAwaits task input channel checkpoint attempt.old }
-    requires barrier { IsBarrierNext attempt.old channel checkpoint }
+    requires barrier { IsBarrierDue task input attempt.old channel checkpoint }
     requires effect { is_copy (effect_of (gate_at attempt.old task) input) ≡ true }
     requires holds { (sink : Sinking) × (slice_get attempt.old.tasks task ≡ Some (Holding.Sink sink)) × (open_refusal (X.state transactions.old) sink.open_one ≡ None) }
     requires copies { task < length attempt.old.copies }

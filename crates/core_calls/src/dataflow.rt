@@ -8,14 +8,12 @@ ghost use Rattle.dataflow_model.specs.Machine.{state_under};
 ghost use Rattle.operators.specs.Operator.{IsGoodState};
 ghost use Rattle.commit_sink.specs.Ledger.{open_refusal};
 ghost use Rattle.commit_sink.specs.Sink.{Sinking};
-ghost use Rattle.channels.specs.declared.item.Item.TheVariants as Item;
 ghost use Rattle.job_state.specs.Held.{gate_at};
-ghost use Rattle.job_state.specs.Sending.{items_at};
 ghost use Rattle.job_state.specs.declared.holding.Holding.TheVariants as Holding;
 ghost use Rattle.job_graph.specs.declared.role.Role.TheVariants as Role;
 ghost use Rattle.core_model.specs.declared.fault.CoreFault.TheVariants as CoreFault;
 ghost use Rattle.core_model.specs.Language.{language};
-ghost use Rattle.core_model.specs.Calls.{input_at, state_of, IsBlocked, EndsRead, EndsOperate, EndsPutOut};
+ghost use Rattle.core_model.specs.Calls.{input_at, state_of, IsRecordDue, EndsRead, EndsOperate, EndsPutOut};
 ghost use Rattle.core_model.specs.Keeps.{AreHeld, AllFit, GateFits};
 ghost use Rattle.core_calls.specs.Taking.{RefusesRecord};
 ghost use Rattle.source_log.specs.Partitions.{records_at};
@@ -134,7 +132,7 @@ fn first_record<O: Operator>(
     channel: u32,
 ) -> Result<&O::Record, CoreFault>
     requires { input < length (gate_at attempt.now task).inputs }
-    ensures ok { IfOk result (λ row. ¬ IsBlocked task input attempt.now × (slice_get (items_at attempt.now.channels channel) 0 ≡ Some (Item.Record row.now))) }
+    ensures ok { IfOk result (λ row. IsRecordDue task input attempt.now channel row.now) }
     ensures err { IfErr result (RefusesRecord task input channel attempt.now) }
 {
     if attempt.is_blocked(task, input) {

@@ -66,5 +66,5 @@ module _ {R K S O : Type 0} (lang : Language R K S O) (RecordFits : R → Type 0
       ]
   keeps_operator_barrier (Err ChannelBlocked) ends = keeps_still lang RecordFits IsGood s keeps h is k n ends.1
   keeps_operator_barrier (Err NotReady) ends = keeps_still lang RecordFits IsGood s keeps h is k n ends.2
-  keeps_operator_barrier (Err Memory) ends = keeps_still lang RecordFits IsGood s keeps h is k n ends
+  keeps_operator_barrier (Err Memory) ends = keeps_still lang RecordFits IsGood s keeps h is k n ends.2
   keeps_operator_barrier (Err other) ends = absurd ends

@@ -40,6 +40,6 @@ module _ {R K S O : Type 0} (lang : Language R K S O) (RecordFits : R → Type 0
   keeps_inject (Ok u) ends = injects ends.2.0 ends.1 ends.0 ends.2.1 ends.3 ends.4 ends.5 ends.6
   keeps_inject (Err NoSuchTask) ends = keeps_still lang RecordFits IsGood s keeps h is k n ends.1
   keeps_inject (Err NoCheckpoint) ends = keeps_still lang RecordFits IsGood s keeps h is k n ends.2
-  keeps_inject (Err NotReady) ends = keeps_still lang RecordFits IsGood s keeps h is k n ends.2
-  keeps_inject (Err Memory) ends = keeps_still lang RecordFits IsGood s keeps h is k n ends
+  keeps_inject (Err NotReady) ends = keeps_still lang RecordFits IsGood s keeps h is k n ends.3
+  keeps_inject (Err Memory) ends = keeps_still lang RecordFits IsGood s keeps h is k n ends.3
   keeps_inject (Err other) ends = absurd ends

@@ -92,5 +92,5 @@ module _ {R K S O : Type 0} (lang : Language R K S O) (RecordFits : R → Type 0
   keeps_operate (Ok u) ends = operates_next ends
   keeps_operate (Err ChannelBlocked) ends = keeps_still lang RecordFits IsGood s keeps h is k n ends.1
   keeps_operate (Err NotReady) ends = keeps_still lang RecordFits IsGood s keeps h is k n ends.2
-  keeps_operate (Err Memory) ends = keeps_still lang RecordFits IsGood s keeps h is k n ends
+  keeps_operate (Err Memory) ends = keeps_still lang RecordFits IsGood s keeps h is k n ends.2
   keeps_operate (Err other) ends = absurd ends

@@ -89,8 +89,8 @@ module _ {R K S O : Type 0} (lang : Language R K S O) (RecordFits : R → Type 0
         (subst (λ (x : Stored). KeepsAndGoes lang RecordFits IsGood s (after s (Some (with_acknowledged task h)) x s.ledger n)) (sym e.3) made)
     keeps_persist (Err NoSuchTask) spells e = keeps_refused lang RecordFits IsGood s keeps h k stored s.ledger n was e.1 e.2 refl
     keeps_persist (Err NoCheckpoint) spells e = keeps_refused lang RecordFits IsGood s keeps h k stored s.ledger n was e.2 e.3 refl
-    keeps_persist (Err NotReady) spells e = keeps_refused lang RecordFits IsGood s keeps h k stored s.ledger n was e.2 e.3 refl
-    keeps_persist (Err Memory) spells e = keeps_refused lang RecordFits IsGood s keeps h k stored s.ledger n was e.0 e.1 refl
+    keeps_persist (Err NotReady) spells e = keeps_refused lang RecordFits IsGood s keeps h k stored s.ledger n was e.3 e.4 refl
+    keeps_persist (Err Memory) spells e = keeps_refused lang RecordFits IsGood s keeps h k stored s.ledger n was e.3 e.4 refl
     keeps_persist (Err Device) spells e =
         let reads = spells e.1 e.2.copied in
         elim e.3 [

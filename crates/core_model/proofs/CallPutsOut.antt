@@ -155,6 +155,6 @@ module _ {R K S O : Type 0} (lang : Language R K S O) (RecordFits : R → Type 0
   keeps_put_out (Ok u) ends = puts_out ends
   keeps_put_out (Err ChannelBlocked) ends = keeps_still_with ends.1 ends.2
   keeps_put_out (Err NotReady) ends = keeps_still_with ends.2 ends.3
-  keeps_put_out (Err Memory) ends = keeps_still_with ends.0 ends.1
+  keeps_put_out (Err Memory) ends = keeps_still_with ends.2 ends.3
   keeps_put_out (Err Device) ends = fails_to_put_out ends
   keeps_put_out (Err other) ends = absurd ends

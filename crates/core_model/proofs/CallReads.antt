@@ -48,7 +48,7 @@ module _ {R K S O : Type 0} (lang : Language R K S O) (RecordFits : R → Type 0
   keeps_read (Ok u) fits ends = reads_next fits ends
   keeps_read (Err NoSuchTask) fits ends = keeps_still lang RecordFits IsGood s keeps h is k n ends.1
   keeps_read (Err NotReady) fits ends = keeps_still lang RecordFits IsGood s keeps h is k n ends.5
-  keeps_read (Err Memory) fits ends = keeps_still lang RecordFits IsGood s keeps h is k n ends
+  keeps_read (Err Memory) fits ends = keeps_still lang RecordFits IsGood s keeps h is k n ends.1
   keeps_read (Err Device) fits ends = keeps_down lang RecordFits IsGood s keeps n
   keeps_read (Err other) fits ends = absurd ends
 

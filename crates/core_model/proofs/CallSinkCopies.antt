@@ -264,6 +264,6 @@ module _ {R K S O : Type 0} (lang : Language R K S O) (RecordFits : R → Type 0
       ]
   keeps_sink_barrier (Err ChannelBlocked) ends = still ends.1 ends.2
   keeps_sink_barrier (Err NotReady) ends = still ends.2 ends.3
-  keeps_sink_barrier (Err Memory) ends = still ends.0 ends.1
+  keeps_sink_barrier (Err Memory) ends = still ends.2 ends.3
   keeps_sink_barrier (Err Device) ends = fails_to_copy ends
   keeps_sink_barrier (Err other) ends = absurd ends

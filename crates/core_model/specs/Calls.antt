@@ -1,6 +1,6 @@
 -- How each call on a running job ends: by what the job holds before (h) and after (k), and the device that the call uses.
 -- Where a device has failed, what the job holds afterwards is of no account: it is lost.
-use Rattle.std.specs.Prelude.{◌+◌, ◌^◌, ◌≡◌, ◌≢◌, ◌⊎◌, ◌≤◌, ℕ, Bool, true, false, List, length, slice_get, Option, Some, None, Result, Ok, Err, IsSome}
+use Rattle.std.specs.Prelude.{◌+◌, ◌^◌, ◌≡◌, ◌≢◌, ◌⊎◌, ◌<◌, ◌≤◌, ℕ, Bool, true, false, List, length, slice_get, Option, Some, None, Result, Ok, Err, IsSome}
 use Rattle.std.specs.declared.cmp.Ordering.{Ordering}
 use Rattle.abs_codec.specs.Entries.{value_at}
 use Rattle.alignment.specs.Table.{effect_of, is_blocked}
@@ -54,6 +54,14 @@ module _ {R K S : Type 0} where
   abbrev pub IsBlocked : ℕ → ℕ → Held R K S → Type 0
   IsBlocked task input h = is_blocked (gate_at h task) input ≡ true
 
+  -- the input is free, and this record stands first
+  abbrev pub IsRecordDue : ℕ → ℕ → Held R K S → ℕ → R → Type 0
+  IsRecordDue task input h channel row = ¬ IsBlocked task input h × (slice_get (items_at h.channels channel) 0 ≡ Some (Record row))
+
+  -- the input is free, and the barrier of the pending checkpoint stands first
+  abbrev pub IsBarrierDue : ℕ → ℕ → Held R K S → ℕ → ℕ → Type 0
+  IsBarrierDue task input h channel checkpoint = ¬ IsBlocked task input h × IsBarrierNext h channel checkpoint
+
 -- the task copies at such a barrier
 abbrev pub is_copy : Effect → Bool
 is_copy Copy = true
@@ -65,6 +73,7 @@ module _ {R K S : Type 0} (task input : ℕ) (h k : Held R K S) (channel : ℕ) 
   -- The task takes the barrier, with this effect, and does no more.
   pub record NotesBarrier (effect : Effect) : Type 0 where
     pub checkpoint : ℕ
+    pub free : ¬ IsBlocked task input h
     pub barrier : IsBarrierNext h channel checkpoint
     pub brings : effect ≡ effect_of (gate_at h task) input
     pub no_copy : is_copy effect ≡ false
@@ -85,6 +94,8 @@ module _ {R K S : Type 0} (task input : ℕ) (h k : Held R K S) (channel : ℕ) 
     pub record FailsToPutOut (spelling : R → List ℕ) : Type 0 where
       pub row : R
       pub sink : Sinking
+      pub free : ¬ IsBlocked task input h
+      pub head : slice_get (items_at h.channels channel) 0 ≡ Some (Record row)
       pub was : slice_get h.tasks task ≡ Some (holds.Sink sink)
       pub either : (new ≡ old) ⊎ (new ≡ appended old sink.open_one (spelling row))
 
@@ -92,7 +103,7 @@ module _ {R K S : Type 0} (task input : ℕ) (h k : Held R K S) (channel : ℕ) 
     EndsPutOut spelling (Ok u) = PutsOut spelling
     EndsPutOut spelling (Err ChannelBlocked) = IsBlocked task input h × (k ≡ h) × (new ≡ old)
     EndsPutOut spelling (Err NotReady) = ¬ IsBlocked task input h × NoRecord h channel × (k ≡ h) × (new ≡ old)
-    EndsPutOut spelling (Err Memory) = (k ≡ h) × (new ≡ old)
+    EndsPutOut spelling (Err Memory) = (row : R) × IsRecordDue task input h channel row × (k ≡ h) × (new ≡ old)
     EndsPutOut spelling (Err Device) = FailsToPutOut spelling
     EndsPutOut spelling (Err other) = ⊥
 
@@ -101,6 +112,7 @@ module _ {R K S : Type 0} (task input : ℕ) (h k : Held R K S) (channel : ℕ) 
     pub record CopiesSink (effect : Effect) : Type 0 where
       pub checkpoint : ℕ
       pub sink : Sinking
+      pub free : ¬ IsBlocked task input h
       pub barrier : IsBarrierNext h channel checkpoint
       pub brings : effect ≡ effect_of (gate_at h task) input
       pub copies : is_copy effect ≡ true
@@ -111,6 +123,7 @@ module _ {R K S : Type 0} (task input : ℕ) (h k : Held R K S) (channel : ℕ) 
     pub record FailsToCopySink : Type 0 where
       pub checkpoint : ℕ
       pub sink : Sinking
+      pub free : ¬ IsBlocked task input h
       pub barrier : IsBarrierNext h channel checkpoint
       pub copies : is_copy (effect_of (gate_at h task) input) ≡ true
       pub was : slice_get h.tasks task ≡ Some (holds.Sink sink)
@@ -121,7 +134,7 @@ module _ {R K S : Type 0} (task input : ℕ) (h k : Held R K S) (channel : ℕ) 
     EndsSinkBarrier (Ok effect) = (NotesBarrier effect × (new ≡ old)) ⊎ CopiesSink effect
     EndsSinkBarrier (Err ChannelBlocked) = IsBlocked task input h × (k ≡ h) × (new ≡ old)
     EndsSinkBarrier (Err NotReady) = ¬ IsBlocked task input h × ((checkpoint : ℕ) → ¬ IsBarrierNext h channel checkpoint) × (k ≡ h) × (new ≡ old)
-    EndsSinkBarrier (Err Memory) = (k ≡ h) × (new ≡ old)
+    EndsSinkBarrier (Err Memory) = (checkpoint : ℕ) × IsBarrierDue task input h channel checkpoint × (k ≡ h) × (new ≡ old)
     EndsSinkBarrier (Err Device) = FailsToCopySink
     EndsSinkBarrier (Err other) = ⊥
 
@@ -136,12 +149,20 @@ module _ {R K S : Type 0} (graph : Expanded) (task : ℕ) (h k : Held R K S) whe
     pub next : slice_get (records_at partitions partition) offset ≡ Some row
     pub reads : Reads lang.meaning graph task offset row h k
 
+  -- the source's partition has a record at the source's offset
+  pub record HasNext (partitions : List (List R)) : Type 0 where
+    pub partition : ℕ
+    pub offset : ℕ
+    pub is_source : slice_get graph.tasks task ≡ Some (role.Source partition)
+    pub at : slice_get h.tasks task ≡ Some (holds.Source offset)
+    pub more : offset < length (records_at partitions partition)
+
   abbrev pub EndsRead : {O : Type 0} → Language R K S O → List (List R) → Result Unit CoreFault → Type 0
   EndsRead lang partitions (Ok u) = ReadsNext lang partitions
   EndsRead lang partitions (Err NoSuchTask) = ¬ IsSource graph task × (k ≡ h)
   EndsRead lang partitions (Err NotReady) = (partition offset : ℕ) × (slice_get graph.tasks task ≡ Some (role.Source partition)) × (slice_get h.tasks task ≡ Some (holds.Source offset)) × (length (records_at partitions partition) ≤ offset) × (k ≡ h)
-  EndsRead lang partitions (Err Memory) = k ≡ h
-  EndsRead lang partitions (Err Device) = IsSource graph task
+  EndsRead lang partitions (Err Memory) = HasNext partitions × (k ≡ h)
+  EndsRead lang partitions (Err Device) = HasNext partitions
   EndsRead lang partitions (Err other) = ⊥
 
   -- a source copies its offset and sends the barrier
@@ -149,8 +170,8 @@ module _ {R K S : Type 0} (graph : Expanded) (task : ℕ) (h k : Held R K S) whe
   EndsInject (Ok u) = (checkpoint offset : ℕ) × IsSource graph task × (h.coordination.pending ≡ Some checkpoint) × (copy_at h task ≡ None) × (slice_get h.tasks task ≡ Some (holds.Source offset)) × CopiesSource graph task offset checkpoint h k
   EndsInject (Err NoSuchTask) = ¬ IsSource graph task × (k ≡ h)
   EndsInject (Err NoCheckpoint) = IsSource graph task × (h.coordination.pending ≡ None) × (k ≡ h)
-  EndsInject (Err NotReady) = IsSource graph task × (copy_at h task ≢ None) × (k ≡ h)
-  EndsInject (Err Memory) = k ≡ h
+  EndsInject (Err NotReady) = IsSource graph task × (h.coordination.pending ≢ None) × (copy_at h task ≢ None) × (k ≡ h)
+  EndsInject (Err Memory) = IsSource graph task × (h.coordination.pending ≢ None) × (copy_at h task ≡ None) × (k ≡ h)
   EndsInject (Err other) = ⊥
 
   -- the task's input is this channel
@@ -169,12 +190,13 @@ module _ {R K S : Type 0} (graph : Expanded) (task : ℕ) (h k : Held R K S) whe
     EndsOperate lang operator (Ok u) = OperatesNext lang operator
     EndsOperate lang operator (Err ChannelBlocked) = IsBlocked task input h × (k ≡ h)
     EndsOperate lang operator (Err NotReady) = ¬ IsBlocked task input h × NoRecord h channel × (k ≡ h)
-    EndsOperate lang operator (Err Memory) = k ≡ h
+    EndsOperate lang operator (Err Memory) = (row : R) × IsRecordDue task input h channel row × (k ≡ h)
     EndsOperate lang operator (Err other) = ⊥
 
     -- an operator that copies takes the barrier, copies its map, and sends the barrier
     pub record CopiesMap (effect : Effect) : Type 0 where
       pub checkpoint : ℕ
+      pub free : ¬ IsBlocked task input h
       pub barrier : IsBarrierNext h channel checkpoint
       pub brings : effect ≡ effect_of (gate_at h task) input
       pub copies : is_copy effect ≡ true
@@ -185,11 +207,12 @@ module _ {R K S : Type 0} (graph : Expanded) (task : ℕ) (h k : Held R K S) whe
     EndsOperatorBarrier (Ok effect) = NotesBarrier task input h k channel effect ⊎ CopiesMap effect
     EndsOperatorBarrier (Err ChannelBlocked) = IsBlocked task input h × (k ≡ h)
     EndsOperatorBarrier (Err NotReady) = ¬ IsBlocked task input h × ((checkpoint : ℕ) → ¬ IsBarrierNext h channel checkpoint) × (k ≡ h)
-    EndsOperatorBarrier (Err Memory) = k ≡ h
+    EndsOperatorBarrier (Err Memory) = (checkpoint : ℕ) × IsBarrierDue task input h channel checkpoint × (k ≡ h)
     EndsOperatorBarrier (Err other) = ⊥
 
   -- the task's part can be put: it has copied, its logs are closed, and it has not acknowledged
   pub record IsPersistNext (checkpoint : ℕ) (p : Part R K S) : Type 0 where
+    pub is_task : IsTask graph task
     pub pending : h.coordination.pending ≡ Some checkpoint
     pub copied : copy_at h task ≡ Some p
     pub closed : (gate_at h task).phase ≡ AtRest
@@ -201,8 +224,8 @@ module _ {R K S : Type 0} (graph : Expanded) (task : ℕ) (h k : Held R K S) whe
     EndsPersist spelling (Ok u) = (checkpoint : ℕ) × (p : Part R K S) × IsPersistNext checkpoint p × (new ≡ with_part old checkpoint task (spelling (with_logs (logs_of graph h task) p))) × (k ≡ with_acknowledged task h)
     EndsPersist spelling (Err NoSuchTask) = ¬ IsTask graph task × (k ≡ h) × (new ≡ old)
     EndsPersist spelling (Err NoCheckpoint) = IsTask graph task × (h.coordination.pending ≡ None) × (k ≡ h) × (new ≡ old)
-    EndsPersist spelling (Err NotReady) = IsTask graph task × (((copy_at h task ≡ None) ⊎ ((gate_at h task).phase ≢ AtRest)) ⊎ (has_acked h.coordination task ≡ true)) × (k ≡ h) × (new ≡ old)
-    EndsPersist spelling (Err Memory) = (k ≡ h) × (new ≡ old)
+    EndsPersist spelling (Err NotReady) = IsTask graph task × (h.coordination.pending ≢ None) × (((copy_at h task ≡ None) ⊎ ((gate_at h task).phase ≢ AtRest)) ⊎ (has_acked h.coordination task ≡ true)) × (k ≡ h) × (new ≡ old)
+    EndsPersist spelling (Err Memory) = (checkpoint : ℕ) × (p : Part R K S) × IsPersistNext checkpoint p × (k ≡ h) × (new ≡ old)
     EndsPersist spelling (Err Device) = (checkpoint : ℕ) × (p : Part R K S) × IsPersistNext checkpoint p × ((new ≡ old) ⊎ (new ≡ with_part old checkpoint task (spelling (with_logs (logs_of graph h task) p))))
     EndsPersist spelling (Err other) = ⊥
 

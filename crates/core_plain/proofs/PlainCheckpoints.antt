@@ -28,8 +28,8 @@ module _ {R K S O : Type 0} (lang : Language R K S O) (s : State O R K S) (h k :
   plain_persist task spelling (Ok u) ends = stored_stays (ap (bare_of lang s) ends.4)
   plain_persist task spelling (Err NoSuchTask) ends = stored_stays (ap (bare_of lang s) ends.1)
   plain_persist task spelling (Err NoCheckpoint) ends = stored_stays (ap (bare_of lang s) ends.2)
-  plain_persist task spelling (Err NotReady) ends = stored_stays (ap (bare_of lang s) ends.2)
-  plain_persist task spelling (Err Memory) ends = stored_stays (ap (bare_of lang s) ends.0)
+  plain_persist task spelling (Err NotReady) ends = stored_stays (ap (bare_of lang s) ends.3)
+  plain_persist task spelling (Err Memory) ends = stored_stays (ap (bare_of lang s) ends.3)
   plain_persist task spelling (Err Device) ends = λ at stands. tt
   plain_persist task spelling (Err other) ends = absurd ends
 

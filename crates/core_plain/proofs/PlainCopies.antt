@@ -47,8 +47,8 @@ module _ {R K S O : Type 0} (lang : Language R K S O) (RecordFits : R → Type 0
       (same_ledger lang s s.ledger refl)
   plain_inject (Err NoSuchTask) ends = stays_refused lang s h was k s.stored s.ledger n ends.1 refl
   plain_inject (Err NoCheckpoint) ends = stays_refused lang s h was k s.stored s.ledger n ends.2 refl
-  plain_inject (Err NotReady) ends = stays_refused lang s h was k s.stored s.ledger n ends.2 refl
-  plain_inject (Err Memory) ends = stays_refused lang s h was k s.stored s.ledger n ends refl
+  plain_inject (Err NotReady) ends = stays_refused lang s h was k s.stored s.ledger n ends.3 refl
+  plain_inject (Err Memory) ends = stays_refused lang s h was k s.stored s.ledger n ends.3 refl
   plain_inject (Err other) ends = absurd ends
 
   -- ---- a task that takes a barrier
@@ -86,7 +86,7 @@ module _ {R K S O : Type 0} (lang : Language R K S O) (RecordFits : R → Type 0
     plain_operator_barrier (Ok effect) (inr ends) = stays_by lang s h was k s.stored s.ledger n (map_leaves effect ends) (same_ledger lang s s.ledger refl)
     plain_operator_barrier (Err ChannelBlocked) ends = stays_refused lang s h was k s.stored s.ledger n ends.1 refl
     plain_operator_barrier (Err NotReady) ends = stays_refused lang s h was k s.stored s.ledger n ends.2 refl
-    plain_operator_barrier (Err Memory) ends = stays_refused lang s h was k s.stored s.ledger n ends refl
+    plain_operator_barrier (Err Memory) ends = stays_refused lang s h was k s.stored s.ledger n ends.2 refl
     plain_operator_barrier (Err other) ends = absurd ends
 
   -- ---- a sink
@@ -126,6 +126,6 @@ module _ {R K S O : Type 0} (lang : Language R K S O) (RecordFits : R → Type 0
     plain_sink_barrier (Ok effect) (inr ends) = stays_by lang s h was k s.stored ledger n (sink_leaves effect ends) (sinks_stay effect ends)
     plain_sink_barrier (Err ChannelBlocked) ends = stays_refused lang s h was k s.stored ledger n ends.1 ends.2
     plain_sink_barrier (Err NotReady) ends = stays_refused lang s h was k s.stored ledger n ends.2 ends.3
-    plain_sink_barrier (Err Memory) ends = stays_refused lang s h was k s.stored ledger n ends.0 ends.1
+    plain_sink_barrier (Err Memory) ends = stays_refused lang s h was k s.stored ledger n ends.2 ends.3
     plain_sink_barrier (Err Device) ends = λ at stands. tt
     plain_sink_barrier (Err other) ends = absurd ends

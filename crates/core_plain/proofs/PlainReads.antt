@@ -47,6 +47,6 @@ module _ {R K S O : Type 0} (lang : Language R K S O) (s : State O R K S) (h k :
         (λ sink. absurd (no_sink ends.partition ends.is_source sink)) refl
     plain_read (Err NoSuchTask) ends = stays_refused lang s h was k s.stored s.ledger n ends.1 refl
     plain_read (Err NotReady) ends = stays_refused lang s h was k s.stored s.ledger n ends.5 refl
-    plain_read (Err Memory) ends = stays_refused lang s h was k s.stored s.ledger n ends refl
+    plain_read (Err Memory) ends = stays_refused lang s h was k s.stored s.ledger n ends.1 refl
     plain_read (Err Device) ends = λ at stands. tt
     plain_read (Err other) ends = absurd ends

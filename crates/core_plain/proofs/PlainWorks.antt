@@ -68,7 +68,7 @@ module _ {R K S O : Type 0} (lang : Language R K S O) (RecordFits : R → Type 0
       (operate_moves ends) (λ sink. absurd (no_sink sink)) refl
   plain_operate (Err ChannelBlocked) ends = stays_refused lang s h was k s.stored s.ledger n ends.1 refl
   plain_operate (Err NotReady) ends = stays_refused lang s h was k s.stored s.ledger n ends.2 refl
-  plain_operate (Err Memory) ends = stays_refused lang s h was k s.stored s.ledger n ends refl
+  plain_operate (Err Memory) ends = stays_refused lang s h was k s.stored s.ledger n ends.2 refl
   plain_operate (Err other) ends = absurd ends
 
 -- ---- a sink
@@ -123,6 +123,6 @@ module _ {R K S O : Type 0} (lang : Language R K S O) (RecordFits : R → Type 0
   plain_put_out (Ok u) ends = puts_out ends
   plain_put_out (Err ChannelBlocked) ends = stays_refused lang s h was k s.stored ledger n ends.1 ends.2
   plain_put_out (Err NotReady) ends = stays_refused lang s h was k s.stored ledger n ends.2 ends.3
-  plain_put_out (Err Memory) ends = stays_refused lang s h was k s.stored ledger n ends.0 ends.1
+  plain_put_out (Err Memory) ends = stays_refused lang s h was k s.stored ledger n ends.2 ends.3
   plain_put_out (Err Device) ends = λ at stands. tt
   plain_put_out (Err other) ends = absurd ends

@@ -18,6 +18,9 @@ use std::alloc::Global;
 /// No number is given out from here on.
 const NUMBERS_END: u64 = 1 << 63;
 
+/// A longer part counts as want of memory.
+const LONGEST_PART: usize = u32::MAX as usize;
+
 /// A snapshot store in memory.
 #[derive(Drop)]
 pub struct MemoryStore {
@@ -105,6 +108,9 @@ impl SnapshotStore for MemoryStore {
         }
         if self.parts.has(number, task) {
             return Err(StoreFault::AlreadyPut);
+        }
+        if bytes.len() > LONGEST_PART {
+            return Err(StoreFault::Memory);
         }
         let part = Bytes::from_slice(self.alloc, bytes)?;
         self.numbers.note(number)?;

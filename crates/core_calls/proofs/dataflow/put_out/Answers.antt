@@ -28,4 +28,4 @@ unlog-requires g c =
 pub returns-in-Err-Memory-clause-ends : goal.returns-in-Err-Memory-clause-ends
 returns-in-Err-Memory-clause-ends g c =
     let row = c.in_ok-first_record.field-0.now in
-    (c.unlog.ensures c.args.attempt.now row (c.in_ok-log_head.ensures.ok row c.in_ok-first_record.ensures.ok.1), memory_leaves _ _ _ _ c.in-Err-Memory.field-0 c.in-Err-Memory.field-0-is c.in-Err-Memory.ensures.ends)
+    (row, c.in_ok-first_record.ensures.ok, c.unlog.ensures c.args.attempt.now row (c.in_ok-log_head.ensures.ok row c.in_ok-first_record.ensures.ok.1), memory_leaves _ _ _ _ c.in-Err-Memory.field-0 c.in-Err-Memory.field-0-is c.in-Err-Memory.ensures.ends)
