@@ -236,7 +236,7 @@ fn are_same(mut lines: Vec<String>, others: Vec<String>) -> bool {
     lines.is_empty()
 }
 
-/// The engine makes the run's first steps, fails, starts again and goes on to the end.
+/// The engine makes the run's first steps, fails, starts again and goes on to the end. A run that fails by its own steps fails twice then.
 fn interrupted(alloc: Global, run: &Run, count: usize) -> Result<RowCore, Fail> {
     let spec = JobSpec::read(alloc, run.job.as_bytes())?;
     let graph = Graph::expand(alloc, &spec)?;
@@ -247,7 +247,7 @@ fn interrupted(alloc: Global, run: &Run, count: usize) -> Result<RowCore, Fail> 
     for step in run.steps.split("; ").take(count) {
         make(alloc, &mut core, step)?;
     }
-    // A core that failed by its steps is down already.
+    // Refused where the run's last step was a failure.
     let _ = core.fail();
     core.restart()?;
     to_rest(&mut core, &graph)?;

@@ -2,11 +2,12 @@
 
 use crate::commands::LINE;
 use crate::cores::{Log, Sinks, Store, append, open_over, running};
-use crate::lists::store_of_lists;
+use crate::lists::{LAST_NUMBER, almost_spent, store_of_lists};
 use abs_codec::{Bytes, Map};
-use commit_sink::{Progress, Transactions};
+use commit_sink::{FlakyTransactions, MemoryTransactions, Progress, Transactions};
 use dataflow_core::CoreFault;
 use snapshot_store::{FlakyStore, MemoryStore, SnapshotStore};
+use source_log::{FlakyLog, MemoryLog};
 use std::alloc::Global;
 use std::process::Abort;
 use std::test::Fail;
@@ -153,5 +154,22 @@ fn used_devices_are_told_in_lists(rt: HostRuntime) -> Result<(), Fail> {
     assert_eq!(&rt; sinks.transaction_at(1).map(|t| t.1), Some(Progress::Open));
     assert!(&rt; sinks.transaction_at(2).is_none());
     assert_eq!(&rt; sinks.committed_at(0), None);
+    Ok(())
+}
+
+/// The job runs on without checkpoints.
+#[test]
+fn no_checkpoint_begins_without_a_number(rt: HostRuntime) -> Result<(), Fail> {
+    let alloc = rt.alloc();
+    let log = FlakyLog::new(MemoryLog::new(alloc, 1)?);
+    let store = FlakyStore::new(almost_spent(alloc)?);
+    let sinks = FlakyTransactions::new(MemoryTransactions::new(alloc, 1));
+    let mut core = open_over(alloc, LINE, log, store, sinks)?;
+    core.restart()?;
+    assert_eq!(&rt; core.trigger(), Ok(LAST_NUMBER));
+    core.fail()?;
+    assert_eq!(&rt; core.restart(), Ok(None));
+    assert_eq!(&rt; core.trigger(), Err(CoreFault::NumbersSpent));
+    assert_eq!(&rt; core.read(0), Err(CoreFault::NotReady));
     Ok(())
 }

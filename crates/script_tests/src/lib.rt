@@ -1,6 +1,6 @@
-//! Tests of scripts and of job files, as the program runs and judges them: values worked out by hand, the texts of answers and refusals, and the
-//! order of refusals; parts of checkpoints byte by byte; every call of a device that fails; cores over devices that were used before; devices that
-//! lists make; and failures at any place of a run, compared with the plain slow program.
+//! Tests of scripts and of job files, as the program runs and judges them: values worked out by hand, the texts of answers, refusals and faults, and
+//! the order of refusals; graphs as jobs expand to them; lists of calls; parts of checkpoints byte by byte; every call of a device that fails; cores
+//! over devices that were used before; devices that lists make; and failures at any place of a run, compared with the plain slow program.
 #![tactic(auto)]
 
 #[cfg(test)]

@@ -4,15 +4,9 @@ ghost use Rattle.std.specs.Prelude.{◌≡◌, [], ◌∷◌, IfOk};
 ghost use Rattle.std.specs.List.{All};
 ghost use Rattle.snapshot_store.specs.Lists.{MayBePut};
 
-use crate::commands::LINE;
-use crate::cores::open_over;
 use abs_codec::{Bytes, Items, Map};
-use commit_sink::{
-    Entry, FlakyTransactions, MemoryTransactions, Progress, TransactionFault, Transactions,
-};
-use dataflow_core::CoreFault;
-use snapshot_store::{FlakyStore, MemoryStore, SnapshotStore, StoreFault};
-use source_log::{FlakyLog, MemoryLog};
+use commit_sink::{Entry, MemoryTransactions, Progress, TransactionFault, Transactions};
+use snapshot_store::{MemoryStore, SnapshotStore, StoreFault};
 use std::alloc::Global;
 use std::test::Fail;
 
@@ -83,10 +77,10 @@ fn lists_make_transactions(rt: HostRuntime) -> Result<(), Fail> {
 }
 
 /// The last number that a store gives out.
-const LAST_NUMBER: u64 = (1 << 63) - 1;
+pub(crate) const LAST_NUMBER: u64 = (1 << 63) - 1;
 
 /// A store of three tasks that has the last number left.
-fn almost_spent(alloc: Global) -> Result<MemoryStore, Fail> {
+pub(crate) fn almost_spent(alloc: Global) -> Result<MemoryStore, Fail> {
     let (completes, parts) = (Items::new(alloc), Map::new(alloc));
     Ok(MemoryStore::from_lists(alloc, 3, LAST_NUMBER, completes, parts)?)
 }
@@ -96,22 +90,5 @@ fn the_last_number_is_given_out_once(rt: HostRuntime) -> Result<(), Fail> {
     let mut store = almost_spent(rt.alloc())?;
     assert_eq!(&rt; store.reserve(), Ok(LAST_NUMBER));
     assert_eq!(&rt; store.reserve(), Err(StoreFault::NumberFull));
-    Ok(())
-}
-
-/// The job runs on without checkpoints.
-#[test]
-fn no_checkpoint_begins_without_a_number(rt: HostRuntime) -> Result<(), Fail> {
-    let alloc = rt.alloc();
-    let log = FlakyLog::new(MemoryLog::new(alloc, 1)?);
-    let store = FlakyStore::new(almost_spent(alloc)?);
-    let sinks = FlakyTransactions::new(MemoryTransactions::new(alloc, 1));
-    let mut core = open_over(alloc, LINE, log, store, sinks)?;
-    core.restart()?;
-    assert_eq!(&rt; core.trigger(), Ok(LAST_NUMBER));
-    core.fail()?;
-    assert_eq!(&rt; core.restart(), Ok(None));
-    assert_eq!(&rt; core.trigger(), Err(CoreFault::NumbersSpent));
-    assert_eq!(&rt; core.read(0), Err(CoreFault::NotReady));
     Ok(())
 }

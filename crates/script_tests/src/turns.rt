@@ -16,15 +16,8 @@ const NUMBERS: [Result<u64, StoreFault>; 6] = [
     Ok(4),
 ];
 
-/// What the calls of the transactions come to, in the same way.
-const TRANSACTIONS: [Result<u64, TransactionFault>; 6] = [
-    Ok(1),
-    Err(TransactionFault::Fault),
-    Ok(2),
-    Err(TransactionFault::Fault),
-    Ok(3),
-    Ok(4),
-];
+/// Which of six calls fail.
+const FAILS: [bool; 6] = [false, true, false, true, false, false];
 
 #[test]
 fn each_second_call_of_a_store_fails(rt: HostRuntime) {
@@ -36,25 +29,26 @@ fn each_second_call_of_a_store_fails(rt: HostRuntime) {
     assert_eq!(&rt; store.faults(), 2);
 }
 
-/// Calls of one kind and of another count together.
 #[test]
 fn each_second_call_of_transactions_fails(rt: HostRuntime) {
     let mut sinks = FlakyTransactions::new(MemoryTransactions::new(rt.alloc(), 1));
     sinks.every(2, 4);
-    for wanted in TRANSACTIONS {
-        assert_eq!(&rt; sinks.begin(0), wanted);
+    for fails in FAILS {
+        let fault = if fails {
+            TransactionFault::Fault
+        } else {
+            TransactionFault::NoSuchTransaction
+        };
+        assert_eq!(&rt; sinks.commit(1), Err(fault));
     }
     assert_eq!(&rt; sinks.faults(), 2);
-    sinks.every(2, 8);
-    assert!(&rt; sinks.unsettled(0).is_ok());
-    assert_eq!(&rt; sinks.begin(0), Err(TransactionFault::Fault));
 }
 
 #[test]
 fn each_second_call_of_a_log_fails(rt: HostRuntime) -> Result<(), Fail> {
     let mut log = FlakyLog::new(MemoryLog::<Row>::new(rt.alloc(), 1)?);
     log.every(2, 4);
-    for fails in [false, true, false, true, false, false] {
+    for fails in FAILS {
         assert_eq!(&rt; log.read(0, 0).err(), fails.then_some(SourceFault::Fault));
     }
     assert_eq!(&rt; log.faults(), 2);

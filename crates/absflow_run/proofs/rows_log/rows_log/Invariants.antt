@@ -1,5 +1,4 @@
 use Rattle.std.proofs.Common.{◌≡◌, ◌++◌, map, length}
-use Rattle.source_log.specs.MemoryLog.{lists_of}
 use Rattle.absflow_run.proofs.Rows.{AreDone}
 use Rattle.absflow_run.proofs.rows_log.rows_log.Given as goal
 
@@ -9,4 +8,4 @@ invariant-loop-partition l =
     (l.partition-iterator.a.start ≡ length l.yielded)
     × (l.partition-iterator.a.end ≡ l.count)
     × (map (λ e. e.1) l.yielded ++ l.partition-iterator.b.rest.items ≡ l.fn.partitions.items)
-    × AreDone (λ rows. rows.items) l.yielded l.count (lists_of l.log.partitions.items)
+    × AreDone (λ rows. rows.items) l.yielded l.count l.log.rows
