@@ -1,9 +1,8 @@
-use Rattle.std.proofs.Common.{sym, ◌∙◌, subst, ⊎_elim}
+use Rattle.std.proofs.Common.{ap, sym, ◌∙◌, subst, ⊎_elim}
 use Rattle.std.specs.Prelude.{IsSome, is_some}
 use Rattle.std.specs.Map.{lookup}
 use Rattle.std.specs.BTreeMap.{is_at}
 use Rattle.std.specs.Map.Iter.{deref_pair}
-use Rattle.std.proofs.Common.{ap}
 use Rattle.std.proofs.lemmas.Map.Iter.{rest_all}
 use Rattle.snapshot_store.specs.Store.{key_cmp}
 use Rattle.snapshot_store.proofs.Held.{get-parts_of}
