@@ -1,21 +1,21 @@
 //! What a step came to, as its answer line says it.
 
+ghost use Rattle.std.specs.Prelude.{IfOk};
+ghost use Rattle.abs_codec.specs.Spelling.{Fits};
+ghost use Rattle.dataflow_core.specs.Steps.{StepFits};
+
 use crate::opening::RowCore;
+use abs_codec::Codec;
 use alignment::Effect;
-use dataflow_core::{CoreFault, DeviceCall};
+use dataflow_core::{DeviceCall, Reply, Step as CoreStep};
+use fault_plan::When;
+use operators::Row;
 use script_file::{FaultCall, Step};
-use source_log::SourceFault;
 use std::fmt;
 
 /// The answer to a step. Its text is what follows the step's number on the answer line.
 #[derive(Clone, Copy, Debug, PartialEq, Eq)]
-pub enum Answer {
-    Accepted,
-    Number(u64),
-    Barrier(Effect),
-    Refused(CoreFault),
-    Source(SourceFault),
-}
+pub struct Answer(pub Reply);
 
 fn word_of(effect: Effect) -> &'static str {
     match effect {
@@ -29,61 +29,15 @@ fn word_of(effect: Effect) -> &'static str {
 
 impl fmt::Display for Answer {
     fn fmt<W: fmt::Write>(&self, f: &mut fmt::Formatter<W>) -> fmt::Result {
-        match *self {
-            Answer::Accepted => write!(f, "ok"),
-            Answer::Number(number) => write!(f, "ok {number}"),
-            Answer::Barrier(effect) => {
+        match self.0 {
+            Reply::Accepted => write!(f, "ok"),
+            Reply::Number(number) => write!(f, "ok {number}"),
+            Reply::Barrier(effect) => {
                 let word = word_of(effect);
                 write!(f, "ok {word}")
             }
-            Answer::Refused(fault) => write!(f, "{fault}"),
-            Answer::Source(fault) => write!(f, "{fault}"),
-        }
-    }
-}
-
-impl From<Result<(), CoreFault>> for Answer {
-    fn from(outcome: Result<(), CoreFault>) -> Answer {
-        match outcome {
-            Ok(()) => Answer::Accepted,
-            Err(fault) => Answer::Refused(fault),
-        }
-    }
-}
-
-impl From<Result<u64, CoreFault>> for Answer {
-    fn from(outcome: Result<u64, CoreFault>) -> Answer {
-        match outcome {
-            Ok(number) => Answer::Number(number),
-            Err(fault) => Answer::Refused(fault),
-        }
-    }
-}
-
-/// The number that a restart goes on from, 0 for none.
-impl From<Result<Option<u64>, CoreFault>> for Answer {
-    fn from(outcome: Result<Option<u64>, CoreFault>) -> Answer {
-        match outcome {
-            Ok(number) => Answer::Number(number.unwrap_or(0)),
-            Err(fault) => Answer::Refused(fault),
-        }
-    }
-}
-
-impl From<Result<Effect, CoreFault>> for Answer {
-    fn from(outcome: Result<Effect, CoreFault>) -> Answer {
-        match outcome {
-            Ok(effect) => Answer::Barrier(effect),
-            Err(fault) => Answer::Refused(fault),
-        }
-    }
-}
-
-impl From<Result<(), SourceFault>> for Answer {
-    fn from(outcome: Result<(), SourceFault>) -> Answer {
-        match outcome {
-            Ok(()) => Answer::Accepted,
-            Err(fault) => Answer::Source(fault),
+            Reply::Refused(fault) => write!(f, "{fault}"),
+            Reply::Source(fault) => write!(f, "{fault}"),
         }
     }
 }
@@ -96,23 +50,33 @@ fn device_call(call: FaultCall) -> DeviceCall {
     }
 }
 
-/// Makes a step: the call of its name.
+/// The core's call of a step's name, or the device's call that is to fail.
+fn call_of(step: Step) -> Result<CoreStep<Row>, (FaultCall, When)>
+    ensures { IfOk result (StepFits (Fits ⟦<Row as Codec>⟧.HasSpelling ⟦<Row as Codec>⟧.spelling)) }
+{
+    Ok(match step {
+        Step::Read(task) => CoreStep::Read(task),
+        Step::Work(task, input) => CoreStep::Work(task, input),
+        Step::Barrier(task, input) => CoreStep::Barrier(task, input),
+        Step::Trigger => CoreStep::Trigger,
+        Step::Inject(task) => CoreStep::Inject(task),
+        Step::Persist(task) => CoreStep::Persist(task),
+        Step::Complete => CoreStep::Complete,
+        Step::Commit(sink) => CoreStep::Commit(sink),
+        Step::Fail => CoreStep::Fail,
+        Step::Restart => CoreStep::Restart,
+        Step::Append(partition, row) => CoreStep::Append(partition, row.into_row()),
+        Step::Fault(call, when) => return Err((call, when)),
+    })
+}
+
+/// Makes a step: the core's call of its name, or a device's call is made to fail.
 pub fn make_step(core: &mut RowCore, step: Step) -> Answer {
-    match step {
-        Step::Read(task) => core.read(task).into(),
-        Step::Work(task, input) => core.work(task, input).into(),
-        Step::Barrier(task, input) => core.take_barrier(task, input).into(),
-        Step::Trigger => core.trigger().into(),
-        Step::Inject(task) => core.inject(task).into(),
-        Step::Persist(task) => core.persist(task).into(),
-        Step::Complete => core.complete().into(),
-        Step::Commit(sink) => core.commit(sink).into(),
-        Step::Fail => core.fail().into(),
-        Step::Restart => core.restart().into(),
-        Step::Append(partition, row) => core.append(partition, row.into_row()).into(),
-        Step::Fault(call, when) => {
+    match call_of(step) {
+        Ok(call) => Answer(core.step(&call)),
+        Err((call, when)) => {
             core.arm(device_call(call), when);
-            Answer::Accepted
+            Answer(Reply::Accepted)
         }
     }
 }

@@ -9,9 +9,10 @@ use Rattle.commit_sink.specs.declared.transactions.Progress.TheVariants.{Aborted
 use Rattle.commit_sink.specs.declared.share.Share.{Share}
 use Rattle.commit_sink.specs.Ledger.{Ledger, Transaction, IsOrdered, transaction_at, transaction_in}
 use Rattle.commit_sink.specs.Roomy.{WithRoom}
-use Rattle.commit_sink.specs.Shares.{IsKept, IsShare, is_unsettled, is_unsettled_of, ledger_of, pending_rows, share_at, with_place}
+use Rattle.commit_sink.specs.Shares.{IsKept, IsShare, is_unsettled, is_unsettled_of, ledger_of, pending_rows, share_at, with_number, with_place}
 use Rattle.commit_sink.proofs.Kept.{one}
 use Rattle.commit_sink.proofs.Replaced.{KeepsCommitted, committed_one, at_place, in_range, share-kept, transaction_in-other}
+use Rattle.commit_sink.proofs.Unsettled.{numbers-begun, numbers-begun_other}
 
 abbrev pub opened : ℕ → Transaction
 opened s = record { subtask = s; progress = Open; records = [] }
@@ -82,7 +83,7 @@ ordered-begun l s within few o = record {
   numbers = subst (λ k. k < 2 ^ 64) (sym (length-append l.transactions (opened s ∷ []))) few;
 }
 
-own_begun : (l : Ledger) (s : ℕ) → IsOrdered l → (share : Share) → IsShare l s share → IsShare (ledger_of l.subtasks (l.transactions ++ opened s ∷ []) l.committed) s (with_place share)
+own_begun : (l : Ledger) (s : ℕ) → IsOrdered l → (share : Share) → IsShare l s share → IsShare (ledger_of l.subtasks (l.transactions ++ opened s ∷ []) l.committed) s (with_place share (length l.transactions + 1))
 own_begun l s o share i =
     let itself : is_unsettled_of s (opened s) ≡ true = ap (λ b. b && true) (eq-eqb s s refl) in
     let count = count-begun (λ x. cond (is_unsettled_of s x) 1 0) l.transactions s in
@@ -91,8 +92,9 @@ own_begun l s o share i =
     let none : pending_rows s (opened s) ≡ 0 = ap (λ b. cond b 0 0) itself in
     let room_was = i.room in
     let pending_was = i.pending in
-    share-kept l (l.transactions ++ opened s ∷ []) o (keeps-begun l s) s share i (share.ends.promised + 1) share.pending
+    share-kept l (l.transactions ++ opened s ∷ []) o (keeps-begun l s) s share i (share.ends.promised + 1) share.pending (with_number share.unsettled (length l.transactions + 1))
     (omega (arith, count, more, room_was)) (omega (arith, rows, none, pending_was)) i.total
+    (numbers-begun s l.transactions (opened s) share.unsettled.keys itself i.unsettled)
 
 other_begun : (l : Ledger) (s r : ℕ) → r ≢ s → IsOrdered l → (share : Share) → IsShare l r share → IsShare (ledger_of l.subtasks (l.transactions ++ opened s ∷ []) l.committed) r share
 other_begun l s r other o share i =
@@ -103,12 +105,13 @@ other_begun l s r other o share i =
     let none : pending_rows r (opened s) ≡ 0 = ap (λ b. cond b 0 0) another in
     let room_was = i.room in
     let pending_was = i.pending in
-    share-kept l (l.transactions ++ opened s ∷ []) o (keeps-begun l s) r share i share.ends.promised share.pending
+    share-kept l (l.transactions ++ opened s ∷ []) o (keeps-begun l s) r share i share.ends.promised share.pending share.unsettled
     (omega (arith, count, more, room_was)) (omega (arith, rows, none, pending_was)) i.total
+    (numbers-begun_other r l.transactions (opened s) share.unsettled.keys another i.unsettled)
 
 pub kept-begun : (st : ℕ) (ts : List Transaction) (c : WithRoom ℕ) (shares shares' : List Share) (s : ℕ)
     → IsKept st ts c shares → s < st → length ts + 1 < 2 ^ 64
-    → share_at shares' s ≡ with_place (share_at shares s)
+    → share_at shares' s ≡ with_place (share_at shares s) (length ts + 1)
     → ((r : ℕ) → r ≢ s → share_at shares' r ≡ share_at shares r)
     → IsKept st (ts ++ opened s ∷ []) (record { items = c.items; promised = c.promised + 1 }) shares'
 kept-begun st ts c shares shares' s k within few here others = record {
@@ -141,6 +144,7 @@ kept-new st = record {
     room = omega arith;
     pending = refl;
     total = lit< tt;
+    unsettled = refl;
   };
 }
   where

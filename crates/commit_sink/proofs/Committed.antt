@@ -20,6 +20,7 @@ use Rattle.commit_sink.proofs.Counted.{count_of, count_of-cons, sum_by-changed, 
 use Rattle.commit_sink.proofs.Ends.{rows_of-more}
 use Rattle.commit_sink.proofs.Kept.{of_another, of_itself, one}
 use Rattle.commit_sink.proofs.Replaced.{committed_one, committed_rows-kept, filter-kept, in_range, is_committed-other, keeps-replaced, of_one, records_one, rows-kept, slice_get-replaced, transaction_in-set_same}
+use Rattle.commit_sink.proofs.Unsettled.{numbers-gone, numbers-same}
 
 abbrev pub done : Transaction → Transaction
 done t = record t { progress = Committed }
@@ -159,6 +160,7 @@ own_committed l n t is unsettled before o share i =
       room = omega (arith, count, count_was, count_now, room_was);
       pending = omega (arith, rows, rows_was, rows_now, pending_was);
       total = omega (arith, joined, total_was, pending_one, rows_was, pending_was);
+      unsettled = numbers-gone t.subtask n l.transactions t (done t) share.unsettled.keys is was now i.unsettled;
     }
 
 other_committed : (l : Ledger) (n : ℕ) (t : Transaction) (s : ℕ) → transaction_at l n ≡ Some t → has_committed t.progress ≡ false → IsOrdered l → s ≢ t.subtask → (share : Share) → IsShare l s share
@@ -183,6 +185,7 @@ other_committed l n t s is before o other share i =
       room = omega (arith, count, count_was, count_now, room_was);
       pending = omega (arith, rows, rows_was, rows_now, pending_was);
       total = subst (λ xs. length xs + share.pending < 2 ^ 64) (sym joined) i.total;
+      unsettled = numbers-same s n l.transactions t (done t) share.unsettled.keys is (now ∙ sym was) i.unsettled;
     }
 
 pre_committed_ones : (p : Progress) (c : ℕ) → p ≡ PreCommitted c → (has_unsettled p ≡ true) × (has_committed p ≡ false)

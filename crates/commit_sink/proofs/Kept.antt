@@ -1,13 +1,15 @@
 -- Each call leaves what is kept.
-use Rattle.std.proofs.Common.{◌≡◌, ◌≢◌, ◌<◌, ◌≤◌, ◌+◌, ◌-◌, ◌^◌, ◌&&◌, ℕ, Bool, true, false, cond, List, length, slice_get, slice_set, Some, refl, sym, ap, ◌∙◌, subst, ⊎_elim, arith}
+use Rattle.std.proofs.Common.{◌≡◌, ◌≢◌, ◌<◌, ◌≤◌, ◌+◌, ◌-◌, ◌^◌, ◌&&◌, ℕ, Bool, true, false, cond, List, length, map, slice_get, slice_set, Some, refl, sym, ap, ◌∙◌, subst, ⊎_elim, arith}
 use Rattle.std.proofs.lemmas.Bool.{eq-eqb}
 use Rattle.std.proofs.lemmas.Bool.Decides.{eqb_tells}
+use Rattle.std.specs.BTreeSet.{BTreeSet}
 use Rattle.commit_sink.specs.declared.share.Share.{Share}
-use Rattle.commit_sink.specs.Ledger.{Ledger, Transaction, IsOrdered, committed_rows, transaction_in}
+use Rattle.commit_sink.specs.Ledger.{Ledger, Transaction, IsOrdered, committed_rows, transaction_in, unsettled_of}
 use Rattle.commit_sink.specs.Roomy.{WithRoom}
 use Rattle.commit_sink.specs.Shares.{IsKept, IsShare, is_unsettled, is_unsettled_of, ledger_of, pending_rows, share_at}
 use Rattle.commit_sink.proofs.Counted.{sum_by-changed, sum_by-one}
 use Rattle.commit_sink.proofs.Replaced.{Replaces, in_range, keeps-replaced, ordered-replaced, share-kept}
+use Rattle.commit_sink.proofs.Unsettled.{numbers-same}
 
 abbrev pub one : Bool → ℕ
 one b = cond b 1 0
@@ -21,12 +23,13 @@ of_another t s u other same_u = ⊎_elim
     (λ differs. ap (λ b. b && is_unsettled u) differs.0)
     (eqb_tells u.subtask s)
 
-own_share : (l : Ledger) (share : Share) (n : ℕ) (t u : Transaction) (p q : ℕ) → IsOrdered l → IsShare l t.subtask share → Replaces l.transactions n t u → is_unsettled t ≡ true
+own_share : (l : Ledger) (share : Share) (n : ℕ) (t u : Transaction) (p q : ℕ) (w : BTreeSet ℕ) → IsOrdered l → IsShare l t.subtask share → Replaces l.transactions n t u → is_unsettled t ≡ true
     → cond (is_unsettled u) 1 0 + share.ends.promised ≤ p + 1
     → q + length t.records ≡ share.pending + cond (is_unsettled u) (length u.records) 0
     → length (committed_rows l t.subtask) + q < 2 ^ 64
-    → IsShare (ledger_of l.subtasks (slice_set l.transactions (n - 1) u) l.committed) t.subtask (record { ends = record { items = share.ends.items; promised = p }; pending = q })
-own_share l share n t u p q o i r unsettled room pending total =
+    → w.keys ≡ map (λ e. e.0) (unsettled_of (ledger_of l.subtasks (slice_set l.transactions (n - 1) u) l.committed) t.subtask)
+    → IsShare (ledger_of l.subtasks (slice_set l.transactions (n - 1) u) l.committed) t.subtask (record { ends = record { items = share.ends.items; promised = p }; pending = q; unsettled = w })
+own_share l share n t u p q w o i r unsettled room pending total numbers =
     let at : slice_get l.transactions (n - 1) ≡ Some t = (in_range l.transactions n t r.is).1 in
     let was : is_unsettled_of t.subtask t ≡ true = of_itself t t.subtask t refl refl ∙ unsettled in
     let now : is_unsettled_of t.subtask u ≡ is_unsettled u = of_itself t t.subtask u refl r.subtask in
@@ -38,8 +41,8 @@ own_share l share n t u p q o i r unsettled room pending total =
     let rows_now : pending_rows t.subtask u ≡ cond (is_unsettled u) (length u.records) 0 = ap (λ b. cond b (length u.records) 0) now in
     let room_was = i.room in
     let pending_was = i.pending in
-    share-kept l (slice_set l.transactions (n - 1) u) o (keeps-replaced l n t u r.is r.old) t.subtask share i p q
-    (omega (arith, count, count_was, count_now, room_was, room)) (omega (arith, rows, rows_was, rows_now, pending_was, pending)) total
+    share-kept l (slice_set l.transactions (n - 1) u) o (keeps-replaced l n t u r.is r.old) t.subtask share i p q w
+    (omega (arith, count, count_was, count_now, room_was, room)) (omega (arith, rows, rows_was, rows_now, pending_was, pending)) total numbers
 
 pub other_share : (l : Ledger) (share : Share) (n : ℕ) (t u : Transaction) (s : ℕ) → s ≢ t.subtask → IsOrdered l → IsShare l s share → Replaces l.transactions n t u
     → IsShare (ledger_of l.subtasks (slice_set l.transactions (n - 1) u) l.committed) s share
@@ -55,20 +58,22 @@ other_share l share n t u s other o i r =
     let rows_now : pending_rows s u ≡ 0 = ap (λ b. cond b (length u.records) 0) now in
     let room_was = i.room in
     let pending_was = i.pending in
-    share-kept l (slice_set l.transactions (n - 1) u) o (keeps-replaced l n t u r.is r.old) s share i share.ends.promised share.pending
+    share-kept l (slice_set l.transactions (n - 1) u) o (keeps-replaced l n t u r.is r.old) s share i share.ends.promised share.pending share.unsettled
     (omega (arith, count, count_was, count_now, room_was)) (omega (arith, rows, rows_was, rows_now, pending_was)) i.total
+    (numbers-same s n l.transactions t u share.unsettled.keys r.is (now ∙ sym was) i.unsettled)
 
 -- One transaction is replaced, which is neither committed nor aborted.
-pub kept-replaced : (st : ℕ) (ts : List Transaction) (c : WithRoom ℕ) (shares shares' : List Share) (n : ℕ) (t u : Transaction) (p0 p q : ℕ)
+pub kept-replaced : (st : ℕ) (ts : List Transaction) (c : WithRoom ℕ) (shares shares' : List Share) (n : ℕ) (t u : Transaction) (p0 p q : ℕ) (w : BTreeSet ℕ)
     → IsKept st ts c shares → Replaces ts n t u → is_unsettled t ≡ true
     → cond (is_unsettled u) 1 0 + c.promised ≤ p0 + 1
     → cond (is_unsettled u) 1 0 + (share_at shares t.subtask).ends.promised ≤ p + 1
     → q + length t.records ≡ (share_at shares t.subtask).pending + cond (is_unsettled u) (length u.records) 0
     → length (committed_rows (ledger_of st ts c.items) t.subtask) + q < 2 ^ 64
-    → share_at shares' t.subtask ≡ record { ends = record { items = (share_at shares t.subtask).ends.items; promised = p }; pending = q }
+    → w.keys ≡ map (λ e. e.0) (unsettled_of (ledger_of st (slice_set ts (n - 1) u) c.items) t.subtask)
+    → share_at shares' t.subtask ≡ record { ends = record { items = (share_at shares t.subtask).ends.items; promised = p }; pending = q; unsettled = w }
     → ((s : ℕ) → s ≢ t.subtask → share_at shares' s ≡ share_at shares s)
     → IsKept st (slice_set ts (n - 1) u) (record { items = c.items; promised = p0 }) shares'
-kept-replaced st ts c shares shares' n t u p0 p q k r unsettled room0 room pending total here others = record {
+kept-replaced st ts c shares shares' n t u p0 p q w k r unsettled room0 room pending total numbers here others = record {
   ordered = ordered-replaced (ledger_of st ts c.items) n t u r k.ordered;
   room =
       let changed = sum_by-changed (λ x. cond (is_unsettled x) 1 0) ts (n - 1) t u (in_range ts n t r.is).1 in
@@ -78,7 +83,7 @@ kept-replaced st ts c shares shares' n t u p0 p q k r unsettled room0 room pendi
   share = λ s. ⊎_elim
       (λ same. subst (λ x. IsShare (ledger_of st (slice_set ts (n - 1) u) c.items) x (share_at shares' x)) (sym same.1)
       (subst (IsShare (ledger_of st (slice_set ts (n - 1) u) c.items) t.subtask) (sym here)
-      (own_share (ledger_of st ts c.items) (share_at shares t.subtask) n t u p q k.ordered (k.share t.subtask) r unsettled room pending total)))
+      (own_share (ledger_of st ts c.items) (share_at shares t.subtask) n t u p q w k.ordered (k.share t.subtask) r unsettled room pending total numbers)))
       (λ other. subst (IsShare (ledger_of st (slice_set ts (n - 1) u) c.items) s) (sym (others s other.1))
       (other_share (ledger_of st ts c.items) (share_at shares s) n t u s other.1 k.ordered (k.share s) r))
       (eqb_tells s t.subtask);

@@ -10,11 +10,12 @@ use Rattle.commit_sink.specs.declared.share.Share.{Share}
 use Rattle.commit_sink.specs.Ends.{rows_of}
 use Rattle.commit_sink.specs.Ledger.{Ledger, Transaction, IsOrdered, abort_refusal, aborted, has_committed, if_not_committed, refusal, transaction_in, with_transaction}
 use Rattle.commit_sink.specs.Roomy.{WithRoom}
-use Rattle.commit_sink.specs.Shares.{Found, IsKept, empty_share, has_unsettled, is_unsettled, ledger_of, share_at, with_end, with_row, without}
+use Rattle.commit_sink.specs.Shares.{Found, IsKept, empty_share, has_unsettled, is_unsettled, ledger_of, share_at, with_end, with_row, without, without_number}
 use Rattle.commit_sink.proofs.Committed.{kept-committed}
-use Rattle.commit_sink.proofs.Kept.{kept-replaced, one, place-promised}
+use Rattle.commit_sink.proofs.Kept.{kept-replaced, of_itself, one, place-promised}
 use Rattle.commit_sink.proofs.Replaced.{in_range}
 use Rattle.commit_sink.proofs.Rows.{rows_of-committed}
+use Rattle.commit_sink.proofs.Unsettled.{numbers-gone, numbers-same}
 
 pub of_some : {A : Type 0} (o : Option A) (P : Type 0) (Q : A → Type 0) (x : A) → o ≡ Some x → MatchOption o P Q → Q x
 of_some o P Q x is m = subst (λ y. MatchOption y P Q) is m
@@ -87,18 +88,21 @@ aborted_one t = record t { progress = Aborted; records = [] }
 pub kept-aborted : (st : ℕ) (ts ts' : List Transaction) (c c' : WithRoom ℕ) (shares shares' : List Share) (n place : ℕ) {p : Progress} (r : Ready ts c shares n place p) → IsKept st ts c shares
     → ts' ≡ slice_set ts place (aborted_one r.transaction) → c' ≡ record { items = c.items; promised = c.promised - 1 }
     → (s rows : ℕ) → s ≡ r.transaction.subtask → rows ≡ length r.transaction.records
-    → share_at shares' s ≡ without (share_at shares s) rows → ((q : ℕ) → q ≢ s → share_at shares' q ≡ share_at shares q) → IsKept st ts' c' shares'
+    → share_at shares' s ≡ without (share_at shares s) n rows → ((q : ℕ) → q ≢ s → share_at shares' q ≡ share_at shares q) → IsKept st ts' c' shares'
 kept-aborted st ts ts' c c' shares shares' n place r k ts_is c_is s rows s_is rows_is own others =
     let promised = r.promised in
     let share_promised = r.share_promised in
     let pending = r.pending in
     let total = (k.share r.transaction.subtask).total in
-    let own' : share_at shares' r.transaction.subtask ≡ without (share_at shares r.transaction.subtask) (length r.transaction.records) =
-    subst (λ x. share_at shares' x ≡ without (share_at shares x) (length r.transaction.records)) s_is (own ∙ ap (without (share_at shares s)) rows_is) in
+    let own' : share_at shares' r.transaction.subtask ≡ without (share_at shares r.transaction.subtask) n (length r.transaction.records) =
+    subst (λ x. share_at shares' x ≡ without (share_at shares x) n (length r.transaction.records)) s_is (own ∙ ap (without (share_at shares s) n) rows_is) in
     rw (ts_is, c_is, r.number) (kept-replaced st ts c shares shares' n r.transaction (aborted_one r.transaction) (c.promised - 1) ((share_at shares r.transaction.subtask).ends.promised - 1)
-    ((share_at shares r.transaction.subtask).pending - length r.transaction.records) k
+    ((share_at shares r.transaction.subtask).pending - length r.transaction.records) (without_number (share_at shares r.transaction.subtask).unsettled n) k
     (record { is = r.is; old = not_committed r.transaction.progress r.unsettled; new = refl; subtask = refl; emptied = λ _. refl }) r.unsettled
-    (omega (arith, promised)) (omega (arith, share_promised)) (omega (arith, pending)) (omega (arith, total)) own' (λ q other. others q (λ e. other (e ∙ s_is))))
+    (omega (arith, promised)) (omega (arith, share_promised)) (omega (arith, pending)) (omega (arith, total))
+    (numbers-gone r.transaction.subtask n ts r.transaction (aborted_one r.transaction) (share_at shares r.transaction.subtask).unsettled.keys r.is
+    (of_itself r.transaction r.transaction.subtask r.transaction refl refl ∙ r.unsettled) (of_itself r.transaction r.transaction.subtask (aborted_one r.transaction) refl refl)
+    (k.share r.transaction.subtask).unsettled) own' (λ q other. others q (λ e. other (e ∙ s_is))))
 
 abbrev pub with_record : Transaction → List ℕ → Transaction
 with_record t row = record t { records = t.records ++ row ∷ [] }
@@ -117,9 +121,11 @@ kept-appended st ts ts' c shares shares' n place r k row ts_is s s_is few own ot
     let new_rows : cond (is_unsettled (with_record r.transaction row)) (length (r.transaction.records ++ row ∷ [])) 0 ≡ length r.transaction.records + 1 = ap (λ b. cond b (length (r.transaction.records ++ row ∷ [])) 0) r.unsettled ∙ more in
     let new_one : one (is_unsettled (with_record r.transaction row)) ≡ 1 = ap one r.unsettled in
     rw (ts_is, r.number) (kept-replaced st ts c shares shares' n r.transaction (with_record r.transaction row) c.promised (share_at shares r.transaction.subtask).ends.promised
-    ((share_at shares r.transaction.subtask).pending + 1) k
+    ((share_at shares r.transaction.subtask).pending + 1) (share_at shares r.transaction.subtask).unsettled k
     (record { is = r.is; old = not_committed r.transaction.progress r.unsettled; new = not_committed r.transaction.progress r.unsettled; subtask = refl; emptied = λ e. absurd (cc (sym r.has_come ∙ e)) }) r.unsettled
-    (omega (arith, new_one)) (omega (arith, new_one)) (omega (arith, new_rows)) (omega (arith, total, rows, few')) (subst (λ x. share_at shares' x ≡ with_row (share_at shares x)) s_is own) (λ q other. others q (λ e. other (e ∙ s_is))))
+    (omega (arith, new_one)) (omega (arith, new_one)) (omega (arith, new_rows)) (omega (arith, total, rows, few'))
+    (numbers-same r.transaction.subtask n ts r.transaction (with_record r.transaction row) (share_at shares r.transaction.subtask).unsettled.keys r.is refl (k.share r.transaction.subtask).unsettled)
+    (subst (λ x. share_at shares' x ≡ with_row (share_at shares x)) s_is own) (λ q other. others q (λ e. other (e ∙ s_is))))
 
 abbrev pub closed_one : Transaction → ℕ → Transaction
 closed_one t checkpoint = record t { progress = PreCommitted checkpoint }
@@ -129,9 +135,12 @@ pub kept-pre_committed : (st : ℕ) (ts ts' : List Transaction) (c : WithRoom �
 kept-pre_committed st ts ts' c shares n place checkpoint r k ts_is =
     let total = (k.share r.transaction.subtask).total in
     rw (ts_is, r.number) (kept-replaced st ts c shares shares n r.transaction (closed_one r.transaction checkpoint) c.promised (share_at shares r.transaction.subtask).ends.promised
-    (share_at shares r.transaction.subtask).pending k
+    (share_at shares r.transaction.subtask).pending (share_at shares r.transaction.subtask).unsettled k
     (record { is = r.is; old = not_committed r.transaction.progress r.unsettled; new = refl; subtask = refl; emptied = λ e. absurd (cc e) }) r.unsettled
-    (omega arith) (omega arith) refl total refl (λ q other. refl))
+    (omega arith) (omega arith) refl total
+    (numbers-same r.transaction.subtask n ts r.transaction (closed_one r.transaction checkpoint) (share_at shares r.transaction.subtask).unsettled.keys r.is
+    (of_itself r.transaction r.transaction.subtask (closed_one r.transaction checkpoint) refl refl ∙ sym (of_itself r.transaction r.transaction.subtask r.transaction refl refl ∙ r.unsettled))
+    (k.share r.transaction.subtask).unsettled) refl (λ q other. refl))
 
 abbrev pub done_one : Transaction → Transaction
 done_one t = record t { progress = Committed }

@@ -1,12 +1,13 @@
 -- A ledger in which one transaction, that is not committed, is replaced.
-use Rattle.std.proofs.Common.{◌≡◌, ◌≢◌, ◌<◌, ◌≤◌, ◌+◌, ◌-◌, ◌^◌, ◌==◌, ℕ, Bool, true, false, cond, List, [], length, filter, count_by, sum_by, take, slice_get, slice_set, Option, Some, None, refl, sym, ap, ◌∙◌, subst, ⊎_elim, arith}
+use Rattle.std.proofs.Common.{◌≡◌, ◌≢◌, ◌<◌, ◌≤◌, ◌+◌, ◌-◌, ◌^◌, ◌==◌, ℕ, Bool, true, false, cond, List, [], length, map, filter, count_by, sum_by, take, slice_get, slice_set, Option, Some, None, refl, sym, ap, ◌∙◌, subst, ⊎_elim, arith}
+use Rattle.std.specs.BTreeSet.{BTreeSet}
 use Rattle.std.specs.List.{flat_map}
 use Rattle.std.proofs.lemmas.Bool.Decides.{eqb_tells}
 use Rattle.std.proofs.lemmas.List.{length-set}
 use Rattle.std.proofs.lemmas.List.Sums.{sum_by-take-le}
 use Rattle.commit_sink.specs.declared.transactions.Progress.TheVariants.{Aborted}
 use Rattle.commit_sink.specs.declared.share.Share.{Share}
-use Rattle.commit_sink.specs.Ledger.{Ledger, Transaction, IsOrdered, committed_rows, has_committed, is_committed, is_of, records_of, transaction_at, transaction_in}
+use Rattle.commit_sink.specs.Ledger.{Ledger, Transaction, IsOrdered, committed_rows, has_committed, is_committed, is_of, records_of, transaction_at, transaction_in, unsettled_of}
 use Rattle.commit_sink.specs.Shares.{IsShare, is_unsettled_of, ledger_of, numbers_of, pending_rows}
 use Rattle.commit_sink.proofs.Counted.{count_of, counted-filter, filter-counted, flat_map-counted, slice_get-set_other, slice_get-set_same}
 
@@ -86,15 +87,17 @@ rows-kept l us o keeps s share i k = ap length (flat_map-kept l us o keeps (take
     let of_all = counted-filter m (is_of l s) l.committed in
     omega (arith, some_of, numbers, of_all)))
 
-pub share-kept : (l : Ledger) (us : List Transaction) → IsOrdered l → KeepsCommitted l us → (s : ℕ) (share : Share) → IsShare l s share → (p q : ℕ)
+pub share-kept : (l : Ledger) (us : List Transaction) → IsOrdered l → KeepsCommitted l us → (s : ℕ) (share : Share) → IsShare l s share → (p q : ℕ) (w : BTreeSet ℕ)
     → count_by (is_unsettled_of s) us ≤ p → q ≡ sum_by (pending_rows s) us → length (committed_rows l s) + q < 2 ^ 64
-    → IsShare (ledger_of l.subtasks us l.committed) s (record { ends = record { items = share.ends.items; promised = p }; pending = q })
-share-kept l us o keeps s share i p q room pending total = record {
+    → w.keys ≡ map (λ e. e.0) (unsettled_of (ledger_of l.subtasks us l.committed) s)
+    → IsShare (ledger_of l.subtasks us l.committed) s (record { ends = record { items = share.ends.items; promised = p }; pending = q; unsettled = w })
+share-kept l us o keeps s share i p q w room pending total unsettled = record {
   numbers = i.numbers ∙ sym (filter-kept l us o keeps s);
   rows = λ k within. i.rows k within ∙ sym (rows-kept l us o keeps s share i k);
   room = room;
   pending = pending;
   total = subst (λ rows. length rows + q < 2 ^ 64) (sym (committed_rows-kept l us o keeps s)) total;
+  unsettled = unsettled;
 }
 
 -- How a transaction may be replaced: t by u, neither of them committed.

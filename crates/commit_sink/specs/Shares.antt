@@ -1,11 +1,15 @@
 -- What is kept of each subtask, so that its committed records are found fast and a commit takes no memory.
-use Rattle.std.specs.Prelude.{◌≡◌, ◌<◌, ◌≤◌, ◌+◌, ◌-◌, ◌^◌, ◌==◌, ◌&&◌, ℕ, Bool, true, false, if◌then◌else◌, Some, List, [], ◌∷◌, ◌++◌, map, filter, count_by, sum_by, length, take, slice_get, unwrap_or}
+use Rattle.std.specs.Prelude.{◌≡◌, ◌<◌, ◌≤◌, ◌+◌, ◌-◌, ◌^◌, ◌==◌, ◌&&◌, ℕ, Bool, true, false, if◌then◌else◌, Option, None, Some, List, [], ◌∷◌, ◌++◌, map, filter, count_by, sum_by, length, take, slice_get, unwrap_or}
+use Rattle.std.specs.BTreeSet.{BTreeSet, insert_key}
+use Rattle.std.specs.BTreeMap.{is_at}
 use Rattle.std.specs.List.{flat_map}
+use Rattle.std.specs.Ordering.{nat_cmp}
+use Rattle.std.specs.Set.{remove_key}
 use Rattle.commit_sink.specs.declared.share.End.{End}
 use Rattle.commit_sink.specs.declared.share.Share.{Share}
 use Rattle.commit_sink.specs.declared.transactions.Progress.{Progress}
 use Rattle.commit_sink.specs.declared.transactions.Progress.TheVariants.{Open, PreCommitted, Committed, Aborted}
-use Rattle.commit_sink.specs.Ledger.{Ledger, Transaction, IsOrdered, committed_rows, is_of, records_of, transaction_in}
+use Rattle.commit_sink.specs.Ledger.{Ledger, Transaction, IsOrdered, committed_rows, is_of, records_of, transaction_in, unsettled_as, unsettled_of}
 use Rattle.commit_sink.specs.Ends.{rows_of}
 use Rattle.commit_sink.specs.Roomy.{WithRoom}
 
@@ -30,7 +34,7 @@ abbrev pub numbers_of : List End → List ℕ
 numbers_of ends = map (λ e. e.transaction) ends
 
 abbrev pub empty_share : Share
-empty_share = record { ends = record { items = []; promised = 0 }; pending = 0 }
+empty_share = record { ends = record { items = []; promised = 0 }; pending = 0; unsettled = record { keys = [] } }
 
 abbrev pub share_at : List Share → ℕ → Share
 share_at shares subtask = unwrap_or (slice_get shares subtask) empty_share
@@ -43,6 +47,8 @@ pub record IsShare (l : Ledger) (subtask : ℕ) (share : Share) : Type 0 where
   pub room : count_by (is_unsettled_of subtask) l.transactions ≤ share.ends.promised
   pub pending : share.pending ≡ sum_by (pending_rows subtask) l.transactions
   pub total : length (committed_rows l subtask) + share.pending < 2 ^ 64
+  -- the numbers of its transactions that are neither committed nor aborted
+  pub unsettled : share.unsettled.keys ≡ map (λ e. e.0) (unsettled_of l subtask)
 
 abbrev pub ledger_of : ℕ → List Transaction → List ℕ → Ledger
 ledger_of subtasks transactions committed = record { subtasks = subtasks; transactions = transactions; committed = committed }
@@ -54,21 +60,37 @@ pub record IsKept (subtasks : ℕ) (transactions : List Transaction) (committed 
 
 -- what each call does to a subtask's share
 
-abbrev pub with_place : Share → Share
-with_place share = record share { ends = record share.ends { promised = share.ends.promised + 1 } }
+abbrev pub with_number : BTreeSet ℕ → ℕ → BTreeSet ℕ
+with_number numbers n = record { keys = insert_key nat_cmp numbers.keys n }
+
+abbrev pub without_number : BTreeSet ℕ → ℕ → BTreeSet ℕ
+without_number numbers n = record { keys = remove_key (is_at (nat_cmp n)) numbers.keys }
+
+abbrev pub with_place : Share → ℕ → Share
+with_place share n = record share { ends = record share.ends { promised = share.ends.promised + 1 }; unsettled = with_number share.unsettled n }
 
 abbrev pub with_row : Share → Share
 with_row share = record share { pending = share.pending + 1 }
 
-abbrev pub without : Share → ℕ → Share
-without share rows = record { ends = record share.ends { promised = share.ends.promised - 1 }; pending = share.pending - rows }
+abbrev pub without : Share → ℕ → ℕ → Share
+without share n rows =
+    record {
+      ends = record share.ends { promised = share.ends.promised - 1 };
+      pending = share.pending - rows;
+      unsettled = without_number share.unsettled n;
+    }
 
 abbrev pub with_end : Share → ℕ → ℕ → Share
 with_end share n rows =
     record {
       ends = record { items = share.ends.items ++ record { transaction = n; rows = rows_of share.ends.items + rows } ∷ []; promised = share.ends.promised - 1 };
       pending = share.pending - rows;
+      unsettled = without_number share.unsettled n;
     }
+
+-- the transaction of a number, as it is told if it is neither committed nor aborted
+abbrev pub unsettled_in : List Transaction → ℕ → Option (ℕ × Option ℕ)
+unsettled_in transactions n = elim (transaction_in transactions n) [ None ↦ None | Some t ↦ unsettled_as n t.progress ]
 
 -- The transaction of a number, which has come so far, stands at a place.
 pub record Found (transactions : List Transaction) (n place : ℕ) (progress : Progress) : Type 0 where

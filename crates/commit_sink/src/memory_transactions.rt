@@ -1,13 +1,13 @@
 //! Transactions in memory.
 
 ghost use Rattle.std.specs.Prelude.{◌≡◌, ◌≢◌, ◌<◌, ◌≤◌, ◌+◌, ◌-◌, ◌^◌, ◌↔◌, ℕ, IsTrue, [], ◌∷◌, ◌++◌, true, length, refl, None, Some, slice_get, slice_set, OnOk, OnErr, IfOk, IfErr, IfSome, IfNone, MatchResult, MatchOption};
-ghost use Rattle.std.specs.List.{filter_map, enumerate_from};
+ghost use Rattle.std.specs.List.{filter_map};
 ghost use Rattle.std.proofs.Props.{props};
 ghost use Rattle.commit_sink.specs.declared.transactions.Progress.{Progress};
 ghost use Rattle.commit_sink.specs.declared.transactions.Progress.TheVariants.{Open, PreCommitted, Committed, Aborted};
-ghost use Rattle.commit_sink.specs.Ledger.{Transaction, refusal, transaction_in, if_open, if_pre_committed, if_not_committed, unsettled_one};
+ghost use Rattle.commit_sink.specs.Ledger.{Transaction, refusal, transaction_in, if_open, if_pre_committed, if_not_committed};
 ghost use Rattle.commit_sink.specs.Ends.{rows_of};
-ghost use Rattle.commit_sink.specs.Shares.{Found, HasRow, IsKept, empty_share, has_unsettled, ledger_of, share_at, with_end, with_place, with_row, without};
+ghost use Rattle.commit_sink.specs.Shares.{Found, HasRow, IsKept, empty_share, has_unsettled, ledger_of, share_at, unsettled_in, with_end, with_place, with_row, without};
 
 use crate::entry::Entry;
 use crate::flaky_transactions::FaultlessTransactions;
@@ -16,6 +16,7 @@ use crate::share::Share;
 use crate::transactions::{Progress, TransactionFault, Transactions};
 use abs_codec::Bytes;
 use std::alloc::{AllocError, Global};
+use std::collections::BTreeSet;
 
 /// Transactions of subtasks, in memory.
 #[derive(Drop)]
@@ -148,22 +149,23 @@ fn make_shares(alloc: Global, shares: &mut Vec<Share>, subtask: usize) -> Result
     Ok(())
 }
 
-/// Promises a place in the order of commit and in a subtask's share.
+/// Promises a transaction a place in the order of commit and in its subtask's share, which notes its number.
 fn promise_places(
     alloc: Global,
     committed: &mut Roomy<u64>,
     shares: &mut Vec<Share>,
     subtask: usize,
+    transaction: u64,
 ) -> Result<(), TransactionFault>
     ensures committed { OnOk result (committed.new ≡ record committed.old { promised = committed.old.promised + 1 }) }
-    ensures share { OnOk result (share_at shares.new.items subtask ≡ with_place (share_at shares.old.items subtask)) }
+    ensures share { OnOk result (share_at shares.new.items subtask ≡ with_place (share_at shares.old.items subtask) transaction) }
     ensures others { (s : ℕ) → s ≢ subtask → share_at shares.new.items s ≡ share_at shares.old.items s }
     ensures err { OnErr result ((committed.new ≡ committed.old) × (share_at shares.new.items subtask ≡ share_at shares.old.items subtask)) }
     ensures memory { IfErr result (λ f. f ≡ TransactionFault.Memory) }
 {
     make_shares(alloc, shares, subtask)?;
     committed.promise()?;
-    if shares[subtask].promise().is_err() {
+    if shares[subtask].promise(transaction).is_err() {
         committed.release();
         return Err(TransactionFault::Memory);
     }
@@ -188,14 +190,14 @@ fn add_row(shares: &mut Vec<Share>, subtask: usize)
     shares[subtask].add_row();
 }
 
-fn drop_rows(shares: &mut Vec<Share>, subtask: usize, rows: u64)
+fn drop_rows(shares: &mut Vec<Share>, subtask: usize, transaction: u64, rows: u64)
     requires there { subtask < length shares.old.items }
     requires promised { 1 ≤ (share_at shares.old.items subtask).ends.promised }
     requires pending { rows ≤ (share_at shares.old.items subtask).pending }
-    ensures share { share_at shares.new.items subtask ≡ without (share_at shares.old.items subtask) rows }
+    ensures share { share_at shares.new.items subtask ≡ without (share_at shares.old.items subtask) transaction rows }
     ensures others { (s : ℕ) → s ≢ subtask → share_at shares.new.items s ≡ share_at shares.old.items s }
 {
-    shares[subtask].drop_rows(rows);
+    shares[subtask].drop_rows(transaction, rows);
 }
 
 fn commit_rows(shares: &mut Vec<Share>, subtask: usize, transaction: u64, rows: u64)
@@ -226,35 +228,34 @@ fn row_at(transactions: &Vec<Entry>, transaction: u64, place: u64) -> &[u8]
     records[place as usize].as_slice()
 }
 
-/// The number of a transaction of the subtask that is neither committed nor aborted, with its checkpoint if it is pre-committed.
-fn unsettled_number(entry: &Entry, number: u64, subtask: u32) -> Option<(u64, Option<u64>)>
-    ensures { result ≡ unsettled_one subtask (number, entry.now) }
+/// A transaction that is neither committed nor aborted: its number, with its checkpoint if it is pre-committed.
+fn unsettled_number(transactions: &Vec<Entry>, number: u64) -> Option<(u64, Option<u64>)>
+    ensures { result ≡ unsettled_in transactions.now.items number }
 {
-    if entry.subtask() != subtask {
-        return None;
-    }
-    match entry.progress() {
+    let (_, progress) = find(transactions, number)?;
+    match progress {
         Progress::Open => Some((number, None)),
         Progress::PreCommitted(checkpoint) => Some((number, Some(checkpoint))),
         _ => None,
     }
 }
 
+/// Those of these numbers that are neither committed nor aborted.
 fn unsettled_of(
     alloc: Global,
     transactions: &Vec<Entry>,
-    subtask: u32,
+    numbers: &BTreeSet<u64>,
 ) -> Result<Vec<(u64, Option<u64>)>, TransactionFault>
-    ensures ok { IfOk result (λ numbers. numbers.items ≡ filter_map (unsettled_one subtask) (enumerate_from 1 transactions.now.items)) }
+    ensures ok { IfOk result (λ unsettled. unsettled.items ≡ filter_map (unsettled_in transactions.now.items) numbers.now.keys) }
     ensures memory { IfErr result (λ f. f ≡ TransactionFault.Memory) }
 {
-    let mut numbers = Vec::new(alloc);
-    for (place, entry) in transactions.iter().enumerate() {
-        if let Some(unsettled) = unsettled_number(entry, place as u64 + 1, subtask) {
-            numbers.push(unsettled)?;
+    let mut unsettled = Vec::new(alloc);
+    for number in numbers {
+        if let Some(one) = unsettled_number(transactions, *number) {
+            unsettled.push(one)?;
         }
     }
-    Ok(numbers)
+    Ok(unsettled)
 }
 
 impl MemoryTransactions {
@@ -311,15 +312,17 @@ impl Transactions for MemoryTransactions {
 
     fn begin(&mut self, subtask: u32) -> Result<u64, TransactionFault> {
         self.transactions.reserve(1)?;
+        let transaction = self.transactions.len() as u64 + 1;
         promise_places(
             self.alloc,
             &mut self.committed,
             &mut self.shares,
             subtask as usize,
+            transaction,
         )?;
         self.transactions
             .push_reserved(Entry::new(self.alloc, subtask));
-        Ok(self.transactions.len() as u64)
+        Ok(transaction)
     }
 
     fn append(&mut self, transaction: u64, bytes: &[u8]) -> Result<(), TransactionFault> {
@@ -358,12 +361,15 @@ impl Transactions for MemoryTransactions {
         let rows = row_count(&self.transactions, place);
         abort_entry(&mut self.transactions, place);
         self.committed.release();
-        drop_rows(&mut self.shares, subtask, rows);
+        drop_rows(&mut self.shares, subtask, transaction, rows);
         Ok(())
     }
 
     fn unsettled(&mut self, subtask: u32) -> Result<Vec<(u64, Option<u64>)>, TransactionFault> {
-        unsettled_of(self.alloc, &self.transactions, subtask)
+        match share_of(&self.shares, subtask) {
+            Some(share) => unsettled_of(self.alloc, &self.transactions, &share.unsettled),
+            None => Ok(Vec::new(self.alloc)),
+        }
     }
 
     fn committed_len(&self, subtask: u32) -> u64 {

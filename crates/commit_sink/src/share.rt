@@ -1,4 +1,4 @@
-//! A subtask's committed transactions, and how many records they have.
+//! A subtask's committed transactions with the number of their records, and its unsettled ones.
 
 ghost use Rattle.std.specs.Prelude.{◌≡◌, ◌<◌, ◌≤◌, length};
 ghost use Rattle.std.specs.List.{AllWithin};
@@ -8,6 +8,7 @@ ghost use Rattle.commit_sink.specs.Ends.{rows_of};
 use crate::roomy::Roomy;
 use abs_codec::NoMemory;
 use std::alloc::Global;
+use std::collections::BTreeSet;
 
 /// A committed transaction, and how many committed records the subtask has up to its last.
 #[derive(Clone, Copy)]
@@ -43,6 +44,8 @@ pub(crate) struct Share {
     pub(crate) ends: Roomy<End>,
     /// How many records there are in those that are neither committed nor aborted.
     pub(crate) pending: u64,
+    /// The numbers of those that are neither committed nor aborted.
+    pub(crate) unsettled: BTreeSet<u64>,
 }
 
 impl Share {
@@ -57,15 +60,21 @@ impl Share {
         Share {
             ends: Roomy::new(alloc),
             pending: 0,
+            unsettled: BTreeSet::new(alloc),
         }
     }
 
-    /// Promises a place for one more transaction.
-    pub(crate) fn promise(&mut self) -> Result<(), NoMemory>
-        ensures ok { OnOk result (self.new ≡ with_place self.old) }
+    /// Promises a place for one more transaction, and notes its number.
+    pub(crate) fn promise(&mut self, transaction: u64) -> Result<(), NoMemory>
+        ensures ok { OnOk result (self.new ≡ with_place self.old transaction) }
         ensures err { OnErr result (self.new ≡ self.old) }
     {
-        self.ends.promise()
+        self.ends.promise()?;
+        if self.unsettled.insert(transaction).is_err() {
+            self.ends.release();
+            return Err(NoMemory);
+        }
+        Ok(())
     }
 
     /// One more record is pending.
@@ -77,13 +86,14 @@ impl Share {
     }
 
     /// A transaction of so many records is aborted.
-    pub(crate) fn drop_rows(&mut self, rows: u64)
+    pub(crate) fn drop_rows(&mut self, transaction: u64, rows: u64)
         requires promised { 1 ≤ self.old.ends.promised }
         requires pending { rows ≤ self.old.pending }
-        ensures { self.new ≡ without self.old rows }
+        ensures { self.new ≡ without self.old transaction rows }
     {
         self.pending -= rows;
         self.ends.release();
+        self.unsettled.remove(&transaction);
     }
 
     /// A transaction of so many records is committed.
@@ -99,6 +109,7 @@ impl Share {
         };
         self.pending -= rows;
         self.ends.push(end);
+        self.unsettled.remove(&transaction);
     }
 
     /// How many records of the subtask are committed.

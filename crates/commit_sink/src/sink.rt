@@ -5,6 +5,7 @@ ghost use Rattle.std.specs.Option.{option_copied};
 
 use abs_codec::{Items, NoMemory};
 use std::alloc::Global;
+use std::collections::VecDeque;
 use std::marker::Model;
 
 /// A transaction that is pre-committed with a checkpoint.
@@ -20,7 +21,7 @@ pub struct Pending {
 pub struct Sink {
     alloc: Global,
     open_one: u64,
-    pending: Vec<Pending>,
+    pending: VecDeque<Pending>,
 }
 
 impl Model for Sink {
@@ -41,7 +42,7 @@ impl Sink {
         Sink {
             alloc,
             open_one: transaction,
-            pending: Vec::new(alloc),
+            pending: VecDeque::new(alloc),
         }
     }
 
@@ -56,7 +57,7 @@ impl Sink {
     pub fn oldest(&self) -> Option<Pending>
         ensures { result ≡ slice_get self.now.pending 0 }
     {
-        self.pending.first().copied()
+        self.pending.front().copied()
     }
 
     /// The pre-committed transactions and, last, the open one.
@@ -75,9 +76,8 @@ impl Sink {
     pub fn pre_committed(&self, checkpoint: u64) -> Result<Sink, NoMemory>
         ensures { IfOk result (λ sink. sink ≡ pre_committed_last self.now checkpoint) }
     {
-        let mut pending = Vec::new(self.alloc);
-        pending.extend_from_slice(&self.pending)?;
-        pending.push(Pending {
+        let mut pending = self.pending.clone()?;
+        pending.push_back(Pending {
             transaction: self.open_one,
             checkpoint,
         })?;
@@ -99,8 +99,6 @@ impl Sink {
     pub fn forget_oldest(&mut self)
         ensures { self.new ≡ record self.old { pending = drop 1 self.old.pending } }
     {
-        if !self.pending.is_empty() {
-            let _ = self.pending.remove(0);
-        }
+        let _ = self.pending.pop_front();
     }
 }

@@ -1,13 +1,19 @@
 -- A sound engine keeps what a fresh one keeps.
-use Rattle.std.proofs.Common.{◌≡◌, MatchOption, Option, Some, None, ℕ, true, refl, sym, subst}
+use Rattle.std.proofs.Common.{◌≡◌, MatchOption, Option, Some, None, ℕ, List, false, true, refl, sym, subst}
 use Rattle.std.specs.Option.{option_map}
 use Rattle.checkpoint_model.specs.Held.{held_running, IsHeldSound}
+use Rattle.checkpoint_model.specs.HeldLaws.{held_engine}
+use Rattle.checkpoint_model.proofs.Held.{held_growth}
+use Rattle.commit_sink.specs.Ledger.{Ledger}
+use Rattle.job_graph.specs.Expanded.{Expanded}
 use Rattle.job_state.specs.Held.{Held}
 use Rattle.core_model.specs.Keeps.{Keeps, RunsIn}
 use Rattle.core_model.specs.Language.{Language}
-use Rattle.core_model.specs.Sound.{IsSound, AreLegal}
+use Rattle.core_model.specs.Sound.{IsSound, AreLegal, HaveGrown}
 use Rattle.core_model.specs.State.{State}
-use Rattle.core_model.specs.View.{run_of, job_of, is_logged_in, devices_of}
+use Rattle.core_model.specs.View.{run_of, job_of, is_logged_in, devices_of, engine_of}
+use Rattle.snapshot_store.specs.Store.{Stored}
+use Rattle.source_log.specs.Partitions.{records_at}
 
 module _ {R K S O : Type 0} (lang : Language R K S O) (RecordFits : R → Type 0) (s : State O R K S) where
   -- an engine that is down is sound exactly where its devices are legal
@@ -20,6 +26,17 @@ module _ {R K S O : Type 0} (lang : Language R K S O) (RecordFits : R → Type 0
 
   pub sound_is_legal : IsSound lang RecordFits (record s { held = None }) → AreLegal lang RecordFits s.graph s.operators s.partitions s.stored s.ledger
   sound_is_legal sound = record { tells = sound.tells; whole = sound.whole; formed = sound.formed }
+
+-- legal devices stay legal over partitions that have grown
+pub grown_is_legal : {R K S O : Type 0} (lang : Language R K S O) (RecordFits : R → Type 0) (graph : Expanded) (operators : List O) (former partitions : List (List R)) (stored : Stored) (ledger : Ledger)
+    → HaveGrown former partitions → AreLegal lang RecordFits graph operators former stored ledger → AreLegal lang RecordFits graph operators partitions stored ledger
+grown_is_legal {R} {K} {S} {O} lang RecordFits graph operators former partitions stored ledger grown legal =
+    let s : State O R K S = record { graph = graph; operators = operators; partitions = former; stored = stored; ledger = ledger; held = None; is_fresh = false; faults = 0; attempts = 0 } in
+    record {
+      tells = held_growth (job_of lang s) lang.spelling (is_logged_in s) (λ p. records_at partitions p) (held_engine (engine_of lang s)) grown legal.tells;
+      whole = legal.whole;
+      formed = legal.formed;
+    }
 
 module _ {R K S O : Type 0} (lang : Language R K S O) (RecordFits : R → Type 0) (IsGood : O → S → Type 0) (s : State O R K S) where
   abbrev pub as_fresh : State O R K S

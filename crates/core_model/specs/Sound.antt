@@ -1,9 +1,11 @@
 -- When an engine is sound, whatever devices it was opened over.
-use Rattle.std.specs.Prelude.{List, None, false}
+use Rattle.std.specs.Prelude.{ℕ, List, None, false}
 use Rattle.checkpoint_model.specs.Held.{held_running, IsHeldSound}
 use Rattle.commit_sink.specs.Ledger.{Ledger}
+use Rattle.dataflow_model.specs.Graph.{Begins}
 use Rattle.job_graph.specs.Expanded.{Expanded}
 use Rattle.snapshot_store.specs.Store.{Stored}
+use Rattle.source_log.specs.Partitions.{records_at}
 use Rattle.core_model.specs.Keeps.{AllOrNone, PartsAreFormed}
 use Rattle.core_model.specs.Language.{Language}
 use Rattle.core_model.specs.State.{State}
@@ -20,3 +22,7 @@ pub record IsSound {R K S O : Type 0} (lang : Language R K S O) (RecordFits : R 
 abbrev pub AreLegal : {R K S O : Type 0} → Language R K S O → (R → Type 0) → Expanded → List O → List (List R) → Stored → Ledger → Type 0
 AreLegal lang RecordFits graph operators partitions stored ledger =
     IsSound lang RecordFits (record { graph = graph; operators = operators; partitions = partitions; stored = stored; ledger = ledger; held = None; is_fresh = false; faults = 0; attempts = 0 })
+
+-- each partition begins with the former one
+abbrev pub HaveGrown : {R : Type 0} → List (List R) → List (List R) → Type 0
+HaveGrown former partitions = (p : ℕ) → Begins (records_at former p) (records_at partitions p)

@@ -20,7 +20,7 @@ ghost use Rattle.core_model.specs.Goes.{Goes};
 ghost use Rattle.core_model.specs.Language.{language};
 ghost use Rattle.checkpoint_model.specs.Headline.{IsExactlyOnce};
 ghost use Rattle.core_model.specs.LastCommitted.{committed_of, complete_numbers};
-ghost use Rattle.core_model.specs.Sound.{IsSound, AreLegal};
+ghost use Rattle.core_model.specs.Sound.{IsSound, AreLegal, HaveGrown};
 ghost use Rattle.core_model.specs.View.{job_of, devices_of};
 ghost use Rattle.line_core.specs.Lines.{IsLine, CommitsABeginning};
 ghost use Rattle.line_model.specs.Line.{applied};
@@ -156,8 +156,8 @@ impl<O: Operator, S: SnapshotStore, X: Transactions, P: Partitions<Record = O::R
     X,
     P,
 > {
-    /// A job that is down, over these devices, with no attempt made. Over legal devices, as new ones are, and those that a sound core has handed out, it is
-    /// sound.
+    /// A job that is down, over these devices, with no attempt made. Over legal devices, as new ones are, and those that a sound core has handed out, though
+    /// the partitions may have grown since, it is sound.
     pub fn open(
         alloc: Global,
         graph: Graph,
@@ -181,7 +181,7 @@ impl<O: Operator, S: SnapshotStore, X: Transactions, P: Partitions<Record = O::R
           faults = P.fault_count log + S.fault_count store + X.fault_count transactions;
           attempts = 0;
         } }
-        ensures legal { AreLegal (language O.meaning O.Key.cmp O.Record.spelling O.Record.reading O.Key.reading O.State.reading) (Fits O.Record.HasSpelling O.Record.spelling) graph operators.items (P.records log) (S.state store) (X.state transactions) → IsSound (language O.meaning O.Key.cmp O.Record.spelling O.Record.reading O.Key.reading O.State.reading) (Fits O.Record.HasSpelling O.Record.spelling) result }
+        ensures legal { (former : List (List O.Record)) → HaveGrown former (P.records log) → AreLegal (language O.meaning O.Key.cmp O.Record.spelling O.Record.reading O.Key.reading O.State.reading) (Fits O.Record.HasSpelling O.Record.spelling) graph operators.items former (S.state store) (X.state transactions) → IsSound (language O.meaning O.Key.cmp O.Record.spelling O.Record.reading O.Key.reading O.State.reading) (Fits O.Record.HasSpelling O.Record.spelling) result }
         ensures fresh { IsTrue result.is_fresh ↔ ((S.state store ≡ stores.blank (length graph.tasks)) × (X.state transactions ≡ ledgers.blank (count_by is_sink graph.tasks))) }
     {
         let _ = graph.tasks();
@@ -428,7 +428,7 @@ impl<O: Operator, S: SnapshotStore, X: Transactions, P: Partitions<Record = O::R
     }
 
     /// The partitions and the devices, as they stand. Those of a sound core are legal: a core of the same graph and operators that is opened over them is
-    /// sound.
+    /// the partitions may have grown since, it is sound.
     pub fn into_durable(self) -> (P, S, X)
         ensures partitions { P.records result.0 ≡ self.partitions }
         ensures stored { S.state result.1 ≡ self.stored }

@@ -7,3 +7,6 @@
 mod keyed_map;
 
 pub use keyed_map::KeyedState;
+
+#[cfg(test)]
+mod tests;

@@ -1,11 +1,9 @@
 -- The starts that parts say.
-use Rattle.std.proofs.Common.{◌≡◌, ◌<◌, inl, inr, All, Option, Some, None, Result, Ok, Err, slice_get, get_or, length, List, [], ◌∷◌, ◌++◌, ℕ, refl, sym, ap, subst, ◌∙◌}
+use Rattle.std.proofs.Common.{◌≡◌, ◌<◌, inl, inr, All, Option, Some, None, Ok, Err, slice_get, get_or, length, List, [], ◌∷◌, ◌++◌, ℕ, refl, sym, ap, subst, ◌∙◌}
 use Rattle.std.proofs.lemmas.Option.{same_Some, slice_get-get_or}
-use Rattle.abs_codec.specs.Reading.{whole_of}
-use Rattle.abs_codec.specs.declared.fault.CodecFault.{CodecFault}
 use Rattle.core_model.specs.Language.{Language}
 use Rattle.commit_sink.specs.Ledger.{Ledger}
-use Rattle.core_model.specs.Restart.{part_for, Suits, IsInPart, IsStart, AreStarts, Takes, before_tasks, EndsRestart}
+use Rattle.core_model.specs.Restart.{IsStart, AreStarts, Takes, before_tasks, EndsRestart}
 use Rattle.core_model.specs.declared.fault.CoreFault.TheVariants as core
 use Rattle.core_model.proofs.Turns.{up_to_end}
 use Rattle.job_state.specs.declared.holding.Holding.{Holding}
@@ -16,9 +14,8 @@ use Rattle.job_graph.proofs.LinkLemmas.{slice_get_push}
 use Rattle.job_graph.specs.Expanded.{Expanded}
 use Rattle.job_graph.specs.declared.role.Role.{Role}
 use Rattle.job_graph.specs.declared.role.Role.TheVariants as role
-use Rattle.snapshot_store.specs.Store.{Stored, IsLatest, part_of}
+use Rattle.snapshot_store.specs.Store.{Stored, IsLatest}
 use Rattle.task_part.specs.Spelling.{Logs}
-use Rattle.task_part.specs.declared.part.Part.{Part}
 use Rattle.recovery.specs.Ends.{EndsTask, CannotRestore, HasDamage, IsBelow, TakeAll}
 use Rattle.recovery.specs.declared.fault.RecoveryFault.{RecoveryFault}
 use Rattle.recovery.specs.declared.fault.RecoveryFault.TheVariants.{Fault, MissingPart, Damaged, Memory}
@@ -26,17 +23,7 @@ use Rattle.recovery.specs.declared.fault.RecoveryFault.TheVariants.{Fault, Missi
 pub one_operator : {O : Type 0} (operators : List O) (number : ℕ) (a b : O) → slice_get operators number ≡ Some a → slice_get operators number ≡ Some b → (P : O → Type 0) → P b → P a
 one_operator operators number a b at there P holds = subst P (same_Some b a (sym there ∙ at)) holds
 
-same_ok : {A : Type 0} (a b : A) → ◌≡◌ {A = Result A CodecFault} (Ok a) (Ok b) → a ≡ b
-same_ok a b e = cc
-
 module _ {R K S O : Type 0} (lang : Language R K S O) (KeyFits : K → Type 0) (RecordFits : R → Type 0) (IsGood : O → S → Type 0) (graph : Expanded) (operators : List O) (partitions : List (List R)) (stored : Stored) where
-  -- the part that is read says no start for the task, so there is none
-  pub no_start : (number task : ℕ) (r : Role) (bytes : List ℕ) (p : Part R K S) → part_of stored number task ≡ Some bytes → whole_of lang.read_part bytes ≡ Ok p
-      → ((st : Start R K S) → p ≡ part_for st → Suits lang KeyFits RecordFits IsGood graph operators partitions task r st → ⊥) → (st : Start R K S) → IsInPart lang KeyFits RecordFits IsGood graph operators partitions stored number task r st → ⊥
-  no_start number task r bytes p there reads none st is =
-      let same : bytes ≡ is.bytes = same_Some bytes is.bytes (sym there ∙ is.is_part) in
-      none st (same_ok p (part_for st) (sym reads ∙ ap (whole_of lang.read_part) same ∙ is.reads)) is.suits
-
   -- why the parts can't be read
   pub task_stops : (last : Option ℕ) (task : ℕ) (r : Role) (f : RecoveryFault) → IsLatest stored last → slice_get graph.tasks task ≡ Some r → EndsTask lang KeyFits RecordFits IsGood graph operators partitions stored last task r (Err f) → CannotRestore lang KeyFits RecordFits IsGood graph operators partitions stored f
   task_stops None task r f latest is ends = absurd ends

@@ -1,5 +1,5 @@
 -- How reading the parts ends, and settling the transactions.
-use Rattle.std.specs.Prelude.{◌≡◌, ◌⊎◌, ◌<◌, ℕ, List, [], ◌∷◌, ◌++◌, Option, Some, None, Result, Ok, Err, slice_get}
+use Rattle.std.specs.Prelude.{◌≡◌, ◌⊎◌, ◌<◌, ℕ, List, [], ◌∷◌, ◌++◌, Option, Some, None, Result, Ok, Err, length, slice_get}
 use Rattle.abs_codec.specs.Reading.{whole_of}
 use Rattle.abs_codec.specs.declared.fault.CodecFault.{CodecFault}
 use Rattle.abs_codec.specs.declared.fault.CodecFault.TheVariants.{BadTag}
@@ -7,7 +7,7 @@ use Rattle.commit_sink.specs.Ledger.{Ledger}
 use Rattle.commit_sink.specs.declared.transactions.TransactionFault.{TransactionFault}
 use Rattle.commit_sink.specs.declared.transactions.TransactionFault.TheVariants as transactions
 use Rattle.core_model.specs.Language.{Language}
-use Rattle.core_model.specs.Restart.{InTurn, UpTo, AreStarts, IsInPart, CommitsNext, AbortsNext, Settles, SettlesPartly, NamesOther, Takes, first_start, logs_in, openings_of, TakeSome, TakeUntilRefused, before_tasks}
+use Rattle.core_model.specs.Restart.{InTurn, UpTo, AreStarts, IsInPart, CommitsNext, AbortsNext, Settles, SettlesPartly, NamesOther, Suits, Takes, first_start, part_for, logs_in, openings_of, TakeSome, TakeUntilRefused, before_tasks}
 use Rattle.core_model.specs.declared.fault.CoreFault.{CoreFault}
 use Rattle.core_model.specs.declared.fault.CoreFault.TheVariants as core
 use Rattle.core_model.specs.declared.start.Start.{Start}
@@ -52,11 +52,15 @@ module _ {R K S O : Type 0} (lang : Language R K S O) (stored : Stored) where
   EndsReading number task (Err Memory) = Unit {0}
 
 module _ {R K S O : Type 0} (lang : Language R K S O) (KeyFits : K → Type 0) (RecordFits : R → Type 0) (IsGood : O → S → Type 0) (graph : Expanded) (operators : List O) (partitions : List (List R)) (stored : Stored) where
+  -- the bytes spell a part, but one that the task can't start from
+  pub record SaysNoStart (number task : ℕ) (r : Role) : Type 0 where
+    pub part : Part R K S
+    pub reads : IsReadAs lang stored number task (Ok part)
+    pub no_start : (st : Start R K S) → part ≡ part_for st → Suits lang KeyFits RecordFits IsGood graph operators partitions task r st → ⊥
+
   -- the bytes spell no part, by this fault; or one that the task can't start from
   abbrev pub IsDamage : ℕ → ℕ → Role → CodecFault → Type 0
-  IsDamage number task r fault =
-      (bytes : List ℕ) × (part_of stored number task ≡ Some bytes) ×
-      ((whole_of lang.read_part bytes ≡ Err fault) ⊎ ((fault ≡ BadTag) × ((st : Start R K S) → IsInPart lang KeyFits RecordFits IsGood graph operators partitions stored number task r st → ⊥)))
+  IsDamage number task r fault = IsReadAs lang stored number task (Err fault) ⊎ ((fault ≡ BadTag) × SaysNoStart number task r)
 
   -- what reading and judging one task's part of a checkpoint answers
   abbrev pub EndsPart : ℕ → ℕ → Role → Result (Start R K S) RecoveryFault → Type 0
@@ -107,12 +111,16 @@ IsBelow count (start.Operator entries logs) = Unit {0}
 IsBelow count (start.Sink subtask names logs) = subtask < count
 
 module _ (old new : Ledger) where
+  -- a sink of this task names a transaction that may not be committed: its part is damaged
+  abbrev pub StopsSink : ℕ → List ℕ → ℕ → CodecFault → Type 0
+  StopsSink task names which fault = (which ≡ task) × (fault ≡ BadTag) × NamesOther names old new
+
   -- the commits of a sink's names, and the aborts of the others
-  abbrev pub EndsCommits : List ℕ → Result Unit RecoveryFault → Type 0
-  EndsCommits names (Ok u) = InTurn CommitsNext names old new
-  EndsCommits names (Err Fault) = UpTo CommitsNext names old new
-  EndsCommits names (Err (Damaged task fault)) = NamesOther names old new
-  EndsCommits names (Err other) = ⊥
+  abbrev pub EndsCommits : ℕ → List ℕ → Result Unit RecoveryFault → Type 0
+  EndsCommits task names (Ok u) = InTurn CommitsNext names old new
+  EndsCommits task names (Err Fault) = UpTo CommitsNext names old new
+  EndsCommits task names (Err (Damaged which fault)) = StopsSink task names which fault
+  EndsCommits task names (Err other) = ⊥
 
   abbrev pub EndsAborts : List (ℕ × Option ℕ) → Result Unit RecoveryFault → Type 0
   EndsAborts unsettled (Ok u) = InTurn AbortsNext unsettled old new
@@ -120,27 +128,31 @@ module _ (old new : Ledger) where
   EndsAborts unsettled (Err other) = ⊥
 
   -- a sink's transactions
-  abbrev pub EndsSettle : List ℕ → ℕ → Result ℕ RecoveryFault → Type 0
-  EndsSettle names subtask (Ok opened) = Settles names subtask opened old new
-  EndsSettle names subtask (Err Fault) = SettlesPartly names subtask old new
-  EndsSettle names subtask (Err Memory) = SettlesPartly names subtask old new
-  EndsSettle names subtask (Err (Damaged task fault)) = NamesOther names old new
-  EndsSettle names subtask (Err other) = ⊥
+  abbrev pub EndsSettle : ℕ → List ℕ → ℕ → Result ℕ RecoveryFault → Type 0
+  EndsSettle task names subtask (Ok opened) = Settles names subtask opened old new
+  EndsSettle task names subtask (Err Fault) = SettlesPartly names subtask old new
+  EndsSettle task names subtask (Err Memory) = SettlesPartly names subtask old new
+  EndsSettle task names subtask (Err (Damaged which fault)) = StopsSink task names which fault
+  EndsSettle task names subtask (Err other) = ⊥
 
   module _ {R K S : Type 0} where
     -- one task, with the logs that it starts from
-    abbrev pub EndsTake : Start R K S → Result (Holding K S × Logs R) RecoveryFault → Type 0
-    EndsTake st (Ok x) = ((tasks : List (Holding K S)) → Takes st (record { ledger = old; tasks = tasks }) (record { ledger = new; tasks = tasks ++ x.0 ∷ [] })) × (x.1 ≡ logs_in st)
-    EndsTake st (Err MissingPart) = ⊥
-    EndsTake st (Err (Damaged task fault)) = (subtask : ℕ) × (names : List ℕ) × (logs : Logs R) × (st ≡ start.Sink subtask names logs) × NamesOther names old new
-    EndsTake st (Err other) = (subtask : ℕ) × (names : List ℕ) × (logs : Logs R) × (st ≡ start.Sink subtask names logs) × SettlesPartly names subtask old new
+    abbrev pub EndsTake : ℕ → Start R K S → Result (Holding K S × Logs R) RecoveryFault → Type 0
+    EndsTake task st (Ok x) = ((tasks : List (Holding K S)) → Takes st (record { ledger = old; tasks = tasks }) (record { ledger = new; tasks = tasks ++ x.0 ∷ [] })) × (x.1 ≡ logs_in st)
+    EndsTake task st (Err MissingPart) = ⊥
+    EndsTake task st (Err (Damaged which fault)) = (subtask : ℕ) × (names : List ℕ) × (logs : Logs R) × (st ≡ start.Sink subtask names logs) × StopsSink task names which fault
+    EndsTake task st (Err other) = (subtask : ℕ) × (names : List ℕ) × (logs : Logs R) × (st ≡ start.Sink subtask names logs) × SettlesPartly names subtask old new
 
     -- all of them have, or this stopped them
     abbrev pub TakeAll : List (Start R K S) → List (Holding K S) × Logs R → Type 0
     TakeAll starts x = InTurn Takes starts (before_tasks old) (record { ledger = new; tasks = x.0 }) × (x.1 ≡ openings_of starts)
 
+    -- the part of the sink that was met next is damaged
+    abbrev pub StopAtSink : List (Start R K S) → ℕ → CodecFault → Type 0
+    StopAtSink starts task fault = (until : TakeUntilRefused starts old new) × (task ≡ length until.taken.done) × (fault ≡ BadTag)
+
     abbrev pub StopTaking : List (Start R K S) → RecoveryFault → Type 0
     StopTaking starts Fault = TakeSome starts old new
     StopTaking starts MissingPart = ⊥
-    StopTaking starts (Damaged task fault) = TakeUntilRefused starts old new
+    StopTaking starts (Damaged task fault) = StopAtSink starts task fault
     StopTaking starts Memory = TakeSome starts old new

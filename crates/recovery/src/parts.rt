@@ -27,7 +27,7 @@ use task_part::Part;
 /// What a job starts from: the last complete number, if there is one, and what each task starts from.
 #[derive(Drop)]
 pub struct Restored<O: Operator> {
-    pub(crate) number: Option<u64>,
+    number: Option<u64>,
     pub(crate) starts: Vec<Start<O::Record, O::Key, O::State>>,
 }
 
@@ -38,6 +38,22 @@ impl<O: Operator> Model for Restored<O> {
     ghost Value = { Option ℕ × List (Start O.Record O.Key O.State) };
 
     ghost view = { λ r. (r.number, r.starts.items) };
+}
+
+impl<O: Operator> Restored<O> {
+    /// The last complete number.
+    pub fn number(&self) -> Option<u64>
+        ensures { result ≡ self.now.0 }
+    {
+        self.number
+    }
+
+    /// What each task starts from.
+    pub fn starts(&self) -> &[Start<O::Record, O::Key, O::State>]
+        ensures { result.now ≡ self.now.1 }
+    {
+        &self.starts
+    }
 }
 
 /// The value that the bytes spell.

@@ -8,7 +8,7 @@ ghost use Rattle.core_model.specs.declared.fault.CoreFault.TheVariants as CoreFa
 ghost use Rattle.core_model.specs.Language.{language};
 ghost use Rattle.core_model.specs.Restart.{EndsRestart};
 
-use crate::parts::{Restored, restore};
+use crate::parts::restore;
 use crate::settle::settle_transactions;
 use commit_sink::Transactions;
 use core_model::CoreFault;
@@ -36,8 +36,9 @@ pub fn restarted<O: Operator, S: SnapshotStore, X: Transactions, P: Partitions<R
     ensures grows { (S.fault_count store.old ≤ S.fault_count store.new) × (X.fault_count transactions.old ≤ X.fault_count transactions.new) }
 {
     let _ = graph.tasks();
-    let Restored { number, starts } = restore(alloc, graph, operators, store, log)?;
-    let (tasks, openings) = settle_transactions(alloc, starts, transactions)?;
+    let restored = restore::<O, S, P>(alloc, graph, operators, store, log)?;
+    let number = restored.number();
+    let (tasks, openings) = settle_transactions(alloc, restored, transactions)?;
     let attempt = Attempt::new(alloc, graph, tasks, openings, number)?;
     Ok((number, attempt))
 }

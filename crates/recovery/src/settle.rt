@@ -7,10 +7,12 @@ ghost use Rattle.recovery.specs.Ends as faults;
 ghost use Rattle.recovery.specs.Ends.{EndsCommits, EndsAborts, EndsSettle, EndsTake, TakeAll, StopTaking, IsBelow};
 
 use crate::fault::RecoveryFault;
+use crate::parts::Restored;
 use abs_codec::{CodecFault, Items};
 use commit_sink::{Sink, TransactionFault, Transactions};
 use core_model::Start;
 use job_state::Holding;
+use operators::Operator;
 use std::alloc::Global;
 
 /// Why a restart is refused where a transaction that is named was not committed.
@@ -39,7 +41,7 @@ fn commit_named<X: Transactions>(
     names: &[u64],
     transactions: &mut X,
 ) -> Result<(), RecoveryFault>
-    ensures ends { EndsCommits (X.state transactions.old) (X.state transactions.new) names.now result }
+    ensures ends { EndsCommits (X.state transactions.old) (X.state transactions.new) task names.now result }
     ensures same { (X.state transactions.new).subtasks ≡ (X.state transactions.old).subtasks }
     ensures counted { result ≡ Err RecoveryFault.Fault → X.fault_count transactions.old < X.fault_count transactions.new }
     ensures grows { X.fault_count transactions.old ≤ X.fault_count transactions.new }
@@ -80,7 +82,7 @@ fn settle_sink<X: Transactions>(
     transactions: &mut X,
 ) -> Result<u64, RecoveryFault>
     requires { subtask < (X.state transactions.old).subtasks }
-    ensures ends { EndsSettle (X.state transactions.old) (X.state transactions.new) names.now subtask result }
+    ensures ends { EndsSettle (X.state transactions.old) (X.state transactions.new) task names.now subtask result }
     ensures same { (X.state transactions.new).subtasks ≡ (X.state transactions.old).subtasks }
     ensures counted { result ≡ Err RecoveryFault.Fault → X.fault_count transactions.old < X.fault_count transactions.new }
     ensures grows { X.fault_count transactions.old ≤ X.fault_count transactions.new }
@@ -105,7 +107,7 @@ fn take<R: Drop, K: Ord + Drop, S: Drop, X: Transactions>(
     transactions: &mut X,
 ) -> Result<(Holding<K, S>, Items<(u32, Items<R>)>), RecoveryFault>
     requires { IsBelow (X.state transactions.old).subtasks start }
-    ensures ends { EndsTake (X.state transactions.old) (X.state transactions.new) start result }
+    ensures ends { EndsTake (X.state transactions.old) (X.state transactions.new) task start result }
     ensures same { (X.state transactions.new).subtasks ≡ (X.state transactions.old).subtasks }
     ensures counted { result ≡ Err RecoveryFault.Fault → X.fault_count transactions.old < X.fault_count transactions.new }
     ensures grows { X.fault_count transactions.old ≤ X.fault_count transactions.new }
@@ -120,21 +122,22 @@ fn take<R: Drop, K: Ord + Drop, S: Drop, X: Transactions>(
     }
 }
 
-/// Each task takes what it starts from, and each sink settles its transactions: what the tasks hold, and the logs of all of them.
-pub fn settle_transactions<R: Drop, K: Ord + Drop, S: Drop, X: Transactions>(
+/// Each task takes what it starts from, and each sink settles its transactions: what the tasks hold, and the logs of all of them. Where a sink's part
+/// names a transaction that may not be committed, that part is damaged, and what was settled before stays so.
+pub fn settle_transactions<O: Operator, X: Transactions>(
     alloc: Global,
-    starts: Vec<Start<R, K, S>>,
+    restored: Restored<O>,
     transactions: &mut X,
-) -> Result<(Vec<Holding<K, S>>, Vec<(u32, Items<R>)>), RecoveryFault>
-    requires few { length starts.items < 2 ^ 32 }
-    requires below { All (IsBelow (X.state transactions.old).subtasks) starts.items }
-    ensures ends { MatchResult result (λ x. TakeAll (X.state transactions.old) (X.state transactions.new) starts.items (x.0.items, x.1.items)) (StopTaking (X.state transactions.old) (X.state transactions.new) starts.items) }
+) -> Result<(Vec<Holding<O::Key, O::State>>, Vec<(u32, Items<O::Record>)>), RecoveryFault>
+    requires few { length restored.1 < 2 ^ 32 }
+    requires below { All (IsBelow (X.state transactions.old).subtasks) restored.1 }
+    ensures ends { MatchResult result (λ x. TakeAll (X.state transactions.old) (X.state transactions.new) restored.1 (x.0.items, x.1.items)) (StopTaking (X.state transactions.old) (X.state transactions.new) restored.1) }
     ensures counted { result ≡ Err RecoveryFault.Fault → X.fault_count transactions.old < X.fault_count transactions.new }
     ensures grows { X.fault_count transactions.old ≤ X.fault_count transactions.new }
 {
     let mut tasks = Vec::new(alloc);
     let mut openings = Vec::new(alloc);
-    for start in starts {
+    for start in restored.starts {
         let task = tasks.len() as u32;
         let (holding, logs) = take(alloc, task, start, transactions)?;
         openings.append(&mut logs.into_vec())?;

@@ -1,9 +1,9 @@
 //! Cores over new devices in memory, and rows for them.
 
-use abs_codec::{Codec, Text};
-use absflow_run::{Answer, RowCore, make_step};
+use abs_codec::{Codec, Text, decode_all};
+use absflow_run::{Answer, RowCore, make_step, row_line};
 use commit_sink::{FlakyTransactions, MemoryTransactions, Transactions};
-use dataflow_core::Core;
+use dataflow_core::{Core, Reply};
 use job_graph::Graph;
 use job_spec::JobSpec;
 use operators::Row;
@@ -79,5 +79,34 @@ pub(crate) fn append(
 /// Makes a step, and says whether it was accepted.
 pub(crate) fn accepts(alloc: Global, core: &mut RowCore, step: &str) -> Result<bool, Fail> {
     let step = parse_step(alloc, step).map_err(|_| Fail::new("a bad step"))?;
-    Ok(!matches!(make_step(core, step), Answer::Refused(_)))
+    Ok(!matches!(make_step(core, step), Answer(Reply::Refused(_))))
+}
+
+/// Makes a step that is accepted.
+pub(crate) fn make(alloc: Global, core: &mut RowCore, step: &str) -> Result<(), Fail> {
+    if !accepts(alloc, core, step)? {
+        return Err(Fail::new("a step is refused"));
+    }
+    Ok(())
+}
+
+/// Makes steps, parted by `; `, that are all accepted.
+pub(crate) fn make_all(alloc: Global, core: &mut RowCore, steps: &str) -> Result<(), Fail> {
+    for step in steps.split("; ") {
+        make(alloc, core, step)?;
+    }
+    Ok(())
+}
+
+/// The committed rows of a sink subtask.
+pub(crate) fn committed(alloc: Global, core: &RowCore, sink: u32) -> Result<Vec<String>, Fail> {
+    let mut lines = Vec::new(alloc);
+    for number in 0..core.committed_len(sink)? {
+        let Some(record) = core.committed(sink, number)? else {
+            return Err(Fail::new("a committed row is not there"));
+        };
+        let row: Row = decode_all(alloc, &record)?;
+        lines.push(row_line(alloc, &row)?)?;
+    }
+    Ok(lines)
 }

@@ -2,8 +2,8 @@
 //! slow program puts out.
 
 use crate::commands::{COUNT, EARLY, LONG_LOOP, LOOP, TWO_SINKS};
-use crate::cores::{accepts, append, row, running};
-use abs_codec::{Text, decode_all};
+use crate::cores::{append, committed, make, row, running};
+use abs_codec::Text;
 use absflow_run::{RowCore, row_line};
 use job_graph::{Graph, Role, Route};
 use job_spec::JobSpec;
@@ -30,7 +30,7 @@ const RUNS: [Run; 5] = [
     Run {
         job: LONG_LOOP,
         rows: &[(0, "x", 3)],
-        steps: "read 0; work 1 0; work 2 0; trigger; inject 0; barrier 1 0; work 1 1; barrier 2 0; barrier 1 1; barrier 3 0; persist 0; persist 1; persist 2; persist 3; complete; work 2 0; work 1 1",
+        steps: "read 0; work 1 0; work 2 0; trigger; inject 0; barrier 1 0; work 1 1; barrier 2 0; barrier 1 1; barrier 3 0; persist 0; persist 1; persist 2; persist 3; complete; fail; restart; work 1 1; work 2 0; work 1 1; work 2 0; work 1 1; work 3 0; trigger; inject 0; barrier 1 0; barrier 2 0; barrier 3 0; barrier 1 1; persist 0; persist 1; persist 2; persist 3; complete; commit 0",
     },
     Run {
         job: EARLY,
@@ -40,7 +40,7 @@ const RUNS: [Run; 5] = [
     Run {
         job: LOOP,
         rows: &[(0, "x", 2), (0, "y", 1)],
-        steps: "read 0; work 1 0; read 0; trigger; inject 0; work 1 0; barrier 1 0; work 1 1; work 1 1; barrier 1 1; work 1 1; barrier 2 0; work 2 0; work 2 0; persist 0; persist 1; persist 2; complete",
+        steps: "read 0; work 1 0; read 0; trigger; inject 0; work 1 0; barrier 1 0; work 1 1; work 1 1; barrier 1 1; work 1 1; barrier 2 0; work 2 0; work 2 0; persist 0; persist 1; persist 2; complete; fail; restart; work 1 1; work 1 1; work 1 1; work 2 0; work 2 0; trigger; inject 0; barrier 1 0; barrier 2 0; barrier 1 1; persist 0; persist 1; persist 2; complete; commit 0",
     },
     Run {
         job: TWO_SINKS,
@@ -116,19 +116,6 @@ fn settle(core: &mut RowCore, graph: &Graph) -> Result<(), Fail> {
         core.commit(sink)?;
     }
     Ok(())
-}
-
-/// The committed rows of a sink subtask.
-fn committed(alloc: Global, core: &RowCore, sink: u32) -> Result<Vec<String>, Fail> {
-    let mut lines = Vec::new(alloc);
-    for number in 0..core.committed_len(sink)? {
-        let Some(record) = core.committed(sink, number)? else {
-            return Err(Fail::new("a committed row is not there"));
-        };
-        let row: Row = decode_all(alloc, &record)?;
-        lines.push(row_line(alloc, &row)?)?;
-    }
-    Ok(lines)
 }
 
 fn channels(alloc: Global, graph: &Graph) -> Result<Vec<Channel>, Fail> {
@@ -258,11 +245,10 @@ fn interrupted(alloc: Global, run: &Run, count: usize) -> Result<RowCore, Fail> 
         append(alloc, &mut core, *partition, k, *v)?;
     }
     for step in run.steps.split("; ").take(count) {
-        if !accepts(alloc, &mut core, step)? {
-            return Err(Fail::new("a step is refused"));
-        }
+        make(alloc, &mut core, step)?;
     }
-    core.fail()?;
+    // A core that failed by its steps is down already.
+    let _ = core.fail();
     core.restart()?;
     to_rest(&mut core, &graph)?;
     settle(&mut core, &graph)?;

@@ -1,6 +1,8 @@
 //! Devices that fail before or after their work: each call of each, once before and once after.
 
 use crate::commands::{LINE, TWO_SINKS, answers_then, expect_script, script_text, written};
+use crate::cores::{accepts, append, make_all, running};
+use commit_sink::Transactions;
 use std::test::Fail;
 
 /// No row is committed.
@@ -213,5 +215,31 @@ fn sinks_commit_apart(rt: HostRuntime) -> Result<(), Fail> {
         &steps,
     )?;
     expect_script(&rt, alloc, text.as_bytes(), written(&out));
+    Ok(())
+}
+
+/// A sink's copy begins a transaction and pre-commits the one before it. Where either fails, the restart aborts both and begins the third.
+#[test]
+fn a_restart_aborts_what_a_failed_copy_left(rt: HostRuntime) -> Result<(), Fail> {
+    let alloc = rt.alloc();
+    for fault in ["fault txn.begin after", "fault txn.pre_commit after"] {
+        let mut core = running(alloc, LINE)?;
+        append(alloc, &mut core, 0, "a", 1)?;
+        make_all(
+            alloc,
+            &mut core,
+            "read 0; work 1 0; work 2 0; trigger; inject 0; barrier 1 0",
+        )?;
+        make_all(alloc, &mut core, fault)?;
+        assert!(&rt; !accepts(alloc, &mut core, "barrier 2 0")?);
+        assert_eq!(&rt; core.restart()?, None);
+        let (_, _, mut sinks) = core.into_durable();
+        let unsettled = sinks.unsettled(0)?;
+        assert_eq!(&rt;
+            unsettled.as_slice(),
+            [(3, None)].as_slice(),
+            "after {fault}"
+        );
+    }
     Ok(())
 }

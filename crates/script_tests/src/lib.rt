@@ -12,6 +12,8 @@ mod crashes;
 #[cfg(test)]
 mod faults;
 #[cfg(test)]
+mod graphs;
+#[cfg(test)]
 mod handed;
 #[cfg(test)]
 mod jobs;
@@ -20,6 +22,8 @@ mod lists;
 #[cfg(test)]
 mod loops;
 #[cfg(test)]
+mod messages;
+#[cfg(test)]
 mod parts;
 #[cfg(test)]
 mod refusals;
@@ -27,3 +31,7 @@ mod refusals;
 mod restarts;
 #[cfg(test)]
 mod runs;
+#[cfg(test)]
+mod steps;
+#[cfg(test)]
+mod turns;

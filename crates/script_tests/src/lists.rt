@@ -1,10 +1,18 @@
 //! Devices that lists make.
 
 ghost use Rattle.std.specs.Prelude.{◌≡◌, [], ◌∷◌, IfOk};
+ghost use Rattle.std.specs.List.{All};
+ghost use Rattle.snapshot_store.specs.Lists.{MayBePut};
 
+use crate::commands::LINE;
+use crate::cores::open_over;
 use abs_codec::{Bytes, Items, Map};
-use commit_sink::{Entry, MemoryTransactions, Progress, TransactionFault, Transactions};
-use snapshot_store::{MemoryStore, SnapshotStore, StoreFault};
+use commit_sink::{
+    Entry, FlakyTransactions, MemoryTransactions, Progress, TransactionFault, Transactions,
+};
+use dataflow_core::CoreFault;
+use snapshot_store::{FlakyStore, MemoryStore, SnapshotStore, StoreFault};
+use source_log::{FlakyLog, MemoryLog};
 use std::alloc::Global;
 use std::test::Fail;
 
@@ -17,17 +25,24 @@ fn only<T: Drop>(alloc: Global, item: T) -> Result<Items<T>, Fail>
     Ok(items)
 }
 
-/// A store of two tasks that has given out 1 and 2, of which 1 is complete and has lost its parts, and 2 has the part of task 1.
-fn store_of_lists(alloc: Global) -> Result<MemoryStore, Fail> {
-    let mut parts = Map::new(alloc);
-    parts.insert((2, 1), Bytes::from_slice(alloc, &[7])?)?;
-    Ok(MemoryStore::from_lists(alloc, 2, 3, only(alloc, 1)?, parts)?)
+/// A store of three tasks that has given out 1 and 2, of which 1 is complete, with these parts.
+pub(crate) fn store_of_lists(
+    alloc: Global,
+    parts: Map<(u64, u32), Bytes>,
+) -> Result<MemoryStore, Fail>
+    requires { All (MayBePut 3 3) parts }
+{
+    Ok(MemoryStore::from_lists(alloc, 3, 3, only(alloc, 1)?, parts)?)
 }
 
+/// The complete checkpoint has lost its parts, and the other has that of task 1.
 #[test]
 fn lists_make_a_store(rt: HostRuntime) -> Result<(), Fail> {
-    let mut store = store_of_lists(rt.alloc())?;
-    assert_eq!(&rt; store.tasks(), 2);
+    let alloc = rt.alloc();
+    let mut parts = Map::new(alloc);
+    parts.insert((2, 1), Bytes::from_slice(alloc, &[7])?)?;
+    let mut store = store_of_lists(alloc, parts)?;
+    assert_eq!(&rt; store.tasks(), 3);
     assert_eq!(&rt; store.next_number(), 3);
     assert_eq!(&rt; store.complete_at(0), Some(1));
     assert_eq!(&rt; store.complete_at(1), None);
@@ -38,6 +53,7 @@ fn lists_make_a_store(rt: HostRuntime) -> Result<(), Fail> {
     assert!(&rt; store.get(1, 0) == Err(StoreFault::MissingPart));
     assert_eq!(&rt; store.put(2, 1, &[8]), Err(StoreFault::AlreadyPut));
     store.put(2, 0, &[9])?;
+    store.put(2, 2, &[])?;
     store.complete(2)?;
     assert_eq!(&rt; store.complete_at(1), Some(2));
     assert_eq!(&rt; store.get(2, 1)?.as_slice(), part);
@@ -63,5 +79,39 @@ fn lists_make_transactions(rt: HostRuntime) -> Result<(), Fail> {
     assert_eq!(&rt; sinks.committed_len(0), 1);
     assert_eq!(&rt; sinks.abort(1), Err(TransactionFault::AlreadyCommitted));
     assert_eq!(&rt; sinks.begin(0)?, 2);
+    Ok(())
+}
+
+/// The last number that a store gives out.
+const LAST_NUMBER: u64 = (1 << 63) - 1;
+
+/// A store of three tasks that has the last number left.
+fn almost_spent(alloc: Global) -> Result<MemoryStore, Fail> {
+    let (completes, parts) = (Items::new(alloc), Map::new(alloc));
+    Ok(MemoryStore::from_lists(alloc, 3, LAST_NUMBER, completes, parts)?)
+}
+
+#[test]
+fn the_last_number_is_given_out_once(rt: HostRuntime) -> Result<(), Fail> {
+    let mut store = almost_spent(rt.alloc())?;
+    assert_eq!(&rt; store.reserve(), Ok(LAST_NUMBER));
+    assert_eq!(&rt; store.reserve(), Err(StoreFault::NumberFull));
+    Ok(())
+}
+
+/// The job runs on without checkpoints.
+#[test]
+fn no_checkpoint_begins_without_a_number(rt: HostRuntime) -> Result<(), Fail> {
+    let alloc = rt.alloc();
+    let log = FlakyLog::new(MemoryLog::new(alloc, 1)?);
+    let store = FlakyStore::new(almost_spent(alloc)?);
+    let sinks = FlakyTransactions::new(MemoryTransactions::new(alloc, 1));
+    let mut core = open_over(alloc, LINE, log, store, sinks)?;
+    core.restart()?;
+    assert_eq!(&rt; core.trigger(), Ok(LAST_NUMBER));
+    core.fail()?;
+    assert_eq!(&rt; core.restart(), Ok(None));
+    assert_eq!(&rt; core.trigger(), Err(CoreFault::NumbersSpent));
+    assert_eq!(&rt; core.read(0), Err(CoreFault::NotReady));
     Ok(())
 }

@@ -7,6 +7,8 @@
 mod flaky_store;
 mod lists;
 mod memory_store;
+mod numbers;
+mod parts;
 mod store;
 
 pub use flaky_store::{FaultlessStore, FlakyStore, StoreCall};

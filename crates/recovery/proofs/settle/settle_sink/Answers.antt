@@ -9,4 +9,4 @@ returns-clause-ends g c =
     let rest = c.abort_all.new.transactions in
     let new = c.begin.new.self in
     rw c.call_fault-in-Err-begin.ensures
-    (begin_stops c.args.names.now c.args.subtask (X.fault_count rest) (X.fault_count new) (X.state c.args.transactions.now) (X.state named) (X.state rest) (X.state new) c.in-Err-begin.fault c.in_ok-commit_named.ensures.ends (search rules) (g.met.X.Transactions.ordered new) c.in-Err-begin.ensures.ends)
+    (begin_stops c.args.task c.args.names.now c.args.subtask (X.fault_count rest) (X.fault_count new) (X.state c.args.transactions.now) (X.state named) (X.state rest) (X.state new) c.in-Err-begin.fault c.in_ok-commit_named.ensures.ends (search rules) (g.met.X.Transactions.ordered new) c.in-Err-begin.ensures.ends)

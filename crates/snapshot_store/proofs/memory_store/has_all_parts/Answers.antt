@@ -1,11 +1,10 @@
 use Rattle.std.proofs.Common.{sym, ◌∙◌, ◌<◌, arith}
 use Rattle.std.specs.Prelude.{is_some}
 use Rattle.std.specs.FinMap as fin
-use Rattle.snapshot_store.specs.Memory.{parts_of}
-use Rattle.snapshot_store.specs.MemoryLaws.{all_below_fails}
+use Rattle.snapshot_store.proofs.Kept.{all_below_fails}
 use Rattle.snapshot_store.proofs.memory_store.has_all_parts.Goals as goal
 
-pub returns-then-not-has_part : goal.returns-then-not-has_part
-returns-then-not-has_part c =
+pub returns-then-not-has : goal.returns-then-not-has
+returns-then-not-has c =
     let lt : c.loop-task.task < c.args.tasks = omega arith in
-    sym (all_below_fails (λ t. is_some (fin.get (parts_of c.args.parts.now.entries) (c.args.number, t))) c.args.tasks c.loop-task.task lt (sym c.has_part.ensures ∙ c.if-not-has_part.true))
+    sym (all_below_fails (λ t. is_some (fin.get c.args.parts.now (c.args.number, t))) c.args.tasks c.loop-task.task lt (sym c.has.ensures ∙ c.if-not-has.true))
