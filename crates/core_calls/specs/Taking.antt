@@ -1,8 +1,8 @@
 -- What is taken from a task's input, which is this channel, and why nothing is.
-use Rattle.std.specs.Prelude.{◌≡◌, ◌<◌, ℕ, false, length, Result, Ok, Err}
+use Rattle.std.specs.Prelude.{◌≡◌, ◌⊎◌, ◌<◌, ◌+◌, ℕ, false, length, Result, Ok, Err}
 use Rattle.alignment.specs.Inputs as gates
 use Rattle.alignment.specs.Table.{IsFor, effect_of}
-use Rattle.commit_sink.specs.Ledger.{Ledger}
+use Rattle.commit_sink.specs.Ledger.{Ledger, begun, pre_committed}
 use Rattle.job_state.specs.Held.{Held, gate_at}
 use Rattle.core_model.specs.Calls.{IsBlocked, NoRecord, IsBarrierNext, CopiesSink, FailsToCopySink}
 use Rattle.core_model.specs.declared.fault.CoreFault.{CoreFault}
@@ -28,6 +28,13 @@ pub record GateAwaits {R K S : Type 0} (task input channel checkpoint : ℕ) (h 
   pub channel_in : channel < length h.came
   pub awaited : (gates.input_at (gate_at h task).inputs input).came ≡ false
   pub is_for : IsFor (gate_at h task).phase checkpoint
+
+-- a subtask's next transaction is begun, and the last one is pre-committed for a checkpoint
+abbrev pub EndsBegin : (subtask last checkpoint : ℕ) → Ledger → Ledger → Result ℕ CoreFault → Type 0
+EndsBegin subtask last checkpoint old new (Ok number) = (number ≡ length old.transactions + 1) × (new ≡ pre_committed (begun old subtask) last checkpoint)
+EndsBegin subtask last checkpoint old new (Err Memory) = new ≡ old
+EndsBegin subtask last checkpoint old new (Err Device) = ((new ≡ old) ⊎ (new ≡ begun old subtask)) ⊎ (new ≡ pre_committed (begun old subtask) last checkpoint)
+EndsBegin subtask last checkpoint old new (Err other) = ⊥
 
 -- a sink copies
 abbrev pub EndsSinkCopy : {R K S : Type 0} → ℕ → ℕ → Held R K S → Held R K S → ℕ → ℕ → Ledger → Ledger → Result Unit CoreFault → Type 0

@@ -10,7 +10,7 @@ ghost use Rattle.core_model.specs.declared.fault.CoreFault.TheVariants as CoreFa
 ghost use Rattle.core_model.specs.Calls.{input_at, is_copy, EndsInject, EndsOperatorBarrier, EndsSinkBarrier, IsBarrierDue};
 ghost use Rattle.core_model.specs.Keeps.{AreHeld, GateFits};
 ghost use Rattle.job_state.specs.Held.{gate_at};
-ghost use Rattle.core_calls.specs.Taking.{RefusesBarrier, GateAwaits, EndsSinkCopy};
+ghost use Rattle.core_calls.specs.Taking.{RefusesBarrier, GateAwaits, EndsBegin, EndsSinkCopy};
 
 use crate::dataflow::source_offset;
 use alignment::Effect;
@@ -81,6 +81,29 @@ pub fn operator_barrier<O: Operator>(
     Ok(effect)
 }
 
+/// Begins a subtask's next transaction and pre-commits the last one: the next one's number.
+fn begin_next<X: Transactions>(
+    transactions: &mut X,
+    subtask: u32,
+    last: u64,
+    checkpoint: u64,
+) -> Result<u64, CoreFault>
+    requires subtask { subtask < (X.state transactions.old).subtasks }
+    requires last { open_refusal (X.state transactions.old) last ≡ None }
+    ensures ends { EndsBegin subtask last checkpoint (X.state transactions.old) (X.state transactions.new) result }
+    ensures counted { result ≡ Err CoreFault.Device → X.fault_count transactions.old < X.fault_count transactions.new }
+{
+    let begun = match transactions.begin(subtask) {
+        Ok(begun) => begun,
+        Err(TransactionFault::Memory) => return Err(CoreFault::Memory),
+        Err(_) => return Err(CoreFault::Device),
+    };
+    if transactions.pre_commit(last, checkpoint).is_err() {
+        return Err(CoreFault::Device);
+    }
+    Ok(begun)
+}
+
 /// A sink that copies begins a transaction, pre-commits the one that was open, and copies the names of those that are pre-committed.
 fn copy_sink<O: Operator, X: Transactions>(
     attempt: &mut Attempt<O>,
@@ -106,14 +129,7 @@ fn copy_sink<O: Operator, X: Transactions>(
     let open = sink.open();
     let names = sink.names()?;
     let mut next = sink.pre_committed(checkpoint)?;
-    let begun = match transactions.begin(subtask) {
-        Ok(begun) => begun,
-        Err(TransactionFault::Memory) => return Err(CoreFault::Memory),
-        Err(_) => return Err(CoreFault::Device),
-    };
-    if transactions.pre_commit(open, checkpoint).is_err() {
-        return Err(CoreFault::Device);
-    }
+    let begun = begin_next(transactions, subtask, open, checkpoint)?;
     next.set_open(begun);
     attempt.copy_sink(task, input, channel, checkpoint, names, next);
     Ok(())
