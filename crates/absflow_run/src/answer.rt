@@ -7,10 +7,13 @@ ghost use Rattle.dataflow_core.specs.Steps.{StepFits};
 use crate::opening::RowCore;
 use abs_codec::Codec;
 use alignment::Effect;
-use dataflow_core::{DeviceCall, Reply, Step as CoreStep};
+use commit_sink::Transactions;
+use dataflow_core::{Core, DeviceCall, Reply, Step as CoreStep};
 use fault_plan::When;
-use operators::Row;
+use operators::{Operator, Row};
 use script_file::{FaultCall, Step};
+use snapshot_store::SnapshotStore;
+use source_log::Partitions;
 use std::fmt;
 
 /// The answer to a step. Its text is what follows the step's number on the answer line.
@@ -70,10 +73,20 @@ fn call_of(step: Step) -> Result<CoreStep<Row>, (FaultCall, When)>
     })
 }
 
+/// What the core answers to a call.
+fn reply_to<O: Operator, S: SnapshotStore, X: Transactions, P: Partitions<Record = O::Record>>(
+    core: &mut Core<O, S, X, P>,
+    call: &CoreStep<O::Record>,
+) -> Answer
+    requires { StepFits (Fits O.Record.HasSpelling O.Record.spelling) call.now }
+{
+    Answer(core.step(call))
+}
+
 /// Makes a step: the core's call of its name, or a device's call is made to fail.
 pub fn make_step(core: &mut RowCore, step: Step) -> Answer {
     match call_of(step) {
-        Ok(call) => Answer(core.step(&call)),
+        Ok(call) => reply_to(core, &call),
         Err((call, when)) => {
             core.arm(device_call(call), when);
             Answer(Reply::Accepted)
