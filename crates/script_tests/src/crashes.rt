@@ -2,8 +2,8 @@
 //! slow program puts out.
 
 use crate::commands::{COUNT, EARLY, LONG_LOOP, LOOP, TWO_SINKS};
-use crate::cores::{append, committed, make, row, running};
-use abs_codec::Text;
+use crate::cores::{accepts, append, row, running};
+use abs_codec::{Text, decode_all};
 use absflow_run::{RowCore, row_line};
 use job_graph::{Graph, Role, Route};
 use job_spec::JobSpec;
@@ -30,7 +30,7 @@ const RUNS: [Run; 5] = [
     Run {
         job: LONG_LOOP,
         rows: &[(0, "x", 3)],
-        steps: "read 0; work 1 0; work 2 0; trigger; inject 0; barrier 1 0; work 1 1; barrier 2 0; barrier 1 1; barrier 3 0; persist 0; persist 1; persist 2; persist 3; complete; fail; restart; work 1 1; work 2 0; work 1 1; work 2 0; work 1 1; work 3 0; trigger; inject 0; barrier 1 0; barrier 2 0; barrier 3 0; barrier 1 1; persist 0; persist 1; persist 2; persist 3; complete; commit 0",
+        steps: "read 0; work 1 0; work 2 0; trigger; inject 0; barrier 1 0; work 1 1; barrier 2 0; barrier 1 1; barrier 3 0; persist 0; persist 1; persist 2; persist 3; complete; work 2 0; work 1 1",
     },
     Run {
         job: EARLY,
@@ -40,7 +40,7 @@ const RUNS: [Run; 5] = [
     Run {
         job: LOOP,
         rows: &[(0, "x", 2), (0, "y", 1)],
-        steps: "read 0; work 1 0; read 0; trigger; inject 0; work 1 0; barrier 1 0; work 1 1; work 1 1; barrier 1 1; work 1 1; barrier 2 0; work 2 0; work 2 0; persist 0; persist 1; persist 2; complete; fail; restart; work 1 1; work 1 1; work 1 1; work 2 0; work 2 0; trigger; inject 0; barrier 1 0; barrier 2 0; barrier 1 1; persist 0; persist 1; persist 2; complete; commit 0",
+        steps: "read 0; work 1 0; read 0; trigger; inject 0; work 1 0; barrier 1 0; work 1 1; work 1 1; barrier 1 1; work 1 1; barrier 2 0; work 2 0; work 2 0; persist 0; persist 1; persist 2; complete",
     },
     Run {
         job: TWO_SINKS,
@@ -116,6 +116,19 @@ fn settle(core: &mut RowCore, graph: &Graph) -> Result<(), Fail> {
         core.commit(sink)?;
     }
     Ok(())
+}
+
+/// The committed rows of a sink subtask.
+fn committed(alloc: Global, core: &RowCore, sink: u32) -> Result<Vec<String>, Fail> {
+    let mut lines = Vec::new(alloc);
+    for number in 0..core.committed_len(sink)? {
+        let Some(record) = core.committed(sink, number)? else {
+            return Err(Fail::new("a committed row is not there"));
+        };
+        let row: Row = decode_all(alloc, &record)?;
+        lines.push(row_line(alloc, &row)?)?;
+    }
+    Ok(lines)
 }
 
 fn channels(alloc: Global, graph: &Graph) -> Result<Vec<Channel>, Fail> {
@@ -236,7 +249,7 @@ fn are_same(mut lines: Vec<String>, others: Vec<String>) -> bool {
     lines.is_empty()
 }
 
-/// The engine makes the run's first steps, fails, starts again and goes on to the end. A run that fails by its own steps fails twice then.
+/// The engine makes the run's first steps, fails, starts again and goes on to the end.
 fn interrupted(alloc: Global, run: &Run, count: usize) -> Result<RowCore, Fail> {
     let spec = JobSpec::read(alloc, run.job.as_bytes())?;
     let graph = Graph::expand(alloc, &spec)?;
@@ -245,10 +258,11 @@ fn interrupted(alloc: Global, run: &Run, count: usize) -> Result<RowCore, Fail> 
         append(alloc, &mut core, *partition, k, *v)?;
     }
     for step in run.steps.split("; ").take(count) {
-        make(alloc, &mut core, step)?;
+        if !accepts(alloc, &mut core, step)? {
+            return Err(Fail::new("a step is refused"));
+        }
     }
-    // Refused where the run's last step was a failure.
-    let _ = core.fail();
+    core.fail()?;
     core.restart()?;
     to_rest(&mut core, &graph)?;
     settle(&mut core, &graph)?;

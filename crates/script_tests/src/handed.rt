@@ -2,12 +2,9 @@
 
 use crate::commands::LINE;
 use crate::cores::{Log, Sinks, Store, append, open_over, running};
-use crate::lists::{LAST_NUMBER, almost_spent, store_of_lists};
-use abs_codec::{Bytes, Map};
-use commit_sink::{FlakyTransactions, MemoryTransactions, Progress, Transactions};
+use commit_sink::{Progress, Transactions};
 use dataflow_core::CoreFault;
 use snapshot_store::{FlakyStore, MemoryStore, SnapshotStore};
-use source_log::{FlakyLog, MemoryLog};
 use std::alloc::Global;
 use std::process::Abort;
 use std::test::Fail;
@@ -44,30 +41,28 @@ fn a_core_goes_on_from_the_devices_of_another(rt: HostRuntime) -> Result<(), Fai
     Ok(())
 }
 
-/// A store with the same parts of checkpoint 1, but for that of one task.
-fn with_part(alloc: Global, store: &mut Store, other: u32, part: &[u8]) -> Result<Store, Fail> {
+/// A store with the same parts of checkpoint 1, but for the first byte of one.
+fn damaged(alloc: Global, store: &mut Store, other: u32, byte: u8) -> Result<Store, Fail> {
     let mut copy = FlakyStore::new(MemoryStore::new(alloc, 3));
     copy.reserve()?;
     for task in 0..3 {
+        let mut bytes = store.get(1, task)?;
         if task == other {
-            copy.put(1, task, part)?;
-        } else {
-            copy.put(1, task, &store.get(1, task)?)?;
+            if let Some(first) = bytes.first_mut() {
+                *first = byte;
+            }
         }
+        copy.put(1, task, &bytes)?;
     }
     copy.complete(1)?;
     Ok(copy)
 }
 
-/// A restart over these devices is refused, and the transactions are as they were.
-fn expect_refusal(
-    rt: &impl Abort,
-    alloc: Global,
-    log: Log,
-    store: Store,
-    mut sinks: Sinks,
-) -> Result<(), Fail> {
+/// The restart is refused, and the transactions are as they were.
+fn expect_refusal(rt: &impl Abort, alloc: Global, task: u32, byte: u8) -> Result<(), Fail> {
+    let (log, mut store, mut sinks) = used(alloc)?;
     let before = sinks.unsettled(0)?;
+    let store = damaged(alloc, &mut store, task, byte)?;
     let mut core = open_over(alloc, LINE, log, store, sinks)?;
     assert_eq!(rt; core.restart(), Err(CoreFault::BadSnapshot));
     let (_, _, mut sinks) = core.into_durable();
@@ -77,10 +72,8 @@ fn expect_refusal(
     Ok(())
 }
 
-/// The first byte of a part is another.
 #[test]
 fn a_damaged_part_is_refused_before_any_transaction(rt: HostRuntime) -> Result<(), Fail> {
-    let alloc = rt.alloc();
     for (task, byte) in [
         (0, 1),
         (0, 2),
@@ -92,46 +85,9 @@ fn a_damaged_part_is_refused_before_any_transaction(rt: HostRuntime) -> Result<(
         (2, 1),
         (2, 3),
     ] {
-        let (log, mut store, sinks) = used(alloc)?;
-        let mut part = store.get(1, task)?;
-        if let Some(first) = part.first_mut() {
-            *first = byte;
-        }
-        let store = with_part(alloc, &mut store, task, &part)?;
-        expect_refusal(&rt, alloc, log, store, sinks)?;
+        expect_refusal(&rt, rt.alloc(), task, byte)?;
     }
     Ok(())
-}
-
-/// A part has to be there for each task.
-#[test]
-fn a_missing_part_is_refused_before_any_transaction(rt: HostRuntime) -> Result<(), Fail> {
-    let alloc = rt.alloc();
-    let (log, mut store, sinks) = used(alloc)?;
-    let mut parts = Map::new(alloc);
-    parts.insert((1, 0), Bytes::from_vec(store.get(1, 0)?))?;
-    parts.insert((1, 2), Bytes::from_vec(store.get(1, 2)?))?;
-    let store = FlakyStore::new(store_of_lists(alloc, parts)?);
-    expect_refusal(&rt, alloc, log, store, sinks)
-}
-
-/// The part of a sink that names one transaction.
-fn naming(transaction: u8) -> [u8; 17] {
-    [2, 0, 0, 0, 1, 0, 0, 0, 0, 0, 0, 0, transaction, 0, 0, 0, 0]
-}
-
-/// Transaction 1 is pre-committed, 2 is open, and 0 and 9 were never given out.
-#[test]
-fn a_name_of_no_pre_committed_transaction_is_refused(rt: HostRuntime) -> Result<(), Fail> {
-    let alloc = rt.alloc();
-    for name in [0, 2, 9] {
-        let (log, mut store, sinks) = used(alloc)?;
-        let store = with_part(alloc, &mut store, 2, &naming(name))?;
-        expect_refusal(&rt, alloc, log, store, sinks)?;
-    }
-    let (log, store, mut sinks) = used(alloc)?;
-    sinks.abort(1)?;
-    expect_refusal(&rt, alloc, log, store, sinks)
 }
 
 /// What used devices hold is told in lists.
@@ -154,22 +110,5 @@ fn used_devices_are_told_in_lists(rt: HostRuntime) -> Result<(), Fail> {
     assert_eq!(&rt; sinks.transaction_at(1).map(|t| t.1), Some(Progress::Open));
     assert!(&rt; sinks.transaction_at(2).is_none());
     assert_eq!(&rt; sinks.committed_at(0), None);
-    Ok(())
-}
-
-/// The job runs on without checkpoints.
-#[test]
-fn no_checkpoint_begins_without_a_number(rt: HostRuntime) -> Result<(), Fail> {
-    let alloc = rt.alloc();
-    let log = FlakyLog::new(MemoryLog::new(alloc, 1)?);
-    let store = FlakyStore::new(almost_spent(alloc)?);
-    let sinks = FlakyTransactions::new(MemoryTransactions::new(alloc, 1));
-    let mut core = open_over(alloc, LINE, log, store, sinks)?;
-    core.restart()?;
-    assert_eq!(&rt; core.trigger(), Ok(LAST_NUMBER));
-    core.fail()?;
-    assert_eq!(&rt; core.restart(), Ok(None));
-    assert_eq!(&rt; core.trigger(), Err(CoreFault::NumbersSpent));
-    assert_eq!(&rt; core.read(0), Err(CoreFault::NotReady));
     Ok(())
 }

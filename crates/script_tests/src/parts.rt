@@ -1,7 +1,7 @@
 //! The parts of a checkpoint, as they stand in the store.
 
 use crate::commands::{COUNT, EARLY, LINE, LONG_LOOP};
-use crate::cores::{Store, append, make_all, running};
+use crate::cores::{Store, accepts, append, running};
 use absflow_run::RowCore;
 use snapshot_store::{SnapshotStore, StoreFault};
 use std::alloc::Global;
@@ -66,7 +66,11 @@ fn parts_before_the_last_complete_checkpoint_are_discarded(rt: HostRuntime) -> R
 
 /// Makes the steps, of which none is refused, and answers the store.
 fn store_after(alloc: Global, mut core: RowCore, steps: &str) -> Result<Store, Fail> {
-    make_all(alloc, &mut core, steps)?;
+    for step in steps.split("; ") {
+        if !accepts(alloc, &mut core, step)? {
+            return Err(Fail::new("a step is refused"));
+        }
+    }
     let (_, store, _) = core.into_durable();
     Ok(store)
 }
