@@ -95,6 +95,10 @@ module _ {O R K S : Type 0} (meaning : Meaning R K S O) (compare : K → K → O
   abbrev pub HandsUnfit : (R → Type 0) → (O → S → Type 0) → code_job.Job O R → Move → code_configuration.Configuration R K S → Type 0
   HandsUnfit RecordFits IsGood job move old = IsUnfit (job_of meaning job) RecordFits IsGood move (configuration_of compare old)
 
+  -- After so many of the moves, all of them made, the run stopped at the next, which hands an operator what it does not take.
+  abbrev pub StopsAtUnfit : (R → Type 0) → (O → S → Type 0) → code_job.Job O R → List code_move.Move → ℕ → code_configuration.Configuration R K S → Type 0
+  StopsAtUnfit RecordFits IsGood job steps made new = (next : code_move.Move) × (slice_get steps made ≡ Some next) × HandsUnfit RecordFits IsGood job (move_of next) new
+
 -- both are one configuration of the machine
 abbrev pub StaysAt : {R K S : Type 0} → (K → K → Ordering) → code_configuration.Configuration R K S → code_configuration.Configuration R K S → Type 0
 StaysAt compare old new = configuration_of compare new ≡ configuration_of compare old

@@ -8,7 +8,7 @@ ghost use Rattle.dataflow_model.specs.Graph.{SinkTask, admitted, takes_lane};
 ghost use Rattle.dataflow_model.specs.Machine.{state_under, kept_under, left, mover, Read, Work, start};
 ghost use Rattle.plain_machine.specs.declared.job.Move as code;
 ghost use Rattle.plain_machine.specs.Offered.{has_inputs, offered};
-ghost use Rattle.plain_machine.specs.Plain.{route_of, channel_of, move_of, task_of, records_of, job_of, configuration_of, IsQueueAfter, IsOperator, MakesStep, IsImpossible, GoesAlong, HandsUnfit, StaysAt};
+ghost use Rattle.plain_machine.specs.Plain.{route_of, channel_of, move_of, task_of, records_of, job_of, configuration_of, IsQueueAfter, IsOperator, MakesStep, IsImpossible, GoesAlong, HandsUnfit, StopsAtUnfit, StaysAt};
 
 use crate::fault::PlainFault;
 use crate::job::{Channel, Configuration, Job, Move, Route, Task, TaskState};
@@ -359,11 +359,12 @@ impl<O: Operator> PlainMachine<O, O::Record, O::Key, O::State> {
         }
     }
 
-    /// Makes the moves, up to the first that is not possible, and answers how many it made. An `Err` leaves the machine after some of them.
+    /// Makes the moves, up to the first that is not possible, and answers how many it made. An `Err` leaves the machine after those before the move that was
+    /// given up.
     pub fn run(&mut self, alloc: Global, moves: &[Move]) -> Result<usize, PlainFault>
         ensures made { IfOk result (λ made. GoesAlong O.meaning O.Key.cmp self.old.job (take made moves.now) self.old.configuration self.new.configuration) }
         ensures stopped { IfOk result (λ made. (next : code.Move) → slice_get moves.now made ≡ Some next → IsImpossible O.meaning O.Key.cmp self.old.job (move_of next) self.new.configuration) }
-        ensures err { OnErr result ((made : ℕ) × GoesAlong O.meaning O.Key.cmp self.old.job (take made moves.now) self.old.configuration self.new.configuration) }
+        ensures err { IfErr result (λ f. (made : ℕ) × GoesAlong O.meaning O.Key.cmp self.old.job (take made moves.now) self.old.configuration self.new.configuration × (f ≡ PlainFault.Unfit → StopsAtUnfit O.meaning O.Key.cmp (Fits O.Record.HasSpelling O.Record.spelling) (IsGoodState (Fits O.State.HasSpelling O.State.spelling) O.Suits) self.old.job moves.now made self.new.configuration)) }
         ensures job { self.new.job ≡ self.old.job }
     {
         for (made, step) in moves.iter().enumerate() {
