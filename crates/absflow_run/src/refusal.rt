@@ -1,6 +1,11 @@
 //! Why the program ended with status 1.
 
-ghost use Rattle.std.specs.Prelude.{◌≤◌};
+ghost use Rattle.std.specs.Prelude.{◌≡◌, ◌≢◌, ◌≤◌};
+ghost use Rattle.absflow_run.specs.Telling.{TellsJob, TellsScript};
+ghost use Rattle.absflow_run.specs.declared.refusal.Refusal.TheVariants as Refusal;
+ghost use Rattle.abs_codec.specs.declared.fault.CodecFault.TheVariants as CodecFault;
+ghost use Rattle.core_model.specs.declared.fault.CoreFault.TheVariants as CoreFault;
+ghost use Rattle.source_log.specs.declared.partitions.SourceFault.TheVariants as SourceFault;
 
 use abs_codec::{CodecFault, NoMemory};
 use dataflow_core::CoreFault;
@@ -38,6 +43,8 @@ pub(crate) enum Refusal {
 }
 
 impl From<JobFault> for Refusal {
+    ghost from_gives = { TellsJob };
+
     fn from(fault: JobFault) -> Refusal {
         match fault {
             JobFault::Memory => Refusal::Memory,
@@ -47,6 +54,8 @@ impl From<JobFault> for Refusal {
 }
 
 impl From<ScriptFault> for Refusal {
+    ghost from_gives = { TellsScript };
+
     fn from(fault: ScriptFault) -> Refusal {
         match fault {
             ScriptFault::Memory => Refusal::Memory,
@@ -57,6 +66,8 @@ impl From<ScriptFault> for Refusal {
 }
 
 impl From<CoreFault> for Refusal {
+    ghost from_gives = { λ fault e. (fault ≡ CoreFault.Memory → e ≡ Refusal.Memory) × (fault ≢ CoreFault.Memory → e ≡ Refusal.Core fault) };
+
     fn from(fault: CoreFault) -> Refusal {
         match fault {
             CoreFault::Memory => Refusal::Memory,
@@ -66,6 +77,8 @@ impl From<CoreFault> for Refusal {
 }
 
 impl From<CodecFault> for Refusal {
+    ghost from_gives = { λ fault e. (fault ≡ CodecFault.Memory → e ≡ Refusal.Memory) × (fault ≢ CodecFault.Memory → e ≡ Refusal.Record fault) };
+
     fn from(fault: CodecFault) -> Refusal {
         match fault {
             CodecFault::Memory => Refusal::Memory,
@@ -75,6 +88,8 @@ impl From<CodecFault> for Refusal {
 }
 
 impl From<SourceFault> for Refusal {
+    ghost from_gives = { λ fault e. (fault ≡ SourceFault.Memory → e ≡ Refusal.Memory) × (fault ≢ SourceFault.Memory → e ≡ Refusal.Source fault) };
+
     fn from(fault: SourceFault) -> Refusal {
         match fault {
             SourceFault::Memory => Refusal::Memory,
@@ -84,12 +99,16 @@ impl From<SourceFault> for Refusal {
 }
 
 impl From<NoMemory> for Refusal {
+    ghost from_gives = { λ _ e. e ≡ Refusal.Memory };
+
     fn from(_e: NoMemory) -> Refusal {
         Refusal::Memory
     }
 }
 
 impl From<AllocError> for Refusal {
+    ghost from_gives = { λ _ e. e ≡ Refusal.Memory };
+
     fn from(_e: AllocError) -> Refusal {
         Refusal::Memory
     }

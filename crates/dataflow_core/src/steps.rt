@@ -97,7 +97,7 @@ impl<O: Operator, S: SnapshotStore, X: Transactions, P: Partitions<Record = O::R
     X,
     P,
 > {
-    ghost use Rattle.std.specs.Prelude.{◌≡◌, ℕ, Some, IfOk, OnErr, slice_get, true};
+    ghost use Rattle.std.specs.Prelude.{◌≡◌, ℕ, Some, IfOk, IfErr, slice_get, true};
     ghost use Rattle.std.specs.List.{AllByRecursion};
     ghost use Rattle.abs_codec.specs.Spelling.{Fits};
     ghost use Rattle.operators.specs.Operator.{IsGoodState};
@@ -106,6 +106,7 @@ impl<O: Operator, S: SnapshotStore, X: Transactions, P: Partitions<Record = O::R
     ghost use Rattle.dataflow_model.specs.Graph.{Begins};
     ghost use Rattle.job_graph.specs.declared.role.Role.TheVariants as Role;
     ghost use Rattle.task_part.specs.Spelling.{part_spelling};
+    ghost use Rattle.core_model.specs.declared.fault.CoreFault.TheVariants as CoreFault;
     ghost use Rattle.core_model.specs.Language.{language};
     ghost use Rattle.core_model.specs.Sound.{IsSound};
     ghost use Rattle.core_model.specs.View.{job_of, devices_of};
@@ -137,7 +138,7 @@ impl<O: Operator, S: SnapshotStore, X: Transactions, P: Partitions<Record = O::R
         }
     }
 
-    /// Makes the calls in order, refused or not, with a reply for each. The replies' room is taken first.
+    /// Makes the calls in order, refused or not, with a reply for each. The replies' room is taken first; where that is refused, `K11 Memory`, no call is made.
     pub fn run_steps(&mut self, steps: &[Step<O::Record>]) -> Result<Vec<Reply>, CoreFault>
         requires { AllByRecursion (StepFits (Fits O.Record.HasSpelling O.Record.spelling)) steps.now }
         ensures run { IfOk result (λ replies. IsRun (language O.meaning O.Key.cmp O.Record.spelling O.Record.reading O.Key.reading O.State.reading) (Fits O.Key.HasSpelling O.Key.spelling) (Fits O.Record.HasSpelling O.Record.spelling) (IsGoodState (Fits O.State.HasSpelling O.State.spelling) O.Suits) (part_spelling O.Record.spelling O.Key.spelling O.State.spelling) self.old steps.now replies.items self.new) }
@@ -145,7 +146,7 @@ impl<O: Operator, S: SnapshotStore, X: Transactions, P: Partitions<Record = O::R
         ensures same { (self.new.graph ≡ self.old.graph) × (self.new.is_fresh ≡ self.old.is_fresh) }
         ensures sound { IsSound (language O.meaning O.Key.cmp O.Record.spelling O.Record.reading O.Key.reading O.State.reading) (Fits O.Record.HasSpelling O.Record.spelling) self.old → IsSound (language O.meaning O.Key.cmp O.Record.spelling O.Record.reading O.Key.reading O.State.reading) (Fits O.Record.HasSpelling O.Record.spelling) self.new }
         ensures begins { (task subtask : ℕ) → slice_get self.old.graph.tasks task ≡ Some (Role.Sink subtask) → Begins (committed_rows self.old.ledger subtask) (committed_rows self.new.ledger subtask) }
-        ensures err { OnErr result (self.new ≡ self.old) }
+        ensures err { IfErr result (λ fault. (fault ≡ CoreFault.Memory) × (self.new ≡ self.old)) }
     {
         let mut replies = Vec::new(self.alloc);
         if replies.reserve(steps.len()).is_err() {

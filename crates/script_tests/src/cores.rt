@@ -1,5 +1,6 @@
 //! Cores over new devices in memory, and rows for them.
 
+use crate::engine::Engine;
 use abs_codec::{Codec, Text, decode_all};
 use absflow_run::{Answer, RowCore, make_step, row_line};
 use commit_sink::{FlakyTransactions, MemoryTransactions, Transactions};
@@ -52,7 +53,7 @@ pub(crate) fn running(alloc: Global, job: &str) -> Result<RowCore, Fail> {
     let store = FlakyStore::new(MemoryStore::new(alloc, tasks));
     let sinks = FlakyTransactions::new(MemoryTransactions::new(alloc, graph.sinks()));
     let mut core = open_over(alloc, job, log, store, sinks)?;
-    core.restart()?;
+    Engine::restart(&mut core)?;
     Ok(core)
 }
 
@@ -99,7 +100,7 @@ pub(crate) fn make_all(alloc: Global, core: &mut RowCore, steps: &str) -> Result
 }
 
 /// The committed rows of a sink subtask.
-pub(crate) fn committed(alloc: Global, core: &RowCore, sink: u32) -> Result<Vec<String>, Fail> {
+pub(crate) fn committed(alloc: Global, core: &impl Engine, sink: u32) -> Result<Vec<String>, Fail> {
     let mut lines = Vec::new(alloc);
     for number in 0..core.committed_len(sink)? {
         let Some(record) = core.committed(sink, number)? else {

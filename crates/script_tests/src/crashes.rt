@@ -2,8 +2,9 @@
 //! slow program puts out.
 
 use crate::commands::{COUNT, EARLY, LONG_LOOP, LOOP, TWO_SINKS};
-use crate::cores::{accepts, append, row, running};
-use abs_codec::{Text, decode_all};
+use crate::cores::{append, committed, make, row, running};
+use crate::engine::Engine;
+use abs_codec::Text;
 use absflow_run::{RowCore, row_line};
 use job_graph::{Graph, Role, Route};
 use job_spec::JobSpec;
@@ -30,7 +31,7 @@ const RUNS: [Run; 5] = [
     Run {
         job: LONG_LOOP,
         rows: &[(0, "x", 3)],
-        steps: "read 0; work 1 0; work 2 0; trigger; inject 0; barrier 1 0; work 1 1; barrier 2 0; barrier 1 1; barrier 3 0; persist 0; persist 1; persist 2; persist 3; complete; work 2 0; work 1 1",
+        steps: "read 0; work 1 0; work 2 0; trigger; inject 0; barrier 1 0; work 1 1; barrier 2 0; barrier 1 1; barrier 3 0; persist 0; persist 1; persist 2; persist 3; complete; fail; restart; work 1 1; work 2 0; work 1 1; work 2 0; work 1 1; work 3 0; trigger; inject 0; barrier 1 0; barrier 2 0; barrier 3 0; barrier 1 1; persist 0; persist 1; persist 2; persist 3; complete; commit 0",
     },
     Run {
         job: EARLY,
@@ -40,7 +41,7 @@ const RUNS: [Run; 5] = [
     Run {
         job: LOOP,
         rows: &[(0, "x", 2), (0, "y", 1)],
-        steps: "read 0; work 1 0; read 0; trigger; inject 0; work 1 0; barrier 1 0; work 1 1; work 1 1; barrier 1 1; work 1 1; barrier 2 0; work 2 0; work 2 0; persist 0; persist 1; persist 2; complete",
+        steps: "read 0; work 1 0; read 0; trigger; inject 0; work 1 0; barrier 1 0; work 1 1; work 1 1; barrier 1 1; work 1 1; barrier 2 0; work 2 0; work 2 0; persist 0; persist 1; persist 2; complete; fail; restart; work 1 1; work 1 1; work 1 1; work 2 0; work 2 0; trigger; inject 0; barrier 1 0; barrier 2 0; barrier 1 1; persist 0; persist 1; persist 2; complete; commit 0",
     },
     Run {
         job: TWO_SINKS,
@@ -53,7 +54,7 @@ const RUNS: [Run; 5] = [
 const ROUNDS: u32 = 100;
 
 /// Each task reads, or works one record of each input, and this says whether any did.
-fn move_once(core: &mut RowCore, graph: &Graph) -> bool {
+fn move_once(core: &mut impl Engine, graph: &Graph) -> bool {
     let mut moved = false;
     for task in 0..graph.tasks() {
         if core.read(task).is_ok() {
@@ -69,7 +70,7 @@ fn move_once(core: &mut RowCore, graph: &Graph) -> bool {
 }
 
 /// Reads and works until there is nothing left to read or work.
-fn to_rest(core: &mut RowCore, graph: &Graph) -> Result<(), Fail> {
+fn to_rest(core: &mut impl Engine, graph: &Graph) -> Result<(), Fail> {
     for _ in 0..ROUNDS {
         if !move_once(core, graph) {
             return Ok(());
@@ -79,7 +80,7 @@ fn to_rest(core: &mut RowCore, graph: &Graph) -> Result<(), Fail> {
 }
 
 /// Each task takes a barrier from each input that has one, and this says whether any did.
-fn take_once(core: &mut RowCore, graph: &Graph) -> bool {
+fn take_once(core: &mut impl Engine, graph: &Graph) -> bool {
     let mut taken = false;
     for task in 0..graph.tasks() {
         for (input, _) in (0..u32::MAX).zip(graph.inputs(task)) {
@@ -92,7 +93,7 @@ fn take_once(core: &mut RowCore, graph: &Graph) -> bool {
 }
 
 /// Takes barriers until there is none left to take.
-fn take_barriers(core: &mut RowCore, graph: &Graph) -> Result<(), Fail> {
+fn take_barriers(core: &mut impl Engine, graph: &Graph) -> Result<(), Fail> {
     for _ in 0..ROUNDS {
         if !take_once(core, graph) {
             return Ok(());
@@ -102,7 +103,7 @@ fn take_barriers(core: &mut RowCore, graph: &Graph) -> Result<(), Fail> {
 }
 
 /// A checkpoint, from its trigger to its commits.
-fn settle(core: &mut RowCore, graph: &Graph) -> Result<(), Fail> {
+fn settle(core: &mut impl Engine, graph: &Graph) -> Result<(), Fail> {
     core.trigger()?;
     for task in 0..graph.tasks() {
         let _ = core.inject(task);
@@ -118,17 +119,12 @@ fn settle(core: &mut RowCore, graph: &Graph) -> Result<(), Fail> {
     Ok(())
 }
 
-/// The committed rows of a sink subtask.
-fn committed(alloc: Global, core: &RowCore, sink: u32) -> Result<Vec<String>, Fail> {
-    let mut lines = Vec::new(alloc);
-    for number in 0..core.committed_len(sink)? {
-        let Some(record) = core.committed(sink, number)? else {
-            return Err(Fail::new("a committed row is not there"));
-        };
-        let row: Row = decode_all(alloc, &record)?;
-        lines.push(row_line(alloc, &row)?)?;
-    }
-    Ok(lines)
+/// A failure, a restart, and all that is left to do. The failure is refused where the run's last step was one.
+fn fail_and_settle(core: &mut impl Engine, graph: &Graph) -> Result<(), Fail> {
+    let _ = core.fail();
+    core.restart()?;
+    to_rest(core, graph)?;
+    settle(core, graph)
 }
 
 fn channels(alloc: Global, graph: &Graph) -> Result<Vec<Channel>, Fail> {
@@ -249,7 +245,7 @@ fn are_same(mut lines: Vec<String>, others: Vec<String>) -> bool {
     lines.is_empty()
 }
 
-/// The engine makes the run's first steps, fails, starts again and goes on to the end.
+/// The engine makes the run's first steps, fails, starts again and goes on to the end. A run that fails by its own steps fails twice then.
 fn interrupted(alloc: Global, run: &Run, count: usize) -> Result<RowCore, Fail> {
     let spec = JobSpec::read(alloc, run.job.as_bytes())?;
     let graph = Graph::expand(alloc, &spec)?;
@@ -258,14 +254,9 @@ fn interrupted(alloc: Global, run: &Run, count: usize) -> Result<RowCore, Fail> 
         append(alloc, &mut core, *partition, k, *v)?;
     }
     for step in run.steps.split("; ").take(count) {
-        if !accepts(alloc, &mut core, step)? {
-            return Err(Fail::new("a step is refused"));
-        }
+        make(alloc, &mut core, step)?;
     }
-    core.fail()?;
-    core.restart()?;
-    to_rest(&mut core, &graph)?;
-    settle(&mut core, &graph)?;
+    fail_and_settle(&mut core, &graph)?;
     Ok(core)
 }
 

@@ -1,7 +1,8 @@
 //! The parts of a checkpoint, as they stand in the store.
 
 use crate::commands::{COUNT, EARLY, LINE, LONG_LOOP};
-use crate::cores::{Store, accepts, append, running};
+use crate::cores::{Store, append, make_all, running};
+use crate::engine::Engine;
 use absflow_run::RowCore;
 use snapshot_store::{SnapshotStore, StoreFault};
 use std::alloc::Global;
@@ -26,7 +27,7 @@ fn parts_stand_as_they_are_spelled(rt: HostRuntime) -> Result<(), Fail> {
 }
 
 /// A checkpoint of the line, from its trigger to its end.
-fn complete_one(core: &mut RowCore) -> Result<u64, Fail> {
+fn complete_one(core: &mut impl Engine) -> Result<u64, Fail> {
     core.trigger()?;
     core.inject(0)?;
     core.take_barrier(1, 0)?;
@@ -42,7 +43,7 @@ fn complete_one(core: &mut RowCore) -> Result<u64, Fail> {
 fn the_last_complete_checkpoint_is_kept(rt: HostRuntime) -> Result<(), Fail> {
     let mut core = running(rt.alloc(), LINE)?;
     assert_eq!(&rt; complete_one(&mut core)?, 1);
-    core.trigger()?;
+    Engine::trigger(&mut core)?;
     let (_, mut store, _) = core.into_durable();
     for (task, part) in (0..3).zip(PARTS) {
         assert_eq!(&rt; store.get(1, task)?.as_slice(), part);
@@ -55,7 +56,7 @@ fn parts_before_the_last_complete_checkpoint_are_discarded(rt: HostRuntime) -> R
     let mut core = running(rt.alloc(), LINE)?;
     complete_one(&mut core)?;
     assert_eq!(&rt; complete_one(&mut core)?, 2);
-    core.trigger()?;
+    Engine::trigger(&mut core)?;
     let (_, mut store, _) = core.into_durable();
     for task in 0..3 {
         assert_eq!(&rt; store.get(1, task).err(), Some(StoreFault::MissingPart));
@@ -66,11 +67,7 @@ fn parts_before_the_last_complete_checkpoint_are_discarded(rt: HostRuntime) -> R
 
 /// Makes the steps, of which none is refused, and answers the store.
 fn store_after(alloc: Global, mut core: RowCore, steps: &str) -> Result<Store, Fail> {
-    for step in steps.split("; ") {
-        if !accepts(alloc, &mut core, step)? {
-            return Err(Fail::new("a step is refused"));
-        }
-    }
+    make_all(alloc, &mut core, steps)?;
     let (_, store, _) = core.into_durable();
     Ok(store)
 }
