@@ -41,8 +41,8 @@ pub(crate) fn open_over(
     Ok(Core::open(alloc, graph, operators, log, store, sinks))
 }
 
-/// The job over new devices and empty partitions, running.
-pub(crate) fn running(alloc: Global, job: &str) -> Result<RowCore, Fail> {
+/// New devices for a job.
+fn new_devices(alloc: Global, job: &str) -> Result<(Log, Store, Sinks), Fail> {
     let spec = JobSpec::read(alloc, job.as_bytes())?;
     let graph = Graph::expand(alloc, &spec)?;
     let tasks = graph.tasks();
@@ -52,6 +52,12 @@ pub(crate) fn running(alloc: Global, job: &str) -> Result<RowCore, Fail> {
     let log = FlakyLog::new(MemoryLog::new(alloc, graph.sources())?);
     let store = FlakyStore::new(MemoryStore::new(alloc, tasks));
     let sinks = FlakyTransactions::new(MemoryTransactions::new(alloc, graph.sinks()));
+    Ok((log, store, sinks))
+}
+
+/// The job over new devices and empty partitions, running.
+pub(crate) fn running(alloc: Global, job: &str) -> Result<RowCore, Fail> {
+    let (log, store, sinks) = new_devices(alloc, job)?;
     let mut core = open_over(alloc, job, log, store, sinks)?;
     Engine::restart(&mut core)?;
     Ok(core)
@@ -75,6 +81,18 @@ pub(crate) fn append(
         return Err(Fail::new("the row does not fit"));
     }
     Ok(core.append(partition, row)?)
+}
+
+/// Puts rows last in their partitions.
+pub(crate) fn append_all(
+    alloc: Global,
+    core: &mut RowCore,
+    rows: &[(u32, &str, i64)],
+) -> Result<(), Fail> {
+    for (partition, k, v) in rows {
+        append(alloc, core, *partition, k, *v)?;
+    }
+    Ok(())
 }
 
 /// Makes a step, and says whether it was accepted.

@@ -2,7 +2,7 @@
 //! slow program puts out.
 
 use crate::commands::{COUNT, EARLY, LONG_LOOP, LOOP, TWO_SINKS};
-use crate::cores::{append, committed, make, row, running};
+use crate::cores::{append_all, committed, make, row, running};
 use crate::engine::Engine;
 use abs_codec::Text;
 use absflow_run::{RowCore, row_line};
@@ -11,6 +11,7 @@ use job_spec::JobSpec;
 use operators::{Operator, Row, RowOp, RowState};
 use plain_machine::{Channel, Job, Move, PlainMachine, Share, Task};
 use std::alloc::Global;
+use std::process::Abort;
 use std::test::Fail;
 
 type Machine = PlainMachine<RowOp, Row, Text, RowState>;
@@ -203,20 +204,26 @@ fn move_plainly(alloc: Global, machine: &mut Machine, graph: &Graph) -> Result<b
     Ok(moved)
 }
 
-/// The plain slow program at rest.
-fn plain_at_rest(alloc: Global, run: &Run) -> Result<Machine, Fail> {
-    let spec = JobSpec::read(alloc, run.job.as_bytes())?;
-    let graph = Graph::expand(alloc, &spec)?;
+/// The run's job for the plain slow program.
+fn plain_job(
+    alloc: Global,
+    run: &Run,
+    spec: &JobSpec,
+    graph: &Graph,
+) -> Result<Job<RowOp, Row>, Fail> {
     let operators = spec.operators(alloc)?;
-    let job = Job {
-        tasks: tasks(alloc, &graph, &operators)?,
-        channels: channels(alloc, &graph)?,
+    Ok(Job {
+        tasks: tasks(alloc, graph, &operators)?,
+        channels: channels(alloc, graph)?,
         partitions: partitions(alloc, graph.sources(), run)?,
-    };
-    let mut machine = Machine::new(alloc, job)?;
+    })
+}
+
+/// Moves until no task can.
+fn move_to_rest(alloc: Global, machine: &mut Machine, graph: &Graph) -> Result<(), Fail> {
     for _ in 0..ROUNDS {
-        if !move_plainly(alloc, &mut machine, &graph)? {
-            return Ok(machine);
+        if !move_plainly(alloc, machine, graph)? {
+            return Ok(());
         }
     }
     Err(Fail::new("the plain run goes on"))
@@ -245,35 +252,61 @@ fn are_same(mut lines: Vec<String>, others: Vec<String>) -> bool {
     lines.is_empty()
 }
 
+/// Makes the run's first steps.
+fn make_first(alloc: Global, core: &mut RowCore, run: &Run, count: usize) -> Result<(), Fail> {
+    for step in run.steps.split("; ").take(count) {
+        make(alloc, core, step)?;
+    }
+    Ok(())
+}
+
+/// Each sink has committed what the plain slow program puts out, in any order.
+fn expect_rows(
+    rt: &impl Abort,
+    alloc: Global,
+    core: &impl Engine,
+    graph: &Graph,
+    machine: &Machine,
+) -> Result<(), Fail> {
+    for sink in 0..graph.sinks() {
+        let lines = committed(alloc, core, sink)?;
+        assert!(rt; are_same(lines, wanted(alloc, graph, machine, sink)?));
+    }
+    Ok(())
+}
+
 /// The engine makes the run's first steps, fails, starts again and goes on to the end. A run that fails by its own steps fails twice then.
-fn interrupted(alloc: Global, run: &Run, count: usize) -> Result<RowCore, Fail> {
+fn expect_no_trace(
+    rt: &impl Abort,
+    alloc: Global,
+    run: &Run,
+    count: usize,
+    graph: &Graph,
+    machine: &Machine,
+) -> Result<(), Fail> {
+    let mut core = running(alloc, run.job)?;
+    append_all(alloc, &mut core, run.rows)?;
+    make_first(alloc, &mut core, run, count)?;
+    fail_and_settle(&mut core, graph)?;
+    expect_rows(rt, alloc, &core, graph, machine)
+}
+
+/// It fails at each place of the run.
+fn expect_no_traces(rt: &impl Abort, alloc: Global, run: &Run) -> Result<(), Fail> {
     let spec = JobSpec::read(alloc, run.job.as_bytes())?;
     let graph = Graph::expand(alloc, &spec)?;
-    let mut core = running(alloc, run.job)?;
-    for (partition, k, v) in run.rows {
-        append(alloc, &mut core, *partition, k, *v)?;
+    let mut machine = Machine::new(alloc, plain_job(alloc, run, &spec, &graph)?)?;
+    move_to_rest(alloc, &mut machine, &graph)?;
+    for count in 0..=run.steps.split("; ").count() {
+        expect_no_trace(rt, alloc, run, count, &graph, &machine)?;
     }
-    for step in run.steps.split("; ").take(count) {
-        make(alloc, &mut core, step)?;
-    }
-    fail_and_settle(&mut core, &graph)?;
-    Ok(core)
+    Ok(())
 }
 
 #[test]
 fn a_failure_at_any_place_leaves_no_trace(rt: HostRuntime) -> Result<(), Fail> {
-    let alloc = rt.alloc();
     for run in &RUNS {
-        let spec = JobSpec::read(alloc, run.job.as_bytes())?;
-        let graph = Graph::expand(alloc, &spec)?;
-        let machine = plain_at_rest(alloc, run)?;
-        for count in 0..=run.steps.split("; ").count() {
-            let core = interrupted(alloc, run, count)?;
-            for sink in 0..graph.sinks() {
-                let lines = committed(alloc, &core, sink)?;
-                assert!(&rt; are_same(lines, wanted(alloc, &graph, &machine, sink)?));
-            }
-        }
+        expect_no_traces(&rt, rt.alloc(), run)?;
     }
     Ok(())
 }

@@ -1,8 +1,11 @@
 //! Devices that fail before or after their work: each call of each, once before and once after.
 
 use crate::commands::{LINE, TWO_SINKS, answers_then, expect_script, script_text, written};
-use crate::cores::{accepts, append, make_all, running};
+use crate::cores::{Sinks, accepts, append, make, make_all, running};
+use absflow_run::RowCore;
 use commit_sink::Transactions;
+use std::alloc::Global;
+use std::process::Abort;
 use std::test::Fail;
 
 /// No row is committed.
@@ -218,28 +221,42 @@ fn sinks_commit_apart(rt: HostRuntime) -> Result<(), Fail> {
     Ok(())
 }
 
+/// The line's sink fails to copy, and the job starts again.
+fn fail_to_copy(alloc: Global, core: &mut RowCore, fault: &str) -> Result<(), Fail> {
+    append(alloc, core, 0, "a", 1)?;
+    make_all(
+        alloc,
+        core,
+        "read 0; work 1 0; work 2 0; trigger; inject 0; barrier 1 0",
+    )?;
+    make(alloc, core, fault)?;
+    if accepts(alloc, core, "barrier 2 0")? {
+        return Err(Fail::new("the copy did not fail"));
+    }
+    make(alloc, core, "restart")
+}
+
+/// The transactions then.
+fn after_a_failed_copy(alloc: Global, fault: &str) -> Result<Sinks, Fail> {
+    let mut core = running(alloc, LINE)?;
+    fail_to_copy(alloc, &mut core, fault)?;
+    let (_, _, sinks) = core.into_durable();
+    Ok(sinks)
+}
+
+/// The third transaction is open, and those before it are settled.
+fn expect_the_third(rt: &impl Abort, sinks: &mut impl Transactions) -> Result<(), Fail> {
+    let unsettled = sinks.unsettled(0)?;
+    assert_eq!(rt; unsettled.as_slice(), [(3, None)].as_slice());
+    Ok(())
+}
+
 /// A sink's copy begins a transaction and pre-commits the one before it. Where either fails, the restart aborts both and begins the third.
 #[test]
 fn a_restart_aborts_what_a_failed_copy_left(rt: HostRuntime) -> Result<(), Fail> {
-    let alloc = rt.alloc();
     for fault in ["fault txn.begin after", "fault txn.pre_commit after"] {
-        let mut core = running(alloc, LINE)?;
-        append(alloc, &mut core, 0, "a", 1)?;
-        make_all(
-            alloc,
-            &mut core,
-            "read 0; work 1 0; work 2 0; trigger; inject 0; barrier 1 0",
-        )?;
-        make_all(alloc, &mut core, fault)?;
-        assert!(&rt; !accepts(alloc, &mut core, "barrier 2 0")?);
-        assert_eq!(&rt; core.restart()?, None);
-        let (_, _, mut sinks) = core.into_durable();
-        let unsettled = sinks.unsettled(0)?;
-        assert_eq!(&rt;
-            unsettled.as_slice(),
-            [(3, None)].as_slice(),
-            "after {fault}"
-        );
+        let mut sinks = after_a_failed_copy(rt.alloc(), fault)?;
+        expect_the_third(&rt, &mut sinks)?;
     }
     Ok(())
 }

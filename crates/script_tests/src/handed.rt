@@ -10,7 +10,7 @@ use core_model::Start;
 use dataflow_core::CoreFault;
 use job_graph::Graph;
 use job_spec::JobSpec;
-use operators::Operator;
+use operators::{Operator, RowOp};
 use recovery::{RecoveryFault, Restored, restore};
 use snapshot_store::{FlakyStore, MemoryStore, SnapshotStore};
 use source_log::{FlakyLog, MemoryLog, Partitions};
@@ -161,15 +161,19 @@ fn read_back<O: Operator, S: SnapshotStore, P: Partitions<Record = O::Record>>(
     restore(alloc, graph, operators, store, log)
 }
 
-/// The source goes on behind its row, the operator has no states, and the sink is to commit its transaction.
-#[test]
-fn a_restart_starts_from_the_parts(rt: HostRuntime) -> Result<(), Fail> {
-    let alloc = rt.alloc();
+/// What the restart of a line reads.
+fn restored_line(alloc: Global) -> Result<Restored<RowOp>, Fail> {
     let (log, mut store, _) = used(alloc)?;
     let job = JobSpec::read(alloc, LINE.as_bytes())?;
     let graph = Graph::expand(alloc, &job)?;
     let operators = job.operators(alloc)?;
-    let restored = read_back(alloc, &graph, &operators, &mut store, &log)?;
+    Ok(read_back(alloc, &graph, &operators, &mut store, &log)?)
+}
+
+/// The source goes on behind its row, the operator has no states, and the sink is to commit its transaction.
+#[test]
+fn a_restart_starts_from_the_parts(rt: HostRuntime) -> Result<(), Fail> {
+    let restored = restored_line(rt.alloc())?;
     assert_eq!(&rt; restored.number(), Some(1));
     let [
         Start::Source(1),

@@ -6,83 +6,134 @@ ghost use Rattle.dataflow_core.specs.Steps.{StepFits};
 
 use crate::commands::LINE;
 use crate::cores::{committed, row, running};
+use crate::engine::Engine;
 use abs_codec::Codec;
+use absflow_run::RowCore;
 use alignment::Effect;
 use commit_sink::Transactions;
 use dataflow_core::{Core, CoreFault, Reply, Step};
 use operators::Operator;
 use snapshot_store::SnapshotStore;
-use source_log::{Partitions, SourceFault};
+use source_log::Partitions;
+use std::alloc::Global;
+use std::process::Abort;
 use std::test::Fail;
 
-/// What the calls of the list below come to: a row, a checkpoint behind it, a failure and a restart, which commits.
-const REPLIES: [Reply; 20] = [
-    Reply::Source(SourceFault::NoSuchPartition),
-    Reply::Accepted,
-    Reply::Accepted,
-    Reply::Refused(CoreFault::NotReady),
-    Reply::Accepted,
-    Reply::Accepted,
-    Reply::Number(1),
-    Reply::Refused(CoreFault::CheckpointPending),
-    Reply::Accepted,
-    Reply::Barrier(Effect::CopyAndDone),
-    Reply::Barrier(Effect::CopyAndDone),
-    Reply::Accepted,
-    Reply::Accepted,
-    Reply::Accepted,
-    Reply::Number(1),
-    Reply::Accepted,
-    Reply::Refused(CoreFault::NotRunning),
-    Reply::Number(1),
-    Reply::Accepted,
-    Reply::Refused(CoreFault::NotReady),
-];
-
-/// What a core replies to a list of calls.
-fn replies<O: Operator, S: SnapshotStore, X: Transactions, P: Partitions<Record = O::Record>>(
+/// A core's replies to a list of calls are these, whichever of them are refusals.
+fn expect_replies<
+    O: Operator,
+    S: SnapshotStore,
+    X: Transactions,
+    P: Partitions<Record = O::Record>,
+>(
+    rt: &impl Abort,
     core: &mut Core<O, S, X, P>,
     steps: &[Step<O::Record>],
-) -> Result<Vec<Reply>, CoreFault>
+    wanted: &[Reply],
+) -> Result<(), Fail>
     requires { AllByRecursion (StepFits (Fits O.Record.HasSpelling O.Record.spelling)) steps.now }
 {
-    core.run_steps(steps)
+    let replies = core.run_steps(steps)?;
+    assert_eq!(rt; replies.as_slice(), wanted);
+    Ok(())
 }
 
-/// A refused call does not end the list.
-#[test]
-fn a_list_of_calls_is_made_in_order(rt: HostRuntime) -> Result<(), Fail> {
-    let alloc = rt.alloc();
-    let mut core = running(alloc, LINE)?;
-    let (first, second) = (row(alloc, "a", 1)?, row(alloc, "a", 1)?);
-    assert!(&rt; first.fits());
-    assert!(&rt; second.fits());
+/// A row goes from the source to the sink; task 1 is no source.
+fn append_and_work(rt: &impl Abort, alloc: Global, core: &mut RowCore) -> Result<(), Fail> {
+    let row = row(alloc, "a", 1)?;
+    assert!(rt; row.fits());
+    expect_replies(rt, core, &[Step::Append(0, row)], &[Reply::Accepted])?;
     let steps = [
-        Step::Append(1, first),
-        Step::Append(0, second),
+        Step::Read(1),
         Step::Read(0),
         Step::Read(0),
         Step::Work(1, 0),
         Step::Work(2, 0),
+    ];
+    let wanted = [
+        Reply::Refused(CoreFault::NoSuchTask),
+        Reply::Accepted,
+        Reply::Refused(CoreFault::NotReady),
+        Reply::Accepted,
+        Reply::Accepted,
+    ];
+    expect_replies(rt, core, &steps, &wanted)
+}
+
+/// A checkpoint behind it.
+fn take_a_checkpoint(rt: &impl Abort, core: &mut RowCore) -> Result<(), Fail> {
+    let steps = [
         Step::Trigger,
         Step::Trigger,
         Step::Inject(0),
         Step::Barrier(1, 0),
         Step::Barrier(2, 0),
+    ];
+    let wanted = [
+        Reply::Number(1),
+        Reply::Refused(CoreFault::CheckpointPending),
+        Reply::Accepted,
+        Reply::Barrier(Effect::CopyAndDone),
+        Reply::Barrier(Effect::CopyAndDone),
+    ];
+    expect_replies(rt, core, &steps, &wanted)
+}
+
+/// It becomes complete.
+fn complete_it(rt: &impl Abort, core: &mut RowCore) -> Result<(), Fail> {
+    let steps = [
         Step::Persist(0),
         Step::Persist(1),
         Step::Persist(2),
         Step::Complete,
+    ];
+    let wanted = [
+        Reply::Accepted,
+        Reply::Accepted,
+        Reply::Accepted,
+        Reply::Number(1),
+    ];
+    expect_replies(rt, core, &steps, &wanted)
+}
+
+/// A failure and a restart, which commits.
+fn fail_and_restart(rt: &impl Abort, core: &mut RowCore) -> Result<(), Fail> {
+    let steps = [
         Step::Fail,
         Step::Commit(0),
         Step::Restart,
         Step::Commit(0),
         Step::Read(0),
     ];
-    let replies = replies(&mut core, &steps)?;
-    assert_eq!(&rt; replies.as_slice(), REPLIES.as_slice());
-    let rows = committed(alloc, &core, 0)?;
-    assert_eq!(&rt; rows.len(), 1);
-    assert_eq!(&rt; rows[0].as_str(), "{\"k\":\"a\",\"v\":11}");
+    let wanted = [
+        Reply::Accepted,
+        Reply::Refused(CoreFault::NotRunning),
+        Reply::Number(1),
+        Reply::Accepted,
+        Reply::Refused(CoreFault::NotReady),
+    ];
+    expect_replies(rt, core, &steps, &wanted)
+}
+
+fn make_lists(rt: &impl Abort, alloc: Global, core: &mut RowCore) -> Result<(), Fail> {
+    append_and_work(rt, alloc, core)?;
+    take_a_checkpoint(rt, core)?;
+    complete_it(rt, core)?;
+    fail_and_restart(rt, core)
+}
+
+/// The row is committed once.
+fn expect_the_row(rt: &impl Abort, alloc: Global, core: &impl Engine) -> Result<(), Fail> {
+    let rows = committed(alloc, core, 0)?;
+    assert_eq!(rt; rows.len(), 1);
+    assert_eq!(rt; rows[0].as_str(), "{\"k\":\"a\",\"v\":11}");
     Ok(())
+}
+
+/// A refused call does not end a list.
+#[test]
+fn lists_of_calls_are_made_in_order(rt: HostRuntime) -> Result<(), Fail> {
+    let mut core = running(rt.alloc(), LINE)?;
+    make_lists(&rt, rt.alloc(), &mut core)?;
+    expect_the_row(&rt, rt.alloc(), &core)
 }
