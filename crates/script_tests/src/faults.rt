@@ -2,6 +2,7 @@
 
 use crate::commands::{LINE, TWO_SINKS, answers_then, expect_script, script_text, written};
 use crate::cores::{Sinks, accepts, append, make, make_all, running};
+use crate::engine::Engine;
 use absflow_run::RowCore;
 use commit_sink::Transactions;
 use std::alloc::Global;
@@ -233,7 +234,10 @@ fn fail_to_copy(alloc: Global, core: &mut RowCore, fault: &str) -> Result<(), Fa
     if accepts(alloc, core, "barrier 2 0")? {
         return Err(Fail::new("the copy did not fail"));
     }
-    make(alloc, core, "restart")
+    if Engine::restart(core)?.is_some() {
+        return Err(Fail::new("a checkpoint was complete"));
+    }
+    Ok(())
 }
 
 /// The transactions then.

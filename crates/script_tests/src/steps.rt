@@ -14,7 +14,7 @@ use commit_sink::Transactions;
 use dataflow_core::{Core, CoreFault, Reply, Step};
 use operators::Operator;
 use snapshot_store::SnapshotStore;
-use source_log::Partitions;
+use source_log::{Partitions, SourceFault};
 use std::alloc::Global;
 use std::process::Abort;
 use std::test::Fail;
@@ -36,6 +36,14 @@ fn expect_replies<
     let replies = core.run_steps(steps)?;
     assert_eq!(rt; replies.as_slice(), wanted);
     Ok(())
+}
+
+/// There is no partition 1.
+fn append_elsewhere(rt: &impl Abort, alloc: Global, core: &mut RowCore) -> Result<(), Fail> {
+    let row = row(alloc, "a", 1)?;
+    assert!(rt; row.fits());
+    let wanted = [Reply::Source(SourceFault::NoSuchPartition)];
+    expect_replies(rt, core, &[Step::Append(1, row)], &wanted)
 }
 
 /// A row goes from the source to the sink; task 1 is no source.
@@ -116,6 +124,7 @@ fn fail_and_restart(rt: &impl Abort, core: &mut RowCore) -> Result<(), Fail> {
 }
 
 fn make_lists(rt: &impl Abort, alloc: Global, core: &mut RowCore) -> Result<(), Fail> {
+    append_elsewhere(rt, alloc, core)?;
     append_and_work(rt, alloc, core)?;
     take_a_checkpoint(rt, core)?;
     complete_it(rt, core)?;
