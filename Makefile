@@ -1,14 +1,18 @@
 # make demo    runs examples/line.json from the sources as they stand, with nothing proved: the answers, then the committed rows
 # make test    the gate: every proof from nothing, every edit that must be refused, every test, the program's stored run
+# make wrong   tries the finer edits, those of crates/NAME/wrong/; of some crates alone by make wrong CRATES="alignment channels"
 # make build   proves the program and all that it stands on, and leaves it as bin/absflow
 # make bench   prints the seconds of scripts of 10,000 and of 100,000 steps, through bin/absflow
-.PHONY: demo test build bench
+.PHONY: demo test wrong build bench
 
 demo:
 	cd crates/absflow && rt try < ../../examples/line.json
 
 test:
 	rt ci
+
+wrong:
+	tests/wrong.sh $(CRATES)
 
 build:
 	cd crates/absflow && rt run < ../../examples/line.json
