@@ -1,5 +1,5 @@
 -- The laws of the row operators.
-use Rattle.std.proofs.Common.{◌≡◌, ℕ, ℤ, pos, negsuc, ◌*◌, ◌-◌, ◌^◌, ◌<◌, ◌≤◌, true, List, [], ◌∷◌, ◌++◌, length, fold, Some, None, refl, ap, arith, length-append, lit≤, lit<, rules, sym, subst, ◌∙◌}
+use Rattle.std.proofs.Common.{◌≡◌, ℕ, ℤ, pos, negsuc, ◌*◌, ◌-◌, ◌^◌, ◌<◌, ◌≤◌, true, false, List, [], ◌∷◌, ◌++◌, length, fold, Some, None, refl, ap, arith, length-append, lit≤, lit<, rules, sym, subst, ◌∙◌}
 use Rattle.std.specs.Int.{w64, saturate_signed}
 use Rattle.std.specs.Int.RustNames.{FitsSigned}
 use Rattle.std.specs.Prelude.{int_lt, nat_lt}
@@ -41,18 +41,22 @@ KeyFits = Fits (IsTextWithin (2 ^ 32 - 1)) bytes_spelling
 
 -- ---- values that compare equal are the same value
 
+-- named once, so that no case below unfolds the comparison to see it
+differs : false ≡ true → ⊥
+differs e = absurd cc
+
 pub rows_are_exact : EqualIsSame row_comparison.eq
 rows_are_exact a b h = search rules
 
 pub states_are_exact : EqualIsSame state_comparison.eq
 states_are_exact Plain Plain h = refl
-states_are_exact Plain (Number n) h = absurd cc
-states_are_exact Plain (Numbers ns) h = absurd cc
-states_are_exact (Number m) Plain h = absurd cc
+states_are_exact Plain (Number n) h = absurd (differs h)
+states_are_exact Plain (Numbers ns) h = absurd (differs h)
+states_are_exact (Number m) Plain h = absurd (differs h)
 states_are_exact (Number m) (Number n) h = let e : int_eq m n ≡ true = h in ap Number (equal_integers m n e)
-states_are_exact (Number m) (Numbers ns) h = absurd cc
-states_are_exact (Numbers ms) Plain h = absurd cc
-states_are_exact (Numbers ms) (Number n) h = absurd cc
+states_are_exact (Number m) (Numbers ns) h = absurd (differs h)
+states_are_exact (Numbers ms) Plain h = absurd (differs h)
+states_are_exact (Numbers ms) (Number n) h = absurd (differs h)
 states_are_exact (Numbers ms) (Numbers ns) h = let e : pointwise int_eq ms ns ≡ true = h in ap Numbers (equal_lists int_eq equal_integers ms ns e)
 
 keys_are_exact : (j k : RowKey) → j.text ≡ k.text → j ≡ k
@@ -67,23 +71,23 @@ sizes_are_exact j k e =
 
 pub ops_are_exact : EqualIsSame op_comparison.eq
 ops_are_exact (Add m) (Add n) h = ap Add (equal_integers m n h)
-ops_are_exact (Add m) _ h = absurd cc
+ops_are_exact (Add m) _ h = absurd (differs h)
 ops_are_exact (Rekey j) (Rekey k) h = ap Rekey (keys_are_exact j k (equal_bytes j.text k.text h))
-ops_are_exact (Rekey j) _ h = absurd cc
+ops_are_exact (Rekey j) _ h = absurd (differs h)
 ops_are_exact (FilterGe m) (FilterGe n) h = ap FilterGe (equal_integers m n h)
-ops_are_exact (FilterGe m) _ h = absurd cc
+ops_are_exact (FilterGe m) _ h = absurd (differs h)
 ops_are_exact (FilterLt m) (FilterLt n) h = ap FilterLt (equal_integers m n h)
-ops_are_exact (FilterLt m) _ h = absurd cc
+ops_are_exact (FilterLt m) _ h = absurd (differs h)
 ops_are_exact (Split m) (Split n) h = ap Split (equal_integers m n h)
-ops_are_exact (Split m) _ h = absurd cc
+ops_are_exact (Split m) _ h = absurd (differs h)
 ops_are_exact Count Count h = refl
-ops_are_exact Count _ h = absurd cc
+ops_are_exact Count _ h = absurd (differs h)
 ops_are_exact Sum Sum h = refl
-ops_are_exact Sum _ h = absurd cc
+ops_are_exact Sum _ h = absurd (differs h)
 ops_are_exact (Window m) (Window n) h = ap Window (sizes_are_exact m n (equal_numbers m.n n.n h))
-ops_are_exact (Window m) _ h = absurd cc
+ops_are_exact (Window m) _ h = absurd (differs h)
 ops_are_exact LoopDown LoopDown h = refl
-ops_are_exact LoopDown _ h = absurd cc
+ops_are_exact LoopDown _ h = absurd (differs h)
 
 -- ---- numbers
 
@@ -125,11 +129,14 @@ values_fit values row fit fits = All-append (FitsSigned w64) values (row.v ∷ [
 
 -- ---- keys
 
+nothing_is : (key : List ℕ) → None ≡ Some key → ⊥
+nothing_is key e = absurd cc
+
 key_is : (op : RowOp) (r : Row) (key : List ℕ) → row_key op r ≡ Some key → r.k ≡ key
 key_is Count r key e = cc
 key_is Sum r key e = cc
 key_is (Window n) r key e = cc
-key_is _ r key e = absurd cc
+key_is _ r key e = absurd (nothing_is key e)
 
 pub row_key_fits : (op : RowOp) (r : Row) (key : List ℕ) → RowFits r → row_key op r ≡ Some key → KeyFits key
 row_key_fits op r key fits e = subst KeyFits (key_is op r key e) (key_of_row_fits r fits)
