@@ -3,7 +3,7 @@
 ghost use Rattle.std.specs.Prelude.{◌≡◌, ◌<◌, ◌≤◌, length, true};
 ghost use Rattle.alignment.specs.Table.{IsFor};
 
-use super::*;
+use alignment::{Effect, Gate, Phase};
 use std::alloc::{AllocError, Global};
 use std::process::Abort;
 use std::test::Fail;

@@ -1,3 +1,5 @@
+//! What each kind of operator makes of rows, and what chains and picks make of their operators.
+
 use abs_codec::{Codec, Items, NoMemory, Text};
 use operators::{
     Chain, KeylessRowOp, Operator, Outcome, Pick, Row, RowKey, RowOp, RowState, WindowSize,

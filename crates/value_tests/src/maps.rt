@@ -1,5 +1,7 @@
-use super::*;
+//! A map that is frozen, and counted on.
+
 use abs_codec::{Codec, Map, Text};
+use keyed_state::KeyedState;
 use std::alloc::Global;
 use std::collections::BTreeMap;
 use std::test::Fail;
