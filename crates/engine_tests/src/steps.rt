@@ -4,15 +4,15 @@ ghost use Rattle.std.specs.List.{AllByRecursion};
 ghost use Rattle.abs_codec.specs.Spelling.{Fits};
 ghost use Rattle.dataflow_core.specs.Steps.{StepFits};
 
-use crate::commands::LINE;
-use crate::cores::{committed, row, running};
+use crate::cores::{committed, expect_answers, opened};
 use crate::engine::Engine;
-use abs_codec::Codec;
+use crate::jobs::LINE;
+use abs_codec::{Codec, Text};
 use absflow_run::RowCore;
 use alignment::Effect;
 use commit_sink::Transactions;
 use dataflow_core::{Core, CoreFault, Reply, Step};
-use operators::Operator;
+use operators::{Operator, Row};
 use snapshot_store::SnapshotStore;
 use source_log::{Partitions, SourceFault};
 use std::alloc::Global;
@@ -40,7 +40,8 @@ fn expect_replies<
 
 /// There is no partition 1.
 fn append_elsewhere(rt: &impl Abort, alloc: Global, core: &mut RowCore) -> Result<(), Fail> {
-    let row = row(alloc, "a", 1)?;
+    let k = Text::from_str(alloc, "a")?;
+    let row = Row { k, v: 1 };
     assert!(rt; row.fits());
     let wanted = [Reply::Source(SourceFault::NoSuchPartition)];
     expect_replies(rt, core, &[Step::Append(1, row)], &wanted)
@@ -48,7 +49,8 @@ fn append_elsewhere(rt: &impl Abort, alloc: Global, core: &mut RowCore) -> Resul
 
 /// A row goes from the source to the sink; task 1 is no source.
 fn append_and_work(rt: &impl Abort, alloc: Global, core: &mut RowCore) -> Result<(), Fail> {
-    let row = row(alloc, "a", 1)?;
+    let k = Text::from_str(alloc, "a")?;
+    let row = Row { k, v: 1 };
     assert!(rt; row.fits());
     expect_replies(rt, core, &[Step::Append(0, row)], &[Reply::Accepted])?;
     let steps = [
@@ -142,7 +144,8 @@ fn expect_the_row(rt: &impl Abort, alloc: Global, core: &impl Engine) -> Result<
 /// A refused call does not end a list.
 #[test]
 fn lists_of_calls_are_made_in_order(rt: HostRuntime) -> Result<(), Fail> {
-    let mut core = running(rt.alloc(), LINE)?;
+    let mut core = opened(rt.alloc(), LINE)?;
+    expect_answers(&rt, rt.alloc(), &mut core, &[("restart", "ok 0")])?;
     make_lists(&rt, rt.alloc(), &mut core)?;
     expect_the_row(&rt, rt.alloc(), &core)
 }

@@ -20,7 +20,7 @@ fn only<T: Drop>(alloc: Global, item: T) -> Result<Items<T>, Fail>
 }
 
 /// A store of three tasks that has given out 1 and 2, of which 1 is complete, with these parts.
-pub(crate) fn store_of_lists(
+fn store_of_lists(
     alloc: Global,
     parts: Map<(u64, u32), Bytes>,
 ) -> Result<MemoryStore, Fail>
@@ -77,10 +77,10 @@ fn lists_make_transactions(rt: HostRuntime) -> Result<(), Fail> {
 }
 
 /// The last number that a store gives out.
-pub(crate) const LAST_NUMBER: u64 = (1 << 63) - 1;
+const LAST_NUMBER: u64 = (1 << 63) - 1;
 
 /// A store of three tasks that has the last number left.
-pub(crate) fn almost_spent(alloc: Global) -> Result<MemoryStore, Fail> {
+fn almost_spent(alloc: Global) -> Result<MemoryStore, Fail> {
     let (completes, parts) = (Items::new(alloc), Map::new(alloc));
     Ok(MemoryStore::from_lists(alloc, 3, LAST_NUMBER, completes, parts)?)
 }

@@ -1,13 +1,13 @@
 //! Cores over devices that were used before.
 
-use crate::commands::LINE;
-use crate::cores::{Log, Sinks, Store, append, open_over, running};
+use crate::cores::{Log, Sinks, Store, expect_answers, open_over, opened};
 use crate::engine::Engine;
-use crate::lists::{LAST_NUMBER, almost_spent, store_of_lists};
+use crate::jobs::LINE;
+use crate::lists::{almost_spent, store_of_lists};
 use abs_codec::{Bytes, Map};
+use absflow_run::RowCore;
 use commit_sink::{FlakyTransactions, MemoryTransactions, Progress, Transactions};
 use core_model::Start;
-use dataflow_core::CoreFault;
 use job_graph::Graph;
 use job_spec::JobSpec;
 use operators::{Operator, RowOp};
@@ -18,46 +18,50 @@ use std::alloc::Global;
 use std::process::Abort;
 use std::test::Fail;
 
-/// The devices of a line that has worked one row and completed checkpoint 1, and has not committed.
-fn used(alloc: Global) -> Result<(Log, Store, Sinks), Fail> {
-    let mut core = running(alloc, LINE)?;
-    append(alloc, &mut core, 0, "a", 1)?;
-    complete_one(&mut core)?;
-    Ok(core.into_durable())
-}
+/// A row goes into the sink, and into checkpoint 1.
+const FIRST_CHECKPOINT: [(&str, &str); 13] = [
+    ("append 0 1 a", "ok"),
+    ("restart", "ok 0"),
+    ("read 0", "ok"),
+    ("work 1 0", "ok"),
+    ("work 2 0", "ok"),
+    ("trigger", "ok 1"),
+    ("inject 0", "ok"),
+    ("barrier 1 0", "ok copy-done"),
+    ("barrier 2 0", "ok copy-done"),
+    ("persist 0", "ok"),
+    ("persist 1", "ok"),
+    ("persist 2", "ok"),
+    ("complete", "ok 1"),
+];
 
-/// The row goes into the sink, and into checkpoint 1.
-fn complete_one(core: &mut impl Engine) -> Result<u64, Fail> {
-    core.read(0)?;
-    core.work(1, 0)?;
-    core.work(2, 0)?;
-    core.trigger()?;
-    core.inject(0)?;
-    core.take_barrier(1, 0)?;
-    core.take_barrier(2, 0)?;
-    for task in 0..3 {
-        core.persist(task)?;
-    }
-    Ok(core.complete()?)
+/// The devices of a line that has worked one row and completed checkpoint 1, and has not committed.
+fn used(rt: &impl Abort, alloc: Global) -> Result<(Log, Store, Sinks), Fail> {
+    let mut core = opened(alloc, LINE)?;
+    expect_answers(rt, alloc, &mut core, &FIRST_CHECKPOINT)?;
+    Ok(core.into_durable())
 }
 
 /// A core that is opened over such devices goes on from them.
 #[test]
 fn a_core_goes_on_from_the_devices_of_another(rt: HostRuntime) -> Result<(), Fail> {
     let alloc = rt.alloc();
-    let (log, store, sinks) = used(alloc)?;
+    let (log, store, sinks) = used(&rt, alloc)?;
     let mut core = open_over(alloc, LINE, log, store, sinks)?;
-    expect_commit(&rt, &mut core)
+    expect_commit(&rt, alloc, &mut core)
+}
+
+/// Whether the core is fresh, and how many rows it has committed.
+fn told(core: &impl Engine) -> Result<(bool, u64), Fail> {
+    Ok((core.is_fresh(), core.committed_len(0)?))
 }
 
 /// The restart commits the row of checkpoint 1, and there is none behind it.
-fn expect_commit(rt: &impl Abort, core: &mut impl Engine) -> Result<(), Fail> {
-    assert!(rt; !core.is_fresh());
-    assert_eq!(rt; core.committed_len(0)?, 0);
-    assert_eq!(rt; core.restart()?, Some(1));
-    assert_eq!(rt; core.committed_len(0)?, 1);
-    assert_eq!(rt; core.read(0), Err(CoreFault::NotReady));
-    Ok(())
+fn expect_commit(rt: &impl Abort, alloc: Global, core: &mut RowCore) -> Result<(), Fail> {
+    assert_eq!(rt; told(core)?, (false, 0));
+    expect_answers(rt, alloc, core, &[("restart", "ok 1")])?;
+    assert_eq!(rt; told(core)?, (false, 1));
+    expect_answers(rt, alloc, core, &[("read 0", "K3 NotReady")])
 }
 
 /// A store with the same parts of checkpoint 1, but for that of one task.
@@ -85,7 +89,7 @@ fn expect_refusal(
 ) -> Result<(), Fail> {
     let before = sinks.unsettled(0)?;
     let mut core = open_over(alloc, LINE, log, store, sinks)?;
-    assert_eq!(rt; Engine::restart(&mut core), Err(CoreFault::BadSnapshot));
+    expect_answers(rt, alloc, &mut core, &[("restart", "K15 BadSnapshot")])?;
     let (_, _, mut sinks) = core.into_durable();
     let after = sinks.unsettled(0)?;
     assert_eq!(rt; after.as_slice(), before.as_slice());
@@ -108,7 +112,7 @@ fn a_damaged_part_is_refused_before_any_transaction(rt: HostRuntime) -> Result<(
         (2, 1),
         (2, 3),
     ] {
-        let (log, mut store, sinks) = used(alloc)?;
+        let (log, mut store, sinks) = used(&rt, alloc)?;
         let mut part = store.get(1, task)?;
         if let Some(first) = part.first_mut() {
             *first = byte;
@@ -123,7 +127,7 @@ fn a_damaged_part_is_refused_before_any_transaction(rt: HostRuntime) -> Result<(
 #[test]
 fn a_missing_part_is_refused_before_any_transaction(rt: HostRuntime) -> Result<(), Fail> {
     let alloc = rt.alloc();
-    let (log, mut store, sinks) = used(alloc)?;
+    let (log, mut store, sinks) = used(&rt, alloc)?;
     let mut parts = Map::new(alloc);
     parts.insert((1, 0), Bytes::from_vec(store.get(1, 0)?))?;
     parts.insert((1, 2), Bytes::from_vec(store.get(1, 2)?))?;
@@ -141,11 +145,11 @@ fn naming(transaction: u8) -> [u8; 17] {
 fn a_name_of_no_pre_committed_transaction_is_refused(rt: HostRuntime) -> Result<(), Fail> {
     let alloc = rt.alloc();
     for name in [0, 2, 9] {
-        let (log, mut store, sinks) = used(alloc)?;
+        let (log, mut store, sinks) = used(&rt, alloc)?;
         let store = with_part(alloc, &mut store, 2, &naming(name))?;
         expect_refusal(&rt, alloc, log, store, sinks)?;
     }
-    let (log, store, mut sinks) = used(alloc)?;
+    let (log, store, mut sinks) = used(&rt, alloc)?;
     sinks.abort(1)?;
     expect_refusal(&rt, alloc, log, store, sinks)
 }
@@ -162,8 +166,8 @@ fn read_back<O: Operator, S: SnapshotStore, P: Partitions<Record = O::Record>>(
 }
 
 /// What the restart of a line reads.
-fn restored_line(alloc: Global) -> Result<Restored<RowOp>, Fail> {
-    let (log, mut store, _) = used(alloc)?;
+fn restored_line(rt: &impl Abort, alloc: Global) -> Result<Restored<RowOp>, Fail> {
+    let (log, mut store, _) = used(rt, alloc)?;
     let job = JobSpec::read(alloc, LINE.as_bytes())?;
     let graph = Graph::expand(alloc, &job)?;
     let operators = job.operators(alloc)?;
@@ -173,7 +177,7 @@ fn restored_line(alloc: Global) -> Result<Restored<RowOp>, Fail> {
 /// The source goes on behind its row, the operator has no states, and the sink is to commit its transaction.
 #[test]
 fn a_restart_starts_from_the_parts(rt: HostRuntime) -> Result<(), Fail> {
-    let restored = restored_line(rt.alloc())?;
+    let restored = restored_line(&rt, rt.alloc())?;
     assert_eq!(&rt; restored.number(), Some(1));
     let [
         Start::Source(1),
@@ -191,7 +195,7 @@ fn a_restart_starts_from_the_parts(rt: HostRuntime) -> Result<(), Fail> {
 /// What used devices hold is told in lists.
 #[test]
 fn used_devices_are_told_in_lists(rt: HostRuntime) -> Result<(), Fail> {
-    let (_, store, sinks) = used(rt.alloc())?;
+    let (_, store, sinks) = used(&rt, rt.alloc())?;
     let store = store.into_inner();
     assert_eq!(&rt; store.next_number(), 2);
     assert_eq!(&rt; store.complete_at(0), Some(1));
@@ -211,7 +215,7 @@ fn used_devices_are_told_in_lists(rt: HostRuntime) -> Result<(), Fail> {
     Ok(())
 }
 
-/// The job runs on without checkpoints.
+/// The last number is given out once, and lost with the failure. The job runs on without checkpoints.
 #[test]
 fn no_checkpoint_begins_without_a_number(rt: HostRuntime) -> Result<(), Fail> {
     let alloc = rt.alloc();
@@ -219,16 +223,13 @@ fn no_checkpoint_begins_without_a_number(rt: HostRuntime) -> Result<(), Fail> {
     let store = FlakyStore::new(almost_spent(alloc)?);
     let sinks = FlakyTransactions::new(MemoryTransactions::new(alloc, 1));
     let mut core = open_over(alloc, LINE, log, store, sinks)?;
-    expect_the_last_number(&rt, &mut core)
-}
-
-/// It is given out once, and lost with the failure.
-fn expect_the_last_number(rt: &impl Abort, core: &mut impl Engine) -> Result<(), Fail> {
-    core.restart()?;
-    assert_eq!(rt; core.trigger(), Ok(LAST_NUMBER));
-    core.fail()?;
-    assert_eq!(rt; core.restart(), Ok(None));
-    assert_eq!(rt; core.trigger(), Err(CoreFault::NumbersSpent));
-    assert_eq!(rt; core.read(0), Err(CoreFault::NotReady));
-    Ok(())
+    let steps = [
+        ("restart", "ok 0"),
+        ("trigger", "ok 9223372036854775807"),
+        ("fail", "ok"),
+        ("restart", "ok 0"),
+        ("trigger", "K14 NumbersSpent"),
+        ("read 0", "K3 NotReady"),
+    ];
+    expect_answers(&rt, alloc, &mut core, &steps)
 }

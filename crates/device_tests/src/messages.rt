@@ -1,11 +1,8 @@
 //! The texts of faults: each is the fault's number and its name.
 
-use abs_codec::CodecFault;
 use commit_sink::TransactionFault;
 use coordinator::CoordinatorFault;
-use dataflow_core::CoreFault;
 use job_spec::JobFault;
-use recovery::RecoveryFault;
 use snapshot_store::StoreFault;
 use source_log::SourceFault;
 use std::alloc::Global;
@@ -38,36 +35,11 @@ const TRANSACTIONS: [(TransactionFault, &str); 6] = [
     (TransactionFault::Memory, "X6 Memory"),
 ];
 
-const RECOVERY: [(RecoveryFault, &str); 4] = [
-    (RecoveryFault::Fault, "V1 Fault"),
-    (RecoveryFault::MissingPart, "V2 MissingPart"),
-    (RecoveryFault::Damaged(1, CodecFault::BadTag), "V3 Damaged"),
-    (RecoveryFault::Memory, "V4 Memory"),
-];
-
 const SOURCE: [(SourceFault, &str); 4] = [
     (SourceFault::NoSuchPartition, "S1 NoSuchPartition"),
     (SourceFault::Fault, "S2 Fault"),
     (SourceFault::Full, "S3 Full"),
     (SourceFault::Memory, "S4 Memory"),
-];
-
-const CORE: [(CoreFault, &str); 15] = [
-    (CoreFault::NotRunning, "K1 NotRunning"),
-    (CoreFault::NoSuchTask, "K2 NoSuchTask"),
-    (CoreFault::NotReady, "K3 NotReady"),
-    (CoreFault::ChannelBlocked, "K4 ChannelBlocked"),
-    (CoreFault::Busy, "K5 Busy"),
-    (CoreFault::Stale, "K6 Stale"),
-    (CoreFault::WrongResult, "K7 WrongResult"),
-    (CoreFault::CheckpointPending, "K8 CheckpointPending"),
-    (CoreFault::NoCheckpoint, "K9 NoCheckpoint"),
-    (CoreFault::NotAllAcked, "K10 NotAllAcked"),
-    (CoreFault::Memory, "K11 Memory"),
-    (CoreFault::Device, "K12 Device"),
-    (CoreFault::CommitFault, "K13 CommitFault"),
-    (CoreFault::NumbersSpent, "K14 NumbersSpent"),
-    (CoreFault::BadSnapshot, "K15 BadSnapshot"),
 ];
 
 fn expect_texts<F: Display>(
@@ -88,8 +60,6 @@ fn a_fault_is_shown_by_number_and_name(rt: HostRuntime) -> Result<(), Fail> {
     expect_texts(&rt, alloc, &COORDINATOR)?;
     expect_texts(&rt, alloc, &STORE)?;
     expect_texts(&rt, alloc, &TRANSACTIONS)?;
-    expect_texts(&rt, alloc, &RECOVERY)?;
     expect_texts(&rt, alloc, &SOURCE)?;
-    expect_texts(&rt, alloc, &CORE)?;
     expect_texts(&rt, alloc, &[(JobFault::Memory, "G13 Memory")])
 }

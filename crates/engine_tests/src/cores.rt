@@ -1,10 +1,10 @@
-//! Cores over new devices in memory, and rows for them.
+//! Cores over devices in memory, and steps on them.
 
 use crate::engine::Engine;
-use abs_codec::{Codec, Text, decode_all};
-use absflow_run::{Answer, RowCore, make_step, row_line};
+use abs_codec::decode_all;
+use absflow_run::{RowCore, make_step, row_line};
 use commit_sink::{FlakyTransactions, MemoryTransactions, Transactions};
-use dataflow_core::{Core, Reply};
+use dataflow_core::Core;
 use job_graph::Graph;
 use job_spec::JobSpec;
 use operators::Row;
@@ -12,6 +12,7 @@ use script_file::parse_step;
 use snapshot_store::{FlakyStore, MemoryStore, SnapshotStore};
 use source_log::{FlakyLog, MemoryLog, Partitions};
 use std::alloc::Global;
+use std::process::Abort;
 use std::test::Fail;
 
 /// The devices of a core.
@@ -55,64 +56,29 @@ fn new_devices(alloc: Global, job: &str) -> Result<(Log, Store, Sinks), Fail> {
     Ok((log, store, sinks))
 }
 
-/// The job over new devices and empty partitions, running.
-pub(crate) fn running(alloc: Global, job: &str) -> Result<RowCore, Fail> {
+/// The job over new devices and empty partitions, down.
+pub(crate) fn opened(alloc: Global, job: &str) -> Result<RowCore, Fail> {
     let (log, store, sinks) = new_devices(alloc, job)?;
-    let mut core = open_over(alloc, job, log, store, sinks)?;
-    Engine::restart(&mut core)?;
-    Ok(core)
+    open_over(alloc, job, log, store, sinks)
 }
 
-pub(crate) fn row(alloc: Global, k: &str, v: i64) -> Result<Row, Fail> {
-    let k = Text::from_str(alloc, k)?;
-    Ok(Row { k, v })
-}
-
-/// Puts a row last in a partition.
-pub(crate) fn append(
-    alloc: Global,
-    core: &mut RowCore,
-    partition: u32,
-    k: &str,
-    v: i64,
-) -> Result<(), Fail> {
-    let row = row(alloc, k, v)?;
-    if !row.fits() {
-        return Err(Fail::new("the row does not fit"));
-    }
-    Ok(core.append(partition, row)?)
-}
-
-/// Puts rows last in their partitions.
-pub(crate) fn append_all(
-    alloc: Global,
-    core: &mut RowCore,
-    rows: &[(u32, &str, i64)],
-) -> Result<(), Fail> {
-    for (partition, k, v) in rows {
-        append(alloc, core, *partition, k, *v)?;
-    }
-    Ok(())
-}
-
-/// Makes a step, and says whether it was accepted.
-pub(crate) fn accepts(alloc: Global, core: &mut RowCore, step: &str) -> Result<bool, Fail> {
+/// Makes a script's step, and gives its answer.
+fn answer(alloc: Global, core: &mut RowCore, step: &str) -> Result<String, Fail> {
     let step = parse_step(alloc, step).map_err(|_| Fail::new("a bad step"))?;
-    Ok(!matches!(make_step(core, step), Answer(Reply::Refused(_))))
+    let answer = make_step(core, step);
+    Ok(format!(in alloc; "{answer}")?)
 }
 
-/// Makes a step that is accepted.
-pub(crate) fn make(alloc: Global, core: &mut RowCore, step: &str) -> Result<(), Fail> {
-    if !accepts(alloc, core, step)? {
-        return Err(Fail::new("a step is refused"));
-    }
-    Ok(())
-}
-
-/// Makes steps, parted by `; `, that are all accepted.
-pub(crate) fn make_all(alloc: Global, core: &mut RowCore, steps: &str) -> Result<(), Fail> {
-    for step in steps.split("; ") {
-        make(alloc, core, step)?;
+/// Makes a script's steps, each of which comes to the answer beside it.
+pub(crate) fn expect_answers(
+    rt: &impl Abort,
+    alloc: Global,
+    core: &mut RowCore,
+    steps: &[(&str, &str)],
+) -> Result<(), Fail> {
+    for (step, wanted) in steps {
+        let said = answer(alloc, core, step)?;
+        assert_eq!(rt; said.as_str(), *wanted, "{step}");
     }
     Ok(())
 }

@@ -1,10 +1,21 @@
 //! Graphs as a job expands to them.
 
-use crate::commands::{FORK, LINE, LONG_LOOP};
 use job_graph::Graph;
 use job_spec::JobSpec;
 use std::alloc::Global;
 use std::test::Fail;
+
+/// A source, an operator that adds 10, and a sink: tasks 0, 1 and 2.
+const LINE: &str =
+    r#"{"vertices":[{"name":"s","kind":"source"},{"name":"plus","kind":"add","n":10},{"name":"out","kind":"sink"}],"edges":[{"from":"s","to":"plus"},{"from":"plus","to":"out"}]}"#;
+
+/// A source that sends each record to one of two operators and to both of two others.
+const FORK: &str =
+    r#"{"vertices":[{"name":"s","kind":"source"},{"name":"f","kind":"add","n":0,"parallelism":2},{"name":"g","kind":"add","n":0,"parallelism":2},{"name":"o","kind":"sink","parallelism":2}],"edges":[{"from":"s","to":"f","route":"hash"},{"from":"s","to":"g","route":"broadcast"},{"from":"f","to":"o"}]}"#;
+
+/// A loop that counts down, by way of a second operator: a source, the operator that counts, the one that sends back, and a sink.
+const LONG_LOOP: &str =
+    r#"{"vertices":[{"name":"s","kind":"source"},{"name":"d","kind":"loop_down"},{"name":"r","kind":"add","n":0},{"name":"out","kind":"sink"}],"edges":[{"from":"s","to":"d"},{"from":"d","to":"r","port":1},{"from":"r","to":"d","back":true},{"from":"d","to":"out"}]}"#;
 
 fn graph(alloc: Global, job: &str) -> Result<Graph, Fail> {
     let spec = JobSpec::read(alloc, job.as_bytes())?;
