@@ -11,6 +11,8 @@
 #
 # What they want was worked out by hand or by that reference, and never taken from the program.
 set -uo pipefail
+programs=()
+[ $# -eq 0 ] || mapfile -t programs < <(realpath -- "$@")
 cd "$(dirname "$0")/.."
 
 # The stages of conformance/ whose steps are all served. (Of stage12 `claim`, `finish`, `settle`, `drain` and `persist T K` are not.)
@@ -19,7 +21,6 @@ served="stage08"
 # A script and a job have at most so many bytes.
 most_bytes=16777216
 
-programs=("$@")
 if [ $# -eq 0 ]; then
   programs=(crates/absflow/out/absflow crates/absflow/out/absflow.by-rattle)
   if [ ! -e "${programs[1]}" ]; then
@@ -30,6 +31,9 @@ fi
 work=$(mktemp -d)
 trap 'rm -rf "$work"' EXIT
 passed=0 failed=0
+
+# differ WANTED GOT: the first line in which these files differ.
+differ() { diff --side-by-side --suppress-common-lines --expand-tabs --width=100 "$1" "$2" | head -n 1; }
 
 # expect NAME WANTED WORD..: with these words the program comes to WANTED.out or WANTED.err.
 expect() {
@@ -43,8 +47,8 @@ expect() {
   else
     failed=$((failed + 1))
     echo "FAILED $name: status $ended, $status is wanted"
-    diff "$out" "$work/out" | head -n 3
-    diff "$err" "$work/err" | head -n 3
+    differ "$out" "$work/out"
+    differ "$err" "$work/err"
   fi
 }
 
@@ -64,6 +68,7 @@ expect_made() {
 }
 
 for program in "${programs[@]}"; do
+  [ -x "$program" ] || { echo "$program is not there: rt ci builds it"; echo "0 passed, 1 failed"; exit 1; }
   expect_all script tests/scripts/*.json
   expect_all check tests/jobs/*.json
   for stage in $served; do expect_all script "tests/conformance/$stage"/*.json; done
