@@ -64,9 +64,13 @@ fn expect_commit(rt: &impl Abort, alloc: Global, core: &mut RowCore) -> Result<(
     expect_answers(rt, alloc, core, &[("read 0", "K3 NotReady")])
 }
 
-/// A store with the same parts of checkpoint 1, but for that of one task.
-fn with_part(alloc: Global, store: &mut Store, other: u32, part: &[u8]) -> Result<Store, Fail> {
-    let mut copy = FlakyStore::new(MemoryStore::new(alloc, 3));
+/// Gives out a number, puts the other store's parts of checkpoint 1, but for that of one task, and completes the number.
+fn fill(
+    copy: &mut impl SnapshotStore,
+    store: &mut impl SnapshotStore,
+    other: u32,
+    part: &[u8],
+) -> Result<(), Fail> {
     copy.reserve()?;
     for task in 0..3 {
         if task == other {
@@ -76,7 +80,37 @@ fn with_part(alloc: Global, store: &mut Store, other: u32, part: &[u8]) -> Resul
         }
     }
     copy.complete(1)?;
+    Ok(())
+}
+
+/// A store with the same parts of checkpoint 1, but for that of one task.
+fn with_part(alloc: Global, store: &mut Store, other: u32, part: &[u8]) -> Result<Store, Fail> {
+    let mut copy = FlakyStore::new(MemoryStore::new(alloc, 3));
+    fill(&mut copy, store, other, part)?;
     Ok(copy)
+}
+
+/// The part of a task in checkpoint 1, but for its first byte.
+fn damaged(store: &mut impl SnapshotStore, task: u32, byte: u8) -> Result<Vec<u8>, Fail> {
+    let mut part = store.get(1, task)?;
+    if let Some(first) = part.first_mut() {
+        *first = byte;
+    }
+    Ok(part)
+}
+
+/// A store whose part of a task begins with another byte.
+fn with_byte(alloc: Global, store: &mut Store, task: u32, byte: u8) -> Result<Store, Fail> {
+    let part = damaged(store, task, byte)?;
+    with_part(alloc, store, task, &part)
+}
+
+/// A store whose checkpoint 1 has lost the part of task 1.
+fn without_part(alloc: Global, store: &mut Store) -> Result<Store, Fail> {
+    let mut parts = Map::new(alloc);
+    parts.insert((1, 0), Bytes::from_vec(store.get(1, 0)?))?;
+    parts.insert((1, 2), Bytes::from_vec(store.get(1, 2)?))?;
+    Ok(FlakyStore::new(store_of_lists(alloc, parts)?))
 }
 
 /// A restart over these devices is refused, and the transactions are as they were.
@@ -113,11 +147,7 @@ fn a_damaged_part_is_refused_before_any_transaction(rt: HostRuntime) -> Result<(
         (2, 3),
     ] {
         let (log, mut store, sinks) = used(&rt, alloc)?;
-        let mut part = store.get(1, task)?;
-        if let Some(first) = part.first_mut() {
-            *first = byte;
-        }
-        let store = with_part(alloc, &mut store, task, &part)?;
+        let store = with_byte(alloc, &mut store, task, byte)?;
         expect_refusal(&rt, alloc, log, store, sinks)?;
     }
     Ok(())
@@ -128,10 +158,7 @@ fn a_damaged_part_is_refused_before_any_transaction(rt: HostRuntime) -> Result<(
 fn a_missing_part_is_refused_before_any_transaction(rt: HostRuntime) -> Result<(), Fail> {
     let alloc = rt.alloc();
     let (log, mut store, sinks) = used(&rt, alloc)?;
-    let mut parts = Map::new(alloc);
-    parts.insert((1, 0), Bytes::from_vec(store.get(1, 0)?))?;
-    parts.insert((1, 2), Bytes::from_vec(store.get(1, 2)?))?;
-    let store = FlakyStore::new(store_of_lists(alloc, parts)?);
+    let store = without_part(alloc, &mut store)?;
     expect_refusal(&rt, alloc, log, store, sinks)
 }
 
@@ -192,26 +219,32 @@ fn a_restart_starts_from_the_parts(rt: HostRuntime) -> Result<(), Fail> {
     Ok(())
 }
 
+/// The store has given out 1, which is complete, with three parts.
+fn expect_store_lists(rt: &impl Abort, store: &MemoryStore) {
+    assert_eq!(rt; store.next_number(), 2);
+    assert_eq!(rt; store.complete_at(0), Some(1));
+    assert_eq!(rt; store.complete_at(1), None);
+    let first: &[u8] = &[0, 0, 0, 0, 0, 0, 0, 0, 1];
+    assert_eq!(rt; store.part_at(0), Some((1, 0, first)));
+    assert!(rt; store.part_at(2).is_some());
+    assert_eq!(rt; store.part_at(3), None);
+}
+
+/// The first transaction is pre-committed, the second open, and none is committed.
+fn expect_sink_lists(rt: &impl Abort, sinks: &MemoryTransactions) {
+    let first = sinks.transaction_at(0).map(|t| t.1);
+    assert_eq!(rt; first, Some(Progress::PreCommitted(1)));
+    assert_eq!(rt; sinks.transaction_at(1).map(|t| t.1), Some(Progress::Open));
+    assert!(rt; sinks.transaction_at(2).is_none());
+    assert_eq!(rt; sinks.committed_at(0), None);
+}
+
 /// What used devices hold is told in lists.
 #[test]
 fn used_devices_are_told_in_lists(rt: HostRuntime) -> Result<(), Fail> {
     let (_, store, sinks) = used(&rt, rt.alloc())?;
-    let store = store.into_inner();
-    assert_eq!(&rt; store.next_number(), 2);
-    assert_eq!(&rt; store.complete_at(0), Some(1));
-    assert_eq!(&rt; store.complete_at(1), None);
-    let first: &[u8] = &[0, 0, 0, 0, 0, 0, 0, 0, 1];
-    assert_eq!(&rt; store.part_at(0), Some((1, 0, first)));
-    assert!(&rt; store.part_at(2).is_some());
-    assert_eq!(&rt; store.part_at(3), None);
-    let sinks = sinks.into_inner();
-    assert_eq!(&rt;
-        sinks.transaction_at(0).map(|t| t.1),
-        Some(Progress::PreCommitted(1))
-    );
-    assert_eq!(&rt; sinks.transaction_at(1).map(|t| t.1), Some(Progress::Open));
-    assert!(&rt; sinks.transaction_at(2).is_none());
-    assert_eq!(&rt; sinks.committed_at(0), None);
+    expect_store_lists(&rt, &store.into_inner());
+    expect_sink_lists(&rt, &sinks.into_inner());
     Ok(())
 }
 
