@@ -1,5 +1,5 @@
-//! Tests of values and of what is made of them: spellings and their faults, the gate against its table, a map and its frozen copy, and what each
-//! kind of operator makes of rows, from the table of the kinds.
+//! Tests of values and of what is made of them: spellings and their faults, the gate against its table, a map and its frozen copy, chains and
+//! picks of operators, lanes and states.
 #![tactic(auto)]
 
 #[cfg(test)]
@@ -7,6 +7,6 @@ mod codec;
 #[cfg(test)]
 mod gates;
 #[cfg(test)]
-mod kinds;
-#[cfg(test)]
 mod maps;
+#[cfg(test)]
+mod operators;

@@ -1,9 +1,7 @@
-//! What each kind of operator makes of rows, and what chains and picks make of their operators.
+//! What chains and picks make of their operators, and how lanes and states are spelled. What each kind makes of rows stands in tests/scripts.
 
 use abs_codec::{Codec, Items, NoMemory, Text};
-use operators::{
-    Chain, KeylessRowOp, Operator, Outcome, Pick, Row, RowKey, RowOp, RowState, WindowSize,
-};
+use operators::{Chain, KeylessRowOp, Operator, Outcome, Pick, Row, RowOp, RowState};
 use std::alloc::{AllocError, Global};
 use std::process::Abort;
 use std::test::Fail;
@@ -51,70 +49,11 @@ fn sent_for<O: Operator<Record = Row>>(
 }
 
 #[test]
-fn each_kind_sends_what_the_table_says(rt: HostRuntime) -> Result<(), Fail> {
-    let alloc = rt.alloc();
-    let window = WindowSize { n: 2 };
-    let table: [(RowOp, [i64; 3], &[(u32, i64)]); 8] = [
-        (
-            RowOp::Add { n: 10 },
-            [5, -20, i64::MAX],
-            &[(0, 15), (0, -10), (0, i64::MAX)],
-        ),
-        (RowOp::FilterGe { n: 3 }, [2, 3, 4], &[(0, 3), (0, 4)]),
-        (RowOp::FilterLt { n: 3 }, [2, 3, 4], &[(0, 2)]),
-        (RowOp::Split { n: 3 }, [2, 3, 4], &[(1, 2), (0, 3), (0, 4)]),
-        (RowOp::Count, [7, 7, 7], &[(0, 1), (0, 2), (0, 3)]),
-        (
-            RowOp::Sum,
-            [7, -2, i64::MAX],
-            &[(0, 7), (0, 5), (0, i64::MAX)],
-        ),
-        (RowOp::Window { n: window }, [1, 2, 3], &[(0, 3)]),
-        (RowOp::LoopDown, [2, 0, -1], &[(1, 1), (0, 0), (0, -1)]),
-    ];
-    for (op, values, want) in &table {
-        let sent = sent_for(&rt, alloc, op, values)?;
-        assert_eq!(rt; sent.as_slice(), *want, "{op:?}");
-    }
-    Ok(())
-}
-
-#[test]
-fn rekey_gives_its_key(rt: HostRuntime) -> Result<(), Fail> {
-    let alloc = rt.alloc();
-    let k = RowKey::new(Text::from_str(alloc, "b")?).expect(&rt, "short");
-    let op = RowOp::Rekey { k };
-    let outcome = outcome_of(&rt, alloc, &op, &RowState::Plain, &row(alloc, "a", 4)?)?;
-    assert_eq!(rt;
-        outcome.sent.as_slice(),
-        [(0, row(alloc, "b", 4)?)].as_slice()
-    );
-    assert!(rt; op.copy()? == op);
-    Ok(())
-}
-
-#[test]
 fn lanes_follow_the_hash(rt: HostRuntime) -> Result<(), Fail> {
     let alloc = rt.alloc();
     for (k, lane) in [("", 0), ("a", 97), ("b", 98), ("ab", 3105)] {
         assert_eq!(rt; RowOp::lane(&row(alloc, k, 0)?), lane);
     }
-    Ok(())
-}
-
-#[test]
-fn parameters_are_in_range(rt: HostRuntime) -> Result<(), Fail> {
-    let alloc = rt.alloc();
-    assert!(rt; WindowSize::new(0).is_none());
-    assert!(rt; WindowSize::new(1).is_some());
-    assert!(rt; WindowSize::new(1024).is_some());
-    assert!(rt; WindowSize::new(1025).is_none());
-    let longest = [b'k'; 1024];
-    let k = Text::from_str(alloc, str::from_utf8(&longest)?)?;
-    assert!(rt; RowKey::new(k).is_some());
-    let longer = [b'k'; 1025];
-    let k = Text::from_str(alloc, str::from_utf8(&longer)?)?;
-    assert!(rt; RowKey::new(k).is_none());
     Ok(())
 }
 
