@@ -3,10 +3,10 @@
 #![tactic(auto)]
 
 #[cfg(test)]
+mod chains;
+#[cfg(test)]
 mod codec;
 #[cfg(test)]
 mod gates;
 #[cfg(test)]
 mod maps;
-#[cfg(test)]
-mod operators;
