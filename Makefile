@@ -1,5 +1,5 @@
 # make demo    runs examples/line.json from the sources as they stand, with nothing proved: the answers, then the committed rows
-# make test    the gate: every proof from nothing, every edit that must be refused, every test, the program's stored run
+# make test    the gate: every proof from nothing, every edit that must be refused, every test; then the program that was proved, on all scripts of tests/
 # make wrong   tries the finer edits, those of crates/NAME/wrong/; of some crates alone by make wrong CRATES="alignment channels"
 # make build   proves the program and all that it stands on, and leaves it as bin/absflow
 # make bench   prints the seconds of scripts of 10,000 and of 100,000 steps, through bin/absflow
@@ -10,6 +10,7 @@ demo:
 
 test:
 	rt ci
+	tests/run.sh
 
 wrong:
 	tests/wrong.sh $(CRATES)

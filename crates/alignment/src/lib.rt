@@ -11,6 +11,3 @@ mod input;
 
 pub use gate::Gate;
 pub use input::{Effect, Phase};
-
-#[cfg(test)]
-mod tests;

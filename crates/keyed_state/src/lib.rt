@@ -7,6 +7,3 @@
 mod keyed_map;
 
 pub use keyed_map::KeyedState;
-
-#[cfg(test)]
-mod tests;

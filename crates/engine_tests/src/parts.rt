@@ -1,0 +1,197 @@
+//! The parts of a checkpoint, as they stand in the store.
+
+use crate::cores::{Store, expect_answers, opened};
+use crate::jobs::{COUNT, EARLY, LINE, LONG_LOOP};
+use snapshot_store::{SnapshotStore, StoreFault};
+use std::alloc::Global;
+use std::process::Abort;
+use std::test::Fail;
+
+/// A source at offset 0, an operator without states, and a sink with one pre-committed transaction, of number 1.
+const PARTS: [&[u8]; 3] = [
+    &[0, 0, 0, 0, 0, 0, 0, 0, 0],
+    &[1, 0, 0, 0, 0, 0, 0, 0, 0],
+    &[2, 0, 0, 0, 1, 0, 0, 0, 0, 0, 0, 0, 1, 0, 0, 0, 0],
+];
+
+/// Checkpoint 1 of the line; checkpoint 2; and checkpoint 3 begins.
+const CHECKPOINTS: [(&str, &str); 18] = [
+    ("restart", "ok 0"),
+    ("trigger", "ok 1"),
+    ("inject 0", "ok"),
+    ("barrier 1 0", "ok copy-done"),
+    ("barrier 2 0", "ok copy-done"),
+    ("persist 0", "ok"),
+    ("persist 1", "ok"),
+    ("persist 2", "ok"),
+    ("complete", "ok 1"),
+    ("trigger", "ok 2"),
+    ("inject 0", "ok"),
+    ("barrier 1 0", "ok copy-done"),
+    ("barrier 2 0", "ok copy-done"),
+    ("persist 0", "ok"),
+    ("persist 1", "ok"),
+    ("persist 2", "ok"),
+    ("complete", "ok 2"),
+    ("trigger", "ok 3"),
+];
+
+/// So many of these steps complete checkpoint 1, and with one more checkpoint 2 begins.
+const COMPLETES: usize = 9;
+
+/// The store of a job after these steps.
+fn store_after(
+    rt: &impl Abort,
+    alloc: Global,
+    job: &str,
+    steps: &[(&str, &str)],
+) -> Result<Store, Fail> {
+    let mut core = opened(alloc, job)?;
+    expect_answers(rt, alloc, &mut core, steps)?;
+    let (_, store, _) = core.into_durable();
+    Ok(store)
+}
+
+fn expect_part(
+    rt: &impl Abort,
+    store: &mut impl SnapshotStore,
+    task: u32,
+    part: &[u8],
+) -> Result<(), Fail> {
+    assert_eq!(rt; store.get(1, task)?.as_slice(), part);
+    Ok(())
+}
+
+/// The parts of checkpoint 1 stand as they are spelled.
+fn expect_parts(rt: &impl Abort, store: &mut impl SnapshotStore) -> Result<(), Fail> {
+    for (task, part) in (0..3).zip(PARTS) {
+        expect_part(rt, store, task, part)?;
+    }
+    Ok(())
+}
+
+/// They stay when the next checkpoint begins.
+#[test]
+fn parts_stand_as_they_are_spelled(rt: HostRuntime) -> Result<(), Fail> {
+    for count in [COMPLETES, COMPLETES + 1] {
+        let mut store = store_after(&rt, rt.alloc(), LINE, &CHECKPOINTS[..count])?;
+        expect_parts(&rt, &mut store)?;
+    }
+    Ok(())
+}
+
+/// Checkpoint 2 has its parts, and checkpoint 1 has none.
+fn expect_discarded(rt: &impl Abort, store: &mut impl SnapshotStore) -> Result<(), Fail> {
+    for task in 0..3 {
+        assert_eq!(rt; store.get(1, task).err(), Some(StoreFault::MissingPart));
+        assert!(rt; store.get(2, task).is_ok());
+    }
+    Ok(())
+}
+
+#[test]
+fn parts_before_the_last_complete_checkpoint_are_discarded(rt: HostRuntime) -> Result<(), Fail> {
+    let mut store = store_after(&rt, rt.alloc(), LINE, &CHECKPOINTS)?;
+    expect_discarded(&rt, &mut store)
+}
+
+/// The part of a task in checkpoint 1, after these steps of the job.
+fn expect_part_after(
+    rt: &impl Abort,
+    alloc: Global,
+    job: &str,
+    steps: &[(&str, &str)],
+    task: u32,
+    part: &[u8],
+) -> Result<(), Fail> {
+    let mut store = store_after(rt, alloc, job, steps)?;
+    expect_part(rt, &mut store, task, part)
+}
+
+/// The operator that counts has counted one row of each input, and not the one behind the barrier.
+#[test]
+fn a_part_has_what_came_before_the_barriers(rt: HostRuntime) -> Result<(), Fail> {
+    let steps = [
+        ("append 0 1 a", "ok"),
+        ("append 0 2 a", "ok"),
+        ("append 1 5 a", "ok"),
+        ("restart", "ok 0"),
+        ("read 0", "ok"),
+        ("trigger", "ok 1"),
+        ("inject 0", "ok"),
+        ("read 0", "ok"),
+        ("work 2 0", "ok"),
+        ("barrier 2 0", "ok blocked"),
+        ("read 1", "ok"),
+        ("work 2 1", "ok"),
+        ("inject 1", "ok"),
+        ("barrier 2 1", "ok copy-done"),
+        ("work 2 0", "ok"),
+        ("work 3 0", "ok"),
+        ("work 3 0", "ok"),
+        ("barrier 3 0", "ok copy-done"),
+        ("persist 0", "ok"),
+        ("persist 1", "ok"),
+        ("persist 2", "ok"),
+        ("persist 3", "ok"),
+        ("complete", "ok 1"),
+    ];
+    let part: &[u8] = &[
+        1, 0, 0, 0, 1, 0, 0, 0, 1, 0x61, 1, 0, 0, 0, 0, 0, 0, 0, 2, 0, 0, 0, 0,
+    ];
+    expect_part_after(&rt, rt.alloc(), COUNT, &steps, 2, part)
+}
+
+/// The row that went round between the copy and the barrier stands in the log of channel 2.
+#[test]
+fn a_part_has_what_went_round(rt: HostRuntime) -> Result<(), Fail> {
+    let steps = [
+        ("append 0 3 x", "ok"),
+        ("restart", "ok 0"),
+        ("read 0", "ok"),
+        ("work 1 0", "ok"),
+        ("work 2 0", "ok"),
+        ("trigger", "ok 1"),
+        ("inject 0", "ok"),
+        ("barrier 1 0", "ok copy"),
+        ("work 1 1", "ok"),
+        ("barrier 2 0", "ok copy-done"),
+        ("barrier 1 1", "ok done"),
+        ("barrier 3 0", "ok copy-done"),
+        ("persist 0", "ok"),
+        ("persist 1", "ok"),
+        ("persist 2", "ok"),
+        ("persist 3", "ok"),
+        ("complete", "ok 1"),
+    ];
+    let part: &[u8] = &[
+        1, 0, 0, 0, 0, 0, 0, 0, 1, 0, 0, 0, 2, 0, 0, 0, 1, 0, 0, 0, 1, 0x78, 0, 0, 0, 0, 0, 0, 0, 2,
+    ];
+    expect_part_after(&rt, rt.alloc(), LONG_LOOP, &steps, 1, part)
+}
+
+/// The log of a back-edge whose barrier came early is empty, and stands in the part.
+#[test]
+fn an_early_barrier_leaves_an_empty_log(rt: HostRuntime) -> Result<(), Fail> {
+    let steps = [
+        ("append 0 1 k", "ok"),
+        ("restart", "ok 0"),
+        ("trigger", "ok 1"),
+        ("inject 0", "ok"),
+        ("barrier 1 0", "ok copy-done"),
+        ("read 0", "ok"),
+        ("work 1 0", "ok"),
+        ("barrier 2 1", "ok blocked"),
+        ("barrier 2 0", "ok copy-done"),
+        ("work 2 1", "ok"),
+        ("work 2 0", "ok"),
+        ("barrier 3 0", "ok copy-done"),
+        ("persist 0", "ok"),
+        ("persist 1", "ok"),
+        ("persist 2", "ok"),
+        ("persist 3", "ok"),
+        ("complete", "ok 1"),
+    ];
+    let part: &[u8] = &[1, 0, 0, 0, 0, 0, 0, 0, 1, 0, 0, 0, 2, 0, 0, 0, 0];
+    expect_part_after(&rt, rt.alloc(), EARLY, &steps, 2, part)
+}

@@ -1,0 +1,88 @@
+//! A map that is frozen, and counted on.
+
+use abs_codec::{Codec, Map, Text};
+use keyed_state::KeyedState;
+use std::alloc::Global;
+use std::collections::BTreeMap;
+use std::test::Fail;
+
+/// A state as a number of one kind, with the kind's byte before it.
+type Counts = KeyedState<Text, (u8, i64)>;
+
+/// The keys a, b and c, each counted once.
+const FROZEN: [u8; 46] = [
+    0, 0, 0, 3, 0, 0, 0, 1, 0x61, 1, 0, 0, 0, 0, 0, 0, 0, 1, 0, 0, 0, 1, 0x62, 1, 0, 0, 0, 0, 0, 0,
+    0, 1, 0, 0, 0, 1, 0x63, 1, 0, 0, 0, 0, 0, 0, 0, 1,
+];
+
+/// Then a was counted once more, and d for the first time.
+const PRESENT: [(&str, i64); 4] = [("a", 2), ("b", 1), ("c", 1), ("d", 1)];
+
+fn text(alloc: Global, text: &str) -> Result<Text, Fail> {
+    Ok(Text::from_string(String::from_str(alloc, text)?))
+}
+
+/// The three keys, frozen, and what is counted after that.
+fn counted(alloc: Global) -> Result<Counts, Fail> {
+    let mut tree = BTreeMap::new(alloc);
+    for key in ["c", "a", "b"] {
+        tree.insert(text(alloc, key)?, (1, 1))?;
+    }
+    let mut counts = KeyedState::from_map(Map::from_btree_map(alloc, tree));
+    counts.freeze()?;
+    counts.set(text(alloc, "d")?, (1, 1))?;
+    counts.set(text(alloc, "a")?, (1, 2))?;
+    Ok(counts)
+}
+
+#[test]
+fn the_frozen_map_stays(rt: HostRuntime) -> Result<(), Fail> {
+    let alloc = rt.alloc();
+    let counts = counted(alloc)?;
+    let mut out = Vec::new(alloc);
+    if let Some(frozen) = counts.frozen() {
+        frozen.encode(&mut out)?;
+    }
+    assert_eq!(&rt; out.as_slice(), FROZEN.as_slice());
+    for (key, count) in PRESENT {
+        assert_eq!(&rt; counts.get(&text(alloc, key)?), Some(&(1, count)));
+    }
+    assert_eq!(&rt; counts.len(), 4);
+    Ok(())
+}
+
+/// Its entries come one by one, until it is thawed.
+#[test]
+fn the_frozen_map_is_read_in_order(rt: HostRuntime) -> Result<(), Fail> {
+    let alloc = rt.alloc();
+    let mut counts = counted(alloc)?;
+    let mut after: Option<Text> = None;
+    for key in ["a", "b", "c"] {
+        let next = counts.frozen_next(after.as_ref());
+        assert_eq!(&rt; next.map(|entry| entry.0.as_str()), Some(key));
+        assert_eq!(&rt; next.map(|entry| entry.1.1), Some(1));
+        after = Some(text(alloc, key)?);
+    }
+    assert!(&rt; counts.frozen_next(after.as_ref()).is_none());
+    assert!(&rt; counts.is_frozen());
+    counts.thaw();
+    assert!(&rt; !counts.is_frozen());
+    assert!(&rt; counts.frozen_next(None).is_none());
+    assert_eq!(&rt; counts.len(), 4);
+    Ok(())
+}
+
+/// An empty map, and the spelling of a map of one key.
+#[test]
+fn the_present_map_is_spelled(rt: HostRuntime) -> Result<(), Fail> {
+    let alloc = rt.alloc();
+    let mut counts: Counts = KeyedState::new(alloc);
+    assert!(&rt; counts.is_empty());
+    counts.set(text(alloc, "a")?, (1, 2))?;
+    let mut out = Vec::new(alloc);
+    counts.encode(&mut out)?;
+    let spelled: &[u8] = &[0, 0, 0, 1, 0, 0, 0, 1, 0x61, 1, 0, 0, 0, 0, 0, 0, 0, 2];
+    assert_eq!(&rt; out.as_slice(), spelled);
+    assert_eq!(&rt; text(alloc, "b")?.into_string().as_str(), "b");
+    Ok(())
+}

@@ -1,0 +1,91 @@
+#!/usr/bin/env bash
+# tests/run.sh [PROGRAM..]: runs the program on scripts and jobs whose answers are known. Without words that is what `rt ci` has proved and built,
+# as LLVM builds it and as Rattle's own compiler does. The last line is `N passed, M failed`.
+#
+# scripts/NAME.json          a script. Standard output is the whole of NAME.out, and the status 0; or, where there is a NAME.err in its place,
+#                            standard error is the whole of that, nothing is on standard output, and the status is 1
+# jobs/NAME.json             a job file for `absflow check`, in the same way
+# examples/NAME.out          what examples/NAME.json comes to, in the same way
+# crashes/NAME.json          a run that fails at each of its places (see crashes.py)
+# conformance/STAGE/N.json   random scripts, with the output of an independent reference: 400 for each stage that is served
+#
+# What they want was worked out by hand or by that reference, and never taken from the program.
+set -uo pipefail
+programs=()
+[ $# -eq 0 ] || mapfile -t programs < <(realpath -- "$@")
+cd "$(dirname "$0")/.."
+
+# The stages of conformance/ whose steps are all served. (Of stage12 `claim`, `finish`, `settle`, `drain` and `persist T K` are not.)
+served="stage08"
+
+# A script and a job have at most so many bytes.
+most_bytes=16777216
+
+if [ $# -eq 0 ]; then
+  programs=(crates/absflow/out/absflow crates/absflow/out/absflow.by-rattle)
+  if [ ! -e "${programs[1]}" ]; then
+    echo "${programs[1]} is not there (Rattle's own compiler may not compile a program): running ${programs[0]} alone"
+    programs=("${programs[0]}")
+  fi
+fi
+work=$(mktemp -d)
+trap 'rm -rf "$work"' EXIT
+passed=0 failed=0
+
+# differ WANTED GOT: the first line in which these files differ.
+differ() { diff --side-by-side --suppress-common-lines --expand-tabs --width=100 "$1" "$2" | head -n 1; }
+
+# expect NAME WANTED WORD..: with these words the program comes to WANTED.out or WANTED.err.
+expect() {
+  local name=$1 wanted=$2 status=0 out=/dev/null err=/dev/null
+  shift 2
+  "$program" "$@" > "$work/out" 2> "$work/err"
+  local ended=$?
+  if [ -e "$wanted.err" ]; then status=1 err=$wanted.err; else out=$wanted.out; fi
+  if cmp -s "$out" "$work/out" && cmp -s "$err" "$work/err" && [ $ended -eq $status ]; then
+    passed=$((passed + 1))
+  else
+    failed=$((failed + 1))
+    echo "FAILED $name: status $ended, $status is wanted"
+    differ "$out" "$work/out"
+    differ "$err" "$work/err"
+  fi
+}
+
+# expect_all COMMAND FILE..: the command, with each of these files.
+expect_all() {
+  local command=$1
+  shift
+  for file in "$@"; do expect "$file" "${file%.json}" "$command" "$file"; done
+}
+
+# expect_made COMMAND OUT|ERR TEXT PYTHON: the command, with a file of these bytes, writes the text on standard output or error.
+expect_made() {
+  rm -f "$work"/made.*
+  printf '%b' "$3" > "$work/made.$2"
+  python3 -c "import sys; sys.stdout.buffer.write($4)" > "$work/made.json"
+  expect "$1 of ${4::60}" "$work/made" "$1" "$work/made.json"
+}
+
+for program in "${programs[@]}"; do
+  [ -x "$program" ] || { echo "$program is not there: rt ci builds it"; echo "0 passed, 1 failed"; exit 1; }
+  expect_all script tests/scripts/*.json
+  expect_all check tests/jobs/*.json
+  for stage in $served; do expect_all script "tests/conformance/$stage"/*.json; done
+  for file in examples/*.json; do expect "$file" "tests/${file%.json}" script "$file"; done
+  for file in examples/jobs/*.json; do expect "$file" "tests/${file%.json}" check "$file"; done
+
+  line="open('tests/scripts/partition_without_rows.json', 'rb').read()"
+  expect_made script out "$(cat tests/scripts/partition_without_rows.out)\n" "$line.ljust($most_bytes)"
+  expect_made script err 'script: too long\n' "$line.ljust($most_bytes + 1)"
+  for count in 200 2000000; do expect_made script err 'script: not JSON\n' "b'[' * $count"; done
+  for count in 200 $most_bytes; do expect_made check err 'G1 BadJson\n' "b'[' * $count"; done
+  expect_made check err 'G11 TooMany\n' "b'[' * ($most_bytes + 1)"
+
+  tests/crashes.py "$program" tests/crashes/*.json > "$work/crashes"
+  grep FAILED "$work/crashes"
+  read -r more _ less _ <<< "$(tail -n 1 "$work/crashes")"
+  passed=$((passed + more)) failed=$((failed + less))
+done
+echo "$passed passed, $failed failed"
+[ $failed -eq 0 ]
