@@ -1,6 +1,6 @@
 //! Transactions that fail by plan.
 
-ghost use Rattle.std.specs.Prelude.{◌≡◌, ◌+◌, None, Some, replicate, slice_set};
+ghost use Rattle.std.specs.Prelude.{◌≡◌, ◌+◌, if◌then◌else◌, is_some, None, Some, Err, replicate, slice_set};
 ghost use Rattle.commit_sink.specs.Calls.{call_number};
 
 use crate::transactions::{TransactionFault, Transactions};
@@ -89,6 +89,19 @@ impl<X: FaultlessTransactions> FlakyTransactions<X> {
     }
 }
 
+/// What a call answers that was not to fail before its work: a fault, if it is to fail after it.
+fn told<T: Drop>(
+    due: Option<When>,
+    answer: Result<T, TransactionFault>,
+) -> Result<T, TransactionFault>
+    ensures { result ≡ (if is_some due then Err TransactionFault.Fault else answer) }
+{
+    match due {
+        Some(_) => Err(TransactionFault::Fault),
+        None => answer,
+    }
+}
+
 impl<X: FaultlessTransactions> Transactions for FlakyTransactions<X> {
     ghost state = { λ f. X.state f.transactions };
 
@@ -105,69 +118,51 @@ impl<X: FaultlessTransactions> Transactions for FlakyTransactions<X> {
     }
 
     fn begin(&mut self, subtask: u32) -> Result<u64, TransactionFault> {
-        match self.plan.due(TransactionCall::Begin.number()) {
-            Some(When::Before) => Err(TransactionFault::Fault),
-            Some(When::After) => {
-                let _ = self.transactions.begin(subtask);
-                Err(TransactionFault::Fault)
-            }
-            None => self.transactions.begin(subtask),
+        let due = self.plan.due(TransactionCall::Begin.number());
+        if due == Some(When::Before) {
+            return Err(TransactionFault::Fault);
         }
+        told(due, self.transactions.begin(subtask))
     }
 
     fn append(&mut self, transaction: u64, bytes: &[u8]) -> Result<(), TransactionFault> {
-        match self.plan.due(TransactionCall::Append.number()) {
-            Some(When::Before) => Err(TransactionFault::Fault),
-            Some(When::After) => {
-                let _ = self.transactions.append(transaction, bytes);
-                Err(TransactionFault::Fault)
-            }
-            None => self.transactions.append(transaction, bytes),
+        let due = self.plan.due(TransactionCall::Append.number());
+        if due == Some(When::Before) {
+            return Err(TransactionFault::Fault);
         }
+        told(due, self.transactions.append(transaction, bytes))
     }
 
     fn pre_commit(&mut self, transaction: u64, checkpoint: u64) -> Result<(), TransactionFault> {
-        match self.plan.due(TransactionCall::PreCommit.number()) {
-            Some(When::Before) => Err(TransactionFault::Fault),
-            Some(When::After) => {
-                let _ = self.transactions.pre_commit(transaction, checkpoint);
-                Err(TransactionFault::Fault)
-            }
-            None => self.transactions.pre_commit(transaction, checkpoint),
+        let due = self.plan.due(TransactionCall::PreCommit.number());
+        if due == Some(When::Before) {
+            return Err(TransactionFault::Fault);
         }
+        told(due, self.transactions.pre_commit(transaction, checkpoint))
     }
 
     fn commit(&mut self, transaction: u64) -> Result<(), TransactionFault> {
-        match self.plan.due(TransactionCall::Commit.number()) {
-            Some(When::Before) => Err(TransactionFault::Fault),
-            Some(When::After) => {
-                let _ = self.transactions.commit(transaction);
-                Err(TransactionFault::Fault)
-            }
-            None => self.transactions.commit(transaction),
+        let due = self.plan.due(TransactionCall::Commit.number());
+        if due == Some(When::Before) {
+            return Err(TransactionFault::Fault);
         }
+        told(due, self.transactions.commit(transaction))
     }
 
     fn abort(&mut self, transaction: u64) -> Result<(), TransactionFault> {
-        match self.plan.due(TransactionCall::Abort.number()) {
-            Some(When::Before) => Err(TransactionFault::Fault),
-            Some(When::After) => {
-                let _ = self.transactions.abort(transaction);
-                Err(TransactionFault::Fault)
-            }
-            None => self.transactions.abort(transaction),
+        let due = self.plan.due(TransactionCall::Abort.number());
+        if due == Some(When::Before) {
+            return Err(TransactionFault::Fault);
         }
+        told(due, self.transactions.abort(transaction))
     }
 
     fn unsettled(&mut self, subtask: u32) -> Result<Vec<(u64, Option<u64>)>, TransactionFault> {
-        match self.plan.due(TransactionCall::Unsettled.number()) {
-            Some(When::Before) => Err(TransactionFault::Fault),
-            Some(When::After) => {
-                let _ = self.transactions.unsettled(subtask);
-                Err(TransactionFault::Fault)
-            }
-            None => self.transactions.unsettled(subtask),
+        let due = self.plan.due(TransactionCall::Unsettled.number());
+        if due == Some(When::Before) {
+            return Err(TransactionFault::Fault);
         }
+        told(due, self.transactions.unsettled(subtask))
     }
 
     fn committed_len(&self, subtask: u32) -> u64 {
