@@ -11,6 +11,7 @@ ghost use Rattle.job_graph.specs.declared.role.Role.TheVariants as Role;
 ghost use Rattle.job_graph.specs.PlainGraph.{HaveOperators};
 ghost use Rattle.snapshot_store.specs.Store as stores;
 ghost use Rattle.source_log.specs.Partitions as partitions;
+ghost use Rattle.source_log.specs.declared.partitions.SourceFault.TheVariants as SourceFault;
 ghost use Rattle.task_part.specs.Spelling.{part_spelling};
 ghost use Rattle.core_model.specs.declared.fault.CoreFault.TheVariants as CoreFault;
 ghost use Rattle.core_model.specs.Calls.{input_at, left_by, EndsRead, EndsInject, EndsPersist, EndsTrigger, EndsComplete};
@@ -30,7 +31,7 @@ ghost use Rattle.core_model.specs.RestartLaws.{GoesOnFromCut};
 ghost use Rattle.dataflow_model.specs.Graph.{Begins};
 ghost use Rattle.dataflow_model.specs.Machine as machine;
 ghost use Rattle.dataflow_core.specs.Tasks.{EndsWork, EndsBarrier};
-ghost use Rattle.dataflow_core.specs.Running.{number_of, raised, attempts_after, OnDown, OnAttempt, OnStore, OnTransactions};
+ghost use Rattle.dataflow_core.specs.Running.{IsCounted, number_of, raised, attempts_after, OnDown, OnAttempt, OnStore, OnTransactions};
 
 use crate::tasks::{take_barrier, work_task};
 use alignment::Effect;
@@ -218,6 +219,7 @@ impl<O: Operator, S: SnapshotStore, X: Transactions, P: Partitions<Record = O::R
         ensures goes { Goes (language O.meaning O.Key.cmp O.Record.spelling O.Record.reading O.Key.reading O.State.reading) self.old self.new }
         ensures sound { IsSound (language O.meaning O.Key.cmp O.Record.spelling O.Record.reading O.Key.reading O.State.reading) (Fits O.Record.HasSpelling O.Record.spelling) self.old → IsSound (language O.meaning O.Key.cmp O.Record.spelling O.Record.reading O.Key.reading O.State.reading) (Fits O.Record.HasSpelling O.Record.spelling) self.new }
         ensures stays { Stays (language O.meaning O.Key.cmp O.Record.spelling O.Record.reading O.Key.reading O.State.reading) self.old self.new }
+        ensures counted { IsCounted self.old.faults self.new.faults result }
         ensures same { (self.new.graph ≡ self.old.graph) × (self.new.is_fresh ≡ self.old.is_fresh) }
         ensures ledger { self.new.ledger ≡ self.old.ledger }
     {
@@ -238,7 +240,7 @@ impl<O: Operator, S: SnapshotStore, X: Transactions, P: Partitions<Record = O::R
         ensures begins { (subtask : ℕ) → Begins (committed_rows self.old.ledger subtask) (committed_rows self.new.ledger subtask) }
         ensures cut { IsSound (language O.meaning O.Key.cmp O.Record.spelling O.Record.reading O.Key.reading O.State.reading) (Fits O.Record.HasSpelling O.Record.spelling) self.old → IfOk result (λ last. MatchOption self.new.held ⊥ (λ k. GoesOnFromCut (language O.meaning O.Key.cmp O.Record.spelling O.Record.reading O.Key.reading O.State.reading) self.new last k)) }
         ensures good { IsSound (language O.meaning O.Key.cmp O.Record.spelling O.Record.reading O.Key.reading O.State.reading) (Fits O.Record.HasSpelling O.Record.spelling) self.old → result ≢ Err CoreFault.BadSnapshot }
-        ensures counted { result ≡ Err CoreFault.Device → self.old.faults < self.new.faults }
+        ensures counted { IsCounted self.old.faults self.new.faults result }
         ensures same { (self.new.graph ≡ self.old.graph) × (self.new.is_fresh ≡ self.old.is_fresh) }
     {
         if self.attempt.is_some() {
@@ -266,7 +268,7 @@ impl<O: Operator, S: SnapshotStore, X: Transactions, P: Partitions<Record = O::R
         ensures goes { Goes (language O.meaning O.Key.cmp O.Record.spelling O.Record.reading O.Key.reading O.State.reading) self.old self.new }
         ensures sound { IsSound (language O.meaning O.Key.cmp O.Record.spelling O.Record.reading O.Key.reading O.State.reading) (Fits O.Record.HasSpelling O.Record.spelling) self.old → IsSound (language O.meaning O.Key.cmp O.Record.spelling O.Record.reading O.Key.reading O.State.reading) (Fits O.Record.HasSpelling O.Record.spelling) self.new }
         ensures plain { StepsIfOk result (language O.meaning O.Key.cmp O.Record.spelling O.Record.reading O.Key.reading O.State.reading) (machine.Read task) self.old self.new }
-        ensures counted { result ≡ Err CoreFault.Device → self.old.faults < self.new.faults }
+        ensures counted { IsCounted self.old.faults self.new.faults result }
         ensures same { (self.new.graph ≡ self.old.graph) × (self.new.is_fresh ≡ self.old.is_fresh) }
         ensures ledger { self.new.ledger ≡ self.old.ledger }
     {
@@ -284,7 +286,7 @@ impl<O: Operator, S: SnapshotStore, X: Transactions, P: Partitions<Record = O::R
         ensures sound { IsSound (language O.meaning O.Key.cmp O.Record.spelling O.Record.reading O.Key.reading O.State.reading) (Fits O.Record.HasSpelling O.Record.spelling) self.old → IsSound (language O.meaning O.Key.cmp O.Record.spelling O.Record.reading O.Key.reading O.State.reading) (Fits O.Record.HasSpelling O.Record.spelling) self.new }
         ensures begins { (task subtask : ℕ) → slice_get self.old.graph.tasks task ≡ Some (Role.Sink subtask) → Begins (committed_rows self.old.ledger subtask) (committed_rows self.new.ledger subtask) }
         ensures plain { MatchOption (input_at self.old.graph task input) (Stays (language O.meaning O.Key.cmp O.Record.spelling O.Record.reading O.Key.reading O.State.reading) self.old self.new) (λ channel. StepsIfOk result (language O.meaning O.Key.cmp O.Record.spelling O.Record.reading O.Key.reading O.State.reading) (machine.Work task channel) self.old self.new) }
-        ensures counted { result ≡ Err CoreFault.Device → self.old.faults < self.new.faults }
+        ensures counted { IsCounted self.old.faults self.new.faults result }
         ensures same { (self.new.graph ≡ self.old.graph) × (self.new.is_fresh ≡ self.old.is_fresh) }
     {
         let Some(attempt) = &mut self.attempt else {
@@ -310,7 +312,7 @@ impl<O: Operator, S: SnapshotStore, X: Transactions, P: Partitions<Record = O::R
         ensures sound { IsSound (language O.meaning O.Key.cmp O.Record.spelling O.Record.reading O.Key.reading O.State.reading) (Fits O.Record.HasSpelling O.Record.spelling) self.old → IsSound (language O.meaning O.Key.cmp O.Record.spelling O.Record.reading O.Key.reading O.State.reading) (Fits O.Record.HasSpelling O.Record.spelling) self.new }
         ensures begins { (task subtask : ℕ) → slice_get self.old.graph.tasks task ≡ Some (Role.Sink subtask) → Begins (committed_rows self.old.ledger subtask) (committed_rows self.new.ledger subtask) }
         ensures stays { Stays (language O.meaning O.Key.cmp O.Record.spelling O.Record.reading O.Key.reading O.State.reading) self.old self.new }
-        ensures counted { result ≡ Err CoreFault.Device → self.old.faults < self.new.faults }
+        ensures counted { IsCounted self.old.faults self.new.faults result }
         ensures same { (self.new.graph ≡ self.old.graph) × (self.new.is_fresh ≡ self.old.is_fresh) }
     {
         let Some(attempt) = &mut self.attempt else {
@@ -333,6 +335,7 @@ impl<O: Operator, S: SnapshotStore, X: Transactions, P: Partitions<Record = O::R
         ensures goes { Goes (language O.meaning O.Key.cmp O.Record.spelling O.Record.reading O.Key.reading O.State.reading) self.old self.new }
         ensures sound { IsSound (language O.meaning O.Key.cmp O.Record.spelling O.Record.reading O.Key.reading O.State.reading) (Fits O.Record.HasSpelling O.Record.spelling) self.old → IsSound (language O.meaning O.Key.cmp O.Record.spelling O.Record.reading O.Key.reading O.State.reading) (Fits O.Record.HasSpelling O.Record.spelling) self.new }
         ensures stays { Stays (language O.meaning O.Key.cmp O.Record.spelling O.Record.reading O.Key.reading O.State.reading) self.old self.new }
+        ensures counted { IsCounted self.old.faults self.new.faults result }
         ensures same { (self.new.graph ≡ self.old.graph) × (self.new.is_fresh ≡ self.old.is_fresh) }
         ensures ledger { self.new.ledger ≡ self.old.ledger }
     {
@@ -349,7 +352,7 @@ impl<O: Operator, S: SnapshotStore, X: Transactions, P: Partitions<Record = O::R
         ensures goes { Goes (language O.meaning O.Key.cmp O.Record.spelling O.Record.reading O.Key.reading O.State.reading) self.old self.new }
         ensures sound { IsSound (language O.meaning O.Key.cmp O.Record.spelling O.Record.reading O.Key.reading O.State.reading) (Fits O.Record.HasSpelling O.Record.spelling) self.old → IsSound (language O.meaning O.Key.cmp O.Record.spelling O.Record.reading O.Key.reading O.State.reading) (Fits O.Record.HasSpelling O.Record.spelling) self.new }
         ensures stays { Stays (language O.meaning O.Key.cmp O.Record.spelling O.Record.reading O.Key.reading O.State.reading) self.old self.new }
-        ensures counted { result ≡ Err CoreFault.Device → self.old.faults < self.new.faults }
+        ensures counted { IsCounted self.old.faults self.new.faults result }
         ensures same { (self.new.graph ≡ self.old.graph) × (self.new.is_fresh ≡ self.old.is_fresh) }
         ensures ledger { self.new.ledger ≡ self.old.ledger }
     {
@@ -366,7 +369,7 @@ impl<O: Operator, S: SnapshotStore, X: Transactions, P: Partitions<Record = O::R
         ensures goes { Goes (language O.meaning O.Key.cmp O.Record.spelling O.Record.reading O.Key.reading O.State.reading) self.old self.new }
         ensures sound { IsSound (language O.meaning O.Key.cmp O.Record.spelling O.Record.reading O.Key.reading O.State.reading) (Fits O.Record.HasSpelling O.Record.spelling) self.old → IsSound (language O.meaning O.Key.cmp O.Record.spelling O.Record.reading O.Key.reading O.State.reading) (Fits O.Record.HasSpelling O.Record.spelling) self.new }
         ensures stays { Stays (language O.meaning O.Key.cmp O.Record.spelling O.Record.reading O.Key.reading O.State.reading) self.old self.new }
-        ensures counted { result ≡ Err CoreFault.Device → self.old.faults < self.new.faults }
+        ensures counted { IsCounted self.old.faults self.new.faults result }
         ensures same { (self.new.graph ≡ self.old.graph) × (self.new.is_fresh ≡ self.old.is_fresh) }
         ensures ledger { self.new.ledger ≡ self.old.ledger }
     {
@@ -385,7 +388,7 @@ impl<O: Operator, S: SnapshotStore, X: Transactions, P: Partitions<Record = O::R
         ensures goes { Goes (language O.meaning O.Key.cmp O.Record.spelling O.Record.reading O.Key.reading O.State.reading) self.old self.new }
         ensures sound { IsSound (language O.meaning O.Key.cmp O.Record.spelling O.Record.reading O.Key.reading O.State.reading) (Fits O.Record.HasSpelling O.Record.spelling) self.old → IsSound (language O.meaning O.Key.cmp O.Record.spelling O.Record.reading O.Key.reading O.State.reading) (Fits O.Record.HasSpelling O.Record.spelling) self.new }
         ensures stays { Stays (language O.meaning O.Key.cmp O.Record.spelling O.Record.reading O.Key.reading O.State.reading) self.old self.new }
-        ensures counted { result ≡ Err CoreFault.Device → self.old.faults < self.new.faults }
+        ensures counted { IsCounted self.old.faults self.new.faults result }
         ensures same { (self.new.graph ≡ self.old.graph) × (self.new.is_fresh ≡ self.old.is_fresh) }
         ensures ledger { self.new.ledger ≡ self.old.ledger }
     {
@@ -403,7 +406,7 @@ impl<O: Operator, S: SnapshotStore, X: Transactions, P: Partitions<Record = O::R
         ensures sound { IsSound (language O.meaning O.Key.cmp O.Record.spelling O.Record.reading O.Key.reading O.State.reading) (Fits O.Record.HasSpelling O.Record.spelling) self.old → IsSound (language O.meaning O.Key.cmp O.Record.spelling O.Record.reading O.Key.reading O.State.reading) (Fits O.Record.HasSpelling O.Record.spelling) self.new }
         ensures begins { (task subtask : ℕ) → slice_get self.old.graph.tasks task ≡ Some (Role.Sink subtask) → Begins (committed_rows self.old.ledger subtask) (committed_rows self.new.ledger subtask) }
         ensures stays { Stays (language O.meaning O.Key.cmp O.Record.spelling O.Record.reading O.Key.reading O.State.reading) self.old self.new }
-        ensures counted { result ≡ Err CoreFault.CommitFault → self.old.faults < self.new.faults }
+        ensures counted { IsCounted self.old.faults self.new.faults result }
         ensures reaches { IsSound (language O.meaning O.Key.cmp O.Record.spelling O.Record.reading O.Key.reading O.State.reading) (Fits O.Record.HasSpelling O.Record.spelling) self.old → OnOk result (length (committed_of self.new.ledger sink) ≡ length (complete_numbers self.new.stored)) }
         ensures same { (self.new.graph ≡ self.old.graph) × (self.new.is_fresh ≡ self.old.is_fresh) }
     {
@@ -418,6 +421,7 @@ impl<O: Operator, S: SnapshotStore, X: Transactions, P: Partitions<Record = O::R
     pub fn append(&mut self, partition: u32, row: O::Record) -> Result<(), SourceFault>
         requires { Fits O.Record.HasSpelling O.Record.spelling row }
         ensures ends { partitions.Ends (self.old.partitions, self.old.faults) (self.new.partitions, self.new.faults) (partitions.append_refusal self.old.partitions partition) (partitions.appended self.old.partitions partition row) result }
+        ensures told { result ≢ Err SourceFault.Fault → self.new.faults ≡ self.old.faults }
         ensures same { self.new ≡ record self.old { partitions = self.new.partitions; faults = self.new.faults } }
         ensures stays { Stays (language O.meaning O.Key.cmp O.Record.spelling O.Record.reading O.Key.reading O.State.reading) self.old self.new }
         ensures kept { (self.new.graph ≡ self.old.graph) × (self.new.is_fresh ≡ self.old.is_fresh) }
