@@ -19,10 +19,9 @@ ghost use Rattle.core_model.specs.Commits.{EndsCommit};
 ghost use Rattle.core_model.specs.CompleteCut.{HasTheCut};
 ghost use Rattle.core_model.specs.Goes.{Goes};
 ghost use Rattle.core_model.specs.Language.{language};
-ghost use Rattle.checkpoint_model.specs.Headline.{IsExactlyOnce};
+ghost use Rattle.core_model.specs.ExactlyOnce.{IsExactlyOnce};
 ghost use Rattle.core_model.specs.LastCommitted.{committed_of, complete_numbers};
 ghost use Rattle.core_model.specs.Sound.{IsSound, AreLegal, HaveGrown};
-ghost use Rattle.core_model.specs.View.{job_of, devices_of};
 ghost use Rattle.line_core.specs.Lines.{IsLine, CommitsABeginning};
 ghost use Rattle.line_model.specs.Line.{applied};
 ghost use Rattle.core_plain.specs.Plain.{StepsIfOk, Stays};
@@ -201,12 +200,12 @@ impl<O: Operator, S: SnapshotStore, X: Transactions, P: Partitions<Record = O::R
     }
 
     /// Whether both devices were new when the core was opened. No call changes it. Of such a core one run of the plain machine, without barriers,
-    /// checkpoints or failures, has a moment for each complete checkpoint, in order, and each sink has committed exactly its output at the moment of
-    /// its own last committed checkpoint; on a line, what the operator makes of a beginning of the partition.
+    /// checkpoints or failures, has a moment for each complete checkpoint, in order, and the rows that each sink has committed, as `committed` answers them,
+    /// are exactly its output at the moment of its own last committed checkpoint; on a line, what the operator makes of a beginning of the partition.
     pub fn is_fresh(&self) -> bool
         ensures value { result ≡ self.now.is_fresh }
         ensures sound { IsTrue result → IsSound (language O.meaning O.Key.cmp O.Record.spelling O.Record.reading O.Key.reading O.State.reading) (Fits O.Record.HasSpelling O.Record.spelling) self.now }
-        ensures exact { IsTrue result → IsExactlyOnce (job_of (language O.meaning O.Key.cmp O.Record.spelling O.Record.reading O.Key.reading O.State.reading) self.now) O.Record.spelling (devices_of (language O.meaning O.Key.cmp O.Record.spelling O.Record.reading O.Key.reading O.State.reading) self.now) }
+        ensures exact { IsTrue result → IsExactlyOnce (language O.meaning O.Key.cmp O.Record.spelling O.Record.reading O.Key.reading O.State.reading) self.now }
         ensures line { IsTrue result → (operator : O) → IsLine self.now.graph → slice_get self.now.operators 0 ≡ Some operator → CommitsABeginning (language O.meaning O.Key.cmp O.Record.spelling O.Record.reading O.Key.reading O.State.reading) self.now (λ rows. applied O.meaning operator rows) }
     {
         self.is_fresh
