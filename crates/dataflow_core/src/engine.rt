@@ -18,6 +18,7 @@ ghost use Rattle.core_model.specs.Calls.{input_at, left_by, EndsRead, EndsInject
 ghost use Rattle.core_model.specs.Commits.{EndsCommit};
 ghost use Rattle.core_model.specs.CompleteCut.{HasTheCut};
 ghost use Rattle.core_model.specs.Goes.{Goes};
+ghost use Rattle.core_model.specs.Keeps.{Keeps};
 ghost use Rattle.core_model.specs.Language.{language};
 ghost use Rattle.core_model.specs.ExactlyOnce.{IsExactlyOnce};
 ghost use Rattle.core_model.specs.LastCommitted.{committed_of, complete_numbers};
@@ -199,11 +200,13 @@ impl<O: Operator, S: SnapshotStore, X: Transactions, P: Partitions<Record = O::R
         }
     }
 
-    /// Whether both devices were new when the core was opened. No call changes it. Of such a core one run of the plain machine, without barriers,
+    /// Whether both devices were new when the core was opened. No call changes it. What every core keeps is handed out (`kept`): among it, that the last
+    /// complete number of a running job is the store's, and that what a commit takes is of a complete checkpoint. Of a core over new devices one run of the plain machine, without barriers,
     /// checkpoints or failures, has a moment for each complete checkpoint, in order, and the rows that each sink has committed, as `committed` answers them,
     /// are exactly its output at the moment of its own last committed checkpoint; on a line, what the operator makes of a beginning of the partition.
     pub fn is_fresh(&self) -> bool
         ensures value { result ≡ self.now.is_fresh }
+        ensures kept { Keeps (language O.meaning O.Key.cmp O.Record.spelling O.Record.reading O.Key.reading O.State.reading) (Fits O.Record.HasSpelling O.Record.spelling) (IsGoodState (Fits O.State.HasSpelling O.State.spelling) O.Suits) self.now }
         ensures sound { IsTrue result → IsSound (language O.meaning O.Key.cmp O.Record.spelling O.Record.reading O.Key.reading O.State.reading) (Fits O.Record.HasSpelling O.Record.spelling) self.now }
         ensures exact { IsTrue result → IsExactlyOnce (language O.meaning O.Key.cmp O.Record.spelling O.Record.reading O.Key.reading O.State.reading) self.now }
         ensures line { IsTrue result → (operator : O) → IsLine self.now.graph → slice_get self.now.operators 0 ≡ Some operator → CommitsABeginning (language O.meaning O.Key.cmp O.Record.spelling O.Record.reading O.Key.reading O.State.reading) self.now (λ rows. applied O.meaning operator rows) }

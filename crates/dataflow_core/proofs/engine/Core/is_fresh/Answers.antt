@@ -11,3 +11,6 @@ returns-clause-line g c = rw (← c.self.view_is) (λ fresh operator line is. co
 
 pub returns-clause-sound : goal.returns-clause-sound
 returns-clause-sound g c = rw (← c.self.view_is) (λ fresh. fresh_is_sound _ _ _ _ c.self.invariant fresh)
+
+pub returns-clause-kept : goal.returns-clause-kept
+returns-clause-kept g c = rw (← c.self.view_is) c.self.invariant
