@@ -10,7 +10,7 @@ mod start;
 ghost use Rattle.core_model.specs.Language.{Language};
 ghost use Rattle.core_model.specs.CallLaws.{ReadsKeepEngines, InjectsKeepEngines, OperatesKeepEngines, OperatorBarriersKeepEngines, PutsOutKeepEngines, SinkBarriersKeepEngines};
 ghost use Rattle.core_model.specs.CheckpointLaws.{TriggersKeepEngines, PersistsKeepEngines, CompletesKeepEngines, CommitsKeepEngines, CommitsReachEveryCheckpoint, FailuresKeepEngines, FreshEnginesAreExact, FreshEnginesCommitOutputs, StepsWithdrawNoRow};
-ghost use Rattle.core_model.specs.CompleteCut.{CompletesAreTheCut};
+ghost use Rattle.core_model.specs.CompleteCut.{CompletesAreTheCut, FreshCompletesAreReached};
 ghost use Rattle.core_model.specs.RestartLaws.{RestartsKeepEngines, RestartsWithdrawNoRow, FreshRestartsAreSteps, FreshRestartsGiveTheCut, FreshRestartsAreNotBad};
 ghost use Rattle.core_model.specs.Laws.{ReadsAreSteps, OperatesAreSteps, InjectsAreSteps, CommittedAreRows, AppendsKeepSinks, CopiesKeepSinks, CommitsKeepSinks};
 
@@ -110,6 +110,11 @@ pub fn commits_reach_every_checkpoint<R, K, S, O>()
 /// A checkpoint that completes is the cut that its attempt has made so far, and every task's part is in the store: on any engine, fresh or not.
 pub fn completes_are_the_cut<R, K, S, O>()
     ensures { (lang : Language R K S O) → CompletesAreTheCut lang }
+{}
+
+/// On a fresh engine a plain run comes to that cut, where each sink's output is what it has settled.
+pub fn fresh_completes_are_reached<R, K, S, O>()
+    ensures { (lang : Language R K S O) → FreshCompletesAreReached lang }
 {}
 
 /// A failure of the job keeps what every engine keeps, and is a step of the model.

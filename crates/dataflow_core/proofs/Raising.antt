@@ -73,7 +73,7 @@ module _ {R K S O : Type 0} (lang : Language R K S O) (KeyFits : K → Type 0) (
     pub cut_by : (result : Result (Option ℕ × Held R K S) CoreFault) → Ends result → IfOk (number_of result) (λ last. MatchOption (held_by result) ⊥ (λ k. GoesOnFromCut lang (now result) last k))
     cut_by (Ok made) ends =
         let cut = gives_cut lang KeyFits RecordFits IsGood like_fresh keeps_fresh down refl ledger n made.0 made.1 ends in
-        record { base = cut.base; restored = cut.restored; holds = cut.holds; latest = cut.latest; committed = cut.committed }
+        record { moves = cut.moves; base = cut.base; reached = cut.reached; restored = cut.restored; outputs = cut.outputs; holds = cut.holds; latest = cut.latest; committed = cut.committed }
     cut_by (Err fault) ends = tt
 
 module _ {R K S O : Type 0} (lang : Language R K S O) (RecordFits : R → Type 0) (KeyFits : K → Type 0) (StateFits : S → Type 0) (Suits : O → S → Type 0) (s : State O R K S) (keeps : Keeps lang RecordFits (IsGoodState StateFits Suits) s) (down : s.held ≡ None)

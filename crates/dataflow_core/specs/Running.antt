@@ -18,6 +18,10 @@ abbrev pub IsCounted : {T : Type 0} → ℕ → ℕ → Result T CoreFault → T
 IsCounted old new (Ok v) = new ≡ old
 IsCounted old new (Err fault) = CountsFault old new fault
 
+-- what no call changes: the graph, the operators, and whether the devices were new
+abbrev pub IsSameJob : {O R K S : Type 0} → State O R K S → State O R K S → Type 0
+IsSameJob old new = (new.graph ≡ old.graph) × (new.operators ≡ old.operators) × (new.is_fresh ≡ old.is_fresh)
+
 module _ {O R K S T : Type 0} (old new : State O R K S) (Ends : Held R K S → Held R K S → Result T CoreFault → Type 0) (result : Result T CoreFault) where
   -- the call is refused where the job is down
   abbrev pub WhileRunning : (Held R K S → State O R K S) → Type 0

@@ -26,12 +26,14 @@ ghost use Rattle.core_model.specs.Sound.{IsSound, AreLegal, HaveGrown};
 ghost use Rattle.line_core.specs.Lines.{IsLine, CommitsABeginning};
 ghost use Rattle.line_model.specs.Line.{applied};
 ghost use Rattle.core_plain.specs.Plain.{StepsIfOk, Stays};
+ghost use Rattle.core_model.specs.View.{job_of, devices_of};
 ghost use Rattle.core_model.specs.Restart.{EndsRestart};
 ghost use Rattle.core_model.specs.RestartLaws.{GoesOnFromCut};
+ghost use Rattle.checkpoint_model.specs.Cuts.{IsReachedCut};
 ghost use Rattle.dataflow_model.specs.Graph.{Begins};
 ghost use Rattle.dataflow_model.specs.Machine as machine;
 ghost use Rattle.dataflow_core.specs.Tasks.{EndsWork, EndsBarrier};
-ghost use Rattle.dataflow_core.specs.Running.{IsCounted, number_of, raised, attempts_after, OnDown, OnAttempt, OnStore, OnTransactions};
+ghost use Rattle.dataflow_core.specs.Running.{IsCounted, IsSameJob, number_of, raised, attempts_after, OnDown, OnAttempt, OnStore, OnTransactions};
 
 use crate::tasks::{take_barrier, work_task};
 use alignment::Effect;
@@ -222,7 +224,7 @@ impl<O: Operator, S: SnapshotStore, X: Transactions, P: Partitions<Record = O::R
         ensures sound { IsSound (language O.meaning O.Key.cmp O.Record.spelling O.Record.reading O.Key.reading O.State.reading) (Fits O.Record.HasSpelling O.Record.spelling) self.old → IsSound (language O.meaning O.Key.cmp O.Record.spelling O.Record.reading O.Key.reading O.State.reading) (Fits O.Record.HasSpelling O.Record.spelling) self.new }
         ensures stays { Stays (language O.meaning O.Key.cmp O.Record.spelling O.Record.reading O.Key.reading O.State.reading) self.old self.new }
         ensures counted { IsCounted self.old.faults self.new.faults result }
-        ensures same { (self.new.graph ≡ self.old.graph) × (self.new.is_fresh ≡ self.old.is_fresh) }
+        ensures same { IsSameJob self.old self.new }
         ensures ledger { self.new.ledger ≡ self.old.ledger }
     {
         if self.attempt.is_none() {
@@ -243,7 +245,7 @@ impl<O: Operator, S: SnapshotStore, X: Transactions, P: Partitions<Record = O::R
         ensures cut { IsSound (language O.meaning O.Key.cmp O.Record.spelling O.Record.reading O.Key.reading O.State.reading) (Fits O.Record.HasSpelling O.Record.spelling) self.old → IfOk result (λ last. MatchOption self.new.held ⊥ (λ k. GoesOnFromCut (language O.meaning O.Key.cmp O.Record.spelling O.Record.reading O.Key.reading O.State.reading) self.new last k)) }
         ensures good { IsSound (language O.meaning O.Key.cmp O.Record.spelling O.Record.reading O.Key.reading O.State.reading) (Fits O.Record.HasSpelling O.Record.spelling) self.old → result ≢ Err CoreFault.BadSnapshot }
         ensures counted { IsCounted self.old.faults self.new.faults result }
-        ensures same { (self.new.graph ≡ self.old.graph) × (self.new.is_fresh ≡ self.old.is_fresh) }
+        ensures same { IsSameJob self.old self.new }
     {
         if self.attempt.is_some() {
             return Err(CoreFault::NotReady);
@@ -271,7 +273,7 @@ impl<O: Operator, S: SnapshotStore, X: Transactions, P: Partitions<Record = O::R
         ensures sound { IsSound (language O.meaning O.Key.cmp O.Record.spelling O.Record.reading O.Key.reading O.State.reading) (Fits O.Record.HasSpelling O.Record.spelling) self.old → IsSound (language O.meaning O.Key.cmp O.Record.spelling O.Record.reading O.Key.reading O.State.reading) (Fits O.Record.HasSpelling O.Record.spelling) self.new }
         ensures plain { StepsIfOk result (language O.meaning O.Key.cmp O.Record.spelling O.Record.reading O.Key.reading O.State.reading) (machine.Read task) self.old self.new }
         ensures counted { IsCounted self.old.faults self.new.faults result }
-        ensures same { (self.new.graph ≡ self.old.graph) × (self.new.is_fresh ≡ self.old.is_fresh) }
+        ensures same { IsSameJob self.old self.new }
         ensures ledger { self.new.ledger ≡ self.old.ledger }
     {
         let Some(attempt) = &mut self.attempt else {
@@ -289,7 +291,7 @@ impl<O: Operator, S: SnapshotStore, X: Transactions, P: Partitions<Record = O::R
         ensures begins { (task subtask : ℕ) → slice_get self.old.graph.tasks task ≡ Some (Role.Sink subtask) → Begins (committed_rows self.old.ledger subtask) (committed_rows self.new.ledger subtask) }
         ensures plain { MatchOption (input_at self.old.graph task input) (Stays (language O.meaning O.Key.cmp O.Record.spelling O.Record.reading O.Key.reading O.State.reading) self.old self.new) (λ channel. StepsIfOk result (language O.meaning O.Key.cmp O.Record.spelling O.Record.reading O.Key.reading O.State.reading) (machine.Work task channel) self.old self.new) }
         ensures counted { IsCounted self.old.faults self.new.faults result }
-        ensures same { (self.new.graph ≡ self.old.graph) × (self.new.is_fresh ≡ self.old.is_fresh) }
+        ensures same { IsSameJob self.old self.new }
     {
         let Some(attempt) = &mut self.attempt else {
             return Err(CoreFault::NotRunning);
@@ -315,7 +317,7 @@ impl<O: Operator, S: SnapshotStore, X: Transactions, P: Partitions<Record = O::R
         ensures begins { (task subtask : ℕ) → slice_get self.old.graph.tasks task ≡ Some (Role.Sink subtask) → Begins (committed_rows self.old.ledger subtask) (committed_rows self.new.ledger subtask) }
         ensures stays { Stays (language O.meaning O.Key.cmp O.Record.spelling O.Record.reading O.Key.reading O.State.reading) self.old self.new }
         ensures counted { IsCounted self.old.faults self.new.faults result }
-        ensures same { (self.new.graph ≡ self.old.graph) × (self.new.is_fresh ≡ self.old.is_fresh) }
+        ensures same { IsSameJob self.old self.new }
     {
         let Some(attempt) = &mut self.attempt else {
             return Err(CoreFault::NotRunning);
@@ -338,7 +340,7 @@ impl<O: Operator, S: SnapshotStore, X: Transactions, P: Partitions<Record = O::R
         ensures sound { IsSound (language O.meaning O.Key.cmp O.Record.spelling O.Record.reading O.Key.reading O.State.reading) (Fits O.Record.HasSpelling O.Record.spelling) self.old → IsSound (language O.meaning O.Key.cmp O.Record.spelling O.Record.reading O.Key.reading O.State.reading) (Fits O.Record.HasSpelling O.Record.spelling) self.new }
         ensures stays { Stays (language O.meaning O.Key.cmp O.Record.spelling O.Record.reading O.Key.reading O.State.reading) self.old self.new }
         ensures counted { IsCounted self.old.faults self.new.faults result }
-        ensures same { (self.new.graph ≡ self.old.graph) × (self.new.is_fresh ≡ self.old.is_fresh) }
+        ensures same { IsSameJob self.old self.new }
         ensures ledger { self.new.ledger ≡ self.old.ledger }
     {
         let Some(attempt) = &mut self.attempt else {
@@ -355,7 +357,7 @@ impl<O: Operator, S: SnapshotStore, X: Transactions, P: Partitions<Record = O::R
         ensures sound { IsSound (language O.meaning O.Key.cmp O.Record.spelling O.Record.reading O.Key.reading O.State.reading) (Fits O.Record.HasSpelling O.Record.spelling) self.old → IsSound (language O.meaning O.Key.cmp O.Record.spelling O.Record.reading O.Key.reading O.State.reading) (Fits O.Record.HasSpelling O.Record.spelling) self.new }
         ensures stays { Stays (language O.meaning O.Key.cmp O.Record.spelling O.Record.reading O.Key.reading O.State.reading) self.old self.new }
         ensures counted { IsCounted self.old.faults self.new.faults result }
-        ensures same { (self.new.graph ≡ self.old.graph) × (self.new.is_fresh ≡ self.old.is_fresh) }
+        ensures same { IsSameJob self.old self.new }
         ensures ledger { self.new.ledger ≡ self.old.ledger }
     {
         let Some(attempt) = &mut self.attempt else {
@@ -372,7 +374,7 @@ impl<O: Operator, S: SnapshotStore, X: Transactions, P: Partitions<Record = O::R
         ensures sound { IsSound (language O.meaning O.Key.cmp O.Record.spelling O.Record.reading O.Key.reading O.State.reading) (Fits O.Record.HasSpelling O.Record.spelling) self.old → IsSound (language O.meaning O.Key.cmp O.Record.spelling O.Record.reading O.Key.reading O.State.reading) (Fits O.Record.HasSpelling O.Record.spelling) self.new }
         ensures stays { Stays (language O.meaning O.Key.cmp O.Record.spelling O.Record.reading O.Key.reading O.State.reading) self.old self.new }
         ensures counted { IsCounted self.old.faults self.new.faults result }
-        ensures same { (self.new.graph ≡ self.old.graph) × (self.new.is_fresh ≡ self.old.is_fresh) }
+        ensures same { IsSameJob self.old self.new }
         ensures ledger { self.new.ledger ≡ self.old.ledger }
     {
         let Some(attempt) = &mut self.attempt else {
@@ -382,16 +384,18 @@ impl<O: Operator, S: SnapshotStore, X: Transactions, P: Partitions<Record = O::R
         leave(&mut self.attempt, outcome)
     }
 
-    /// The pending checkpoint, of which the store has every task's part, becomes complete. It takes no memory.
+    /// The pending checkpoint, of which the store has every task's part, becomes complete: the parts say the cut that the attempt has made. Of a sound core a plain
+    /// run comes to that cut, where each sink's output is what it has committed or has pre-committed for a complete checkpoint. It takes no memory.
     pub fn complete(&mut self) -> Result<u64, CoreFault>
         ensures ends { OnStore self.old self.new (λ h k. EndsComplete h k self.old.stored self.new.stored) result }
         ensures whole { IfOk result (λ number. stores.has_all_parts self.new.stored number ≡ true) }
         ensures cut { IfOk result (λ number. MatchOption self.old.held ⊥ (λ h. HasTheCut (language O.meaning O.Key.cmp O.Record.spelling O.Record.reading O.Key.reading O.State.reading) self.old h self.new.stored number)) }
+        ensures reached { IsSound (language O.meaning O.Key.cmp O.Record.spelling O.Record.reading O.Key.reading O.State.reading) (Fits O.Record.HasSpelling O.Record.spelling) self.old → IfOk result (IsReachedCut (job_of (language O.meaning O.Key.cmp O.Record.spelling O.Record.reading O.Key.reading O.State.reading) self.new) O.Record.spelling (devices_of (language O.meaning O.Key.cmp O.Record.spelling O.Record.reading O.Key.reading O.State.reading) self.new)) }
         ensures goes { Goes (language O.meaning O.Key.cmp O.Record.spelling O.Record.reading O.Key.reading O.State.reading) self.old self.new }
         ensures sound { IsSound (language O.meaning O.Key.cmp O.Record.spelling O.Record.reading O.Key.reading O.State.reading) (Fits O.Record.HasSpelling O.Record.spelling) self.old → IsSound (language O.meaning O.Key.cmp O.Record.spelling O.Record.reading O.Key.reading O.State.reading) (Fits O.Record.HasSpelling O.Record.spelling) self.new }
         ensures stays { Stays (language O.meaning O.Key.cmp O.Record.spelling O.Record.reading O.Key.reading O.State.reading) self.old self.new }
         ensures counted { IsCounted self.old.faults self.new.faults result }
-        ensures same { (self.new.graph ≡ self.old.graph) × (self.new.is_fresh ≡ self.old.is_fresh) }
+        ensures same { IsSameJob self.old self.new }
         ensures ledger { self.new.ledger ≡ self.old.ledger }
     {
         let Some(attempt) = &mut self.attempt else {
@@ -410,7 +414,7 @@ impl<O: Operator, S: SnapshotStore, X: Transactions, P: Partitions<Record = O::R
         ensures stays { Stays (language O.meaning O.Key.cmp O.Record.spelling O.Record.reading O.Key.reading O.State.reading) self.old self.new }
         ensures counted { IsCounted self.old.faults self.new.faults result }
         ensures reaches { IsSound (language O.meaning O.Key.cmp O.Record.spelling O.Record.reading O.Key.reading O.State.reading) (Fits O.Record.HasSpelling O.Record.spelling) self.old → OnOk result (length (committed_of self.new.ledger sink) ≡ length (complete_numbers self.new.stored)) }
-        ensures same { (self.new.graph ≡ self.old.graph) × (self.new.is_fresh ≡ self.old.is_fresh) }
+        ensures same { IsSameJob self.old self.new }
     {
         let Some(attempt) = &mut self.attempt else {
             return Err(CoreFault::NotRunning);
@@ -426,7 +430,7 @@ impl<O: Operator, S: SnapshotStore, X: Transactions, P: Partitions<Record = O::R
         ensures told { result ≢ Err SourceFault.Fault → self.new.faults ≡ self.old.faults }
         ensures same { self.new ≡ record self.old { partitions = self.new.partitions; faults = self.new.faults } }
         ensures stays { Stays (language O.meaning O.Key.cmp O.Record.spelling O.Record.reading O.Key.reading O.State.reading) self.old self.new }
-        ensures kept { (self.new.graph ≡ self.old.graph) × (self.new.is_fresh ≡ self.old.is_fresh) }
+        ensures kept { IsSameJob self.old self.new }
         ensures sound { IsSound (language O.meaning O.Key.cmp O.Record.spelling O.Record.reading O.Key.reading O.State.reading) (Fits O.Record.HasSpelling O.Record.spelling) self.old → IsSound (language O.meaning O.Key.cmp O.Record.spelling O.Record.reading O.Key.reading O.State.reading) (Fits O.Record.HasSpelling O.Record.spelling) self.new }
         ensures ledger { self.new.ledger ≡ self.old.ledger }
     {

@@ -1,6 +1,7 @@
-use Rattle.std.proofs.Common.{◌+◌, arith}
+use Rattle.std.proofs.Common.{◌+◌, arith, refl}
 use Rattle.core_model.proofs.CallCompletes.{keeps_complete}
 use Rattle.core_model.proofs.CompleteCuts.{cut_if_ok}
+use Rattle.core_model.proofs.CompleteReached.{reached_if_ok}
 use Rattle.core_model.proofs.StoreComplete.{coordinator_completes}
 use Rattle.dataflow_core.proofs.Plain.{complete_stays}
 use Rattle.dataflow_core.proofs.Serving.{completes, whole}
@@ -52,3 +53,8 @@ returns-clause-counted g c =
     rw (← c.self.view_is, c.leave.ensures.answer)
     (complete_counted c.in-Some.attempt new.attempt (S.state s.store) (S.state new.store) (P.fault_count s.log + S.fault_count s.store + X.fault_count s.transactions) (P.fault_count s.log + S.fault_count new.store + X.fault_count s.transactions) c.complete-outcome.result c.complete-outcome.ensures.ends
     (λ is. omega (arith, c.complete-outcome.ensures.counted is)) (λ other. omega (arith, c.complete-outcome.ensures.told other)))
+
+pub returns-clause-reached : goal.returns-clause-reached
+returns-clause-reached g c =
+    rw (← c.self.view_is, c.leave.ensures.answer)
+    (λ sound. reached_if_ok _ _ _ _ (keeps_as_fresh _ _ _ _ c.self.invariant sound) refl c.in-Some.attempt c.in-Some.is c.complete-outcome.new.attempt (g.S.SnapshotStore.state c.complete-outcome.new.store) (g.met.S.SnapshotStore.numbered c.complete-outcome.new.store) c.complete-outcome.result c.complete-outcome.ensures.ends)
