@@ -19,22 +19,22 @@ use Rattle.dataflow_core.specs.Tasks.{NoSuchInput, WorksAs, TakesAs, EndsWork, E
 
 -- it is, if the count rises where either fault is told, and stays where neither is
 counted_by : {T : Type 0} (result : Result T CoreFault) (a b : ℕ) → (result ≡ Err Device → a < b) → (result ≡ Err CommitFault → a < b) → (result ≢ Err Device → result ≢ Err CommitFault → b ≡ a) → IsCounted a b result
-counted_by (Ok v) a b device commit stays = stays (λ e. absurd cc) (λ e. absurd cc)
+counted_by (Ok v) a b device commit stays = stays (λ e. cc) (λ e. cc)
 counted_by (Err Device) a b device commit stays = device refl
 counted_by (Err CommitFault) a b device commit stays = commit refl
-counted_by (Err NotRunning) a b device commit stays = stays (λ e. absurd cc) (λ e. absurd cc)
-counted_by (Err NoSuchTask) a b device commit stays = stays (λ e. absurd cc) (λ e. absurd cc)
-counted_by (Err NotReady) a b device commit stays = stays (λ e. absurd cc) (λ e. absurd cc)
-counted_by (Err ChannelBlocked) a b device commit stays = stays (λ e. absurd cc) (λ e. absurd cc)
-counted_by (Err Busy) a b device commit stays = stays (λ e. absurd cc) (λ e. absurd cc)
-counted_by (Err Stale) a b device commit stays = stays (λ e. absurd cc) (λ e. absurd cc)
-counted_by (Err WrongResult) a b device commit stays = stays (λ e. absurd cc) (λ e. absurd cc)
-counted_by (Err CheckpointPending) a b device commit stays = stays (λ e. absurd cc) (λ e. absurd cc)
-counted_by (Err NoCheckpoint) a b device commit stays = stays (λ e. absurd cc) (λ e. absurd cc)
-counted_by (Err NotAllAcked) a b device commit stays = stays (λ e. absurd cc) (λ e. absurd cc)
-counted_by (Err Memory) a b device commit stays = stays (λ e. absurd cc) (λ e. absurd cc)
-counted_by (Err NumbersSpent) a b device commit stays = stays (λ e. absurd cc) (λ e. absurd cc)
-counted_by (Err BadSnapshot) a b device commit stays = stays (λ e. absurd cc) (λ e. absurd cc)
+counted_by (Err NotRunning) a b device commit stays = stays (λ e. cc) (λ e. cc)
+counted_by (Err NoSuchTask) a b device commit stays = stays (λ e. cc) (λ e. cc)
+counted_by (Err NotReady) a b device commit stays = stays (λ e. cc) (λ e. cc)
+counted_by (Err ChannelBlocked) a b device commit stays = stays (λ e. cc) (λ e. cc)
+counted_by (Err Busy) a b device commit stays = stays (λ e. cc) (λ e. cc)
+counted_by (Err Stale) a b device commit stays = stays (λ e. cc) (λ e. cc)
+counted_by (Err WrongResult) a b device commit stays = stays (λ e. cc) (λ e. cc)
+counted_by (Err CheckpointPending) a b device commit stays = stays (λ e. cc) (λ e. cc)
+counted_by (Err NoCheckpoint) a b device commit stays = stays (λ e. cc) (λ e. cc)
+counted_by (Err NotAllAcked) a b device commit stays = stays (λ e. cc) (λ e. cc)
+counted_by (Err Memory) a b device commit stays = stays (λ e. cc) (λ e. cc)
+counted_by (Err NumbersSpent) a b device commit stays = stays (λ e. cc) (λ e. cc)
+counted_by (Err BadSnapshot) a b device commit stays = stays (λ e. cc) (λ e. cc)
 
 -- the number alone of what was made tells as much
 pub number_counted : {A : Type 0} (made : Result (Option ℕ × A) CoreFault) (a b : ℕ) → IsCounted a b made → IsCounted a b (number_of made)
@@ -51,8 +51,11 @@ module _ {T : Type 0} (Ends : Result T CoreFault → Type 0) (result : Result T 
   commit_counted never rises stays = counted_by result a b (λ is. absurd (never (subst Ends is ends))) rises (λ device commit. stays commit)
 
 -- there is no such input
+apart : {T : Type 0} → ◌≡◌ {A = Result T CoreFault} (Err CommitFault) (Err NoSuchTask) → ⊥
+apart e = cc
+
 no_input : {R K S T : Type 0} (h k : Held R K S) (old new : Ledger) → NoSuchInput {T = T} h k old new (Err CommitFault) → ⊥
-no_input h k old new none = let is = none.0 in absurd cc
+no_input h k old new none = apart none.0
 
 module _ {R K S : Type 0} (graph : Expanded) (task : ℕ) (h k : Held R K S) (a b : ℕ) where
   module _ {O : Type 0} (lang : Language R K S O) (result : Result Unit CoreFault) where
