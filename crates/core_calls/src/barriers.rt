@@ -1,6 +1,6 @@
 //! Barriers are taken, and tasks copy what they hold (Carbone et al. 2015).
 
-ghost use Rattle.std.specs.Prelude.{◌≡◌, ◌<◌, List, true, Err, Some, None, length, slice_get, IfOk, IfErr};
+ghost use Rattle.std.specs.Prelude.{◌≡◌, ◌≢◌, ◌<◌, List, true, Err, Some, None, length, slice_get, IfOk, IfErr};
 ghost use Rattle.alignment.specs.Table.{effect_of};
 ghost use Rattle.commit_sink.specs.Ledger.{open_refusal};
 ghost use Rattle.commit_sink.specs.Sink.{Sinking};
@@ -92,6 +92,7 @@ fn begin_next<X: Transactions>(
     requires last { open_refusal (X.state transactions.old) last ≡ None }
     ensures ends { EndsBegin subtask last checkpoint (X.state transactions.old) (X.state transactions.new) result }
     ensures counted { result ≡ Err CoreFault.Device → X.fault_count transactions.old < X.fault_count transactions.new }
+    ensures told { result ≢ Err CoreFault.Device → X.fault_count transactions.new ≡ X.fault_count transactions.old }
 {
     let begun = match transactions.begin(subtask) {
         Ok(begun) => begun,
@@ -122,6 +123,7 @@ fn copy_sink<O: Operator, X: Transactions>(
     requires subtask { subtask < (X.state transactions.old).subtasks }
     ensures ends { EndsSinkCopy task input attempt.old attempt.new channel subtask (X.state transactions.old) (X.state transactions.new) result }
     ensures counted { result ≡ Err CoreFault.Device → X.fault_count transactions.old < X.fault_count transactions.new }
+    ensures told { result ≢ Err CoreFault.Device → X.fault_count transactions.new ≡ X.fault_count transactions.old }
 {
     let Some(Holding::Sink(sink)) = attempt.holding(task) else {
         return Err(CoreFault::NotReady);
@@ -154,6 +156,7 @@ pub fn sink_barrier<O: Operator, X: Transactions>(
     requires subtask { subtask < (X.state transactions.old).subtasks }
     ensures ends { EndsSinkBarrier task input attempt.old attempt.new channel subtask (X.state transactions.old) (X.state transactions.new) result }
     ensures counted { result ≡ Err CoreFault.Device → X.fault_count transactions.old < X.fault_count transactions.new }
+    ensures told { result ≢ Err CoreFault.Device → X.fault_count transactions.new ≡ X.fault_count transactions.old }
 {
     let checkpoint = barrier_at(attempt, task, input, channel)?;
     let effect = attempt.effect(task, input);

@@ -28,7 +28,7 @@ pub fn trigger<O: Operator, S: SnapshotStore>(
 ) -> Result<u64, CoreFault>
     ensures ends { EndsTrigger attempt.old attempt.new (S.state store.old) (S.state store.new) result }
     ensures counted { result ≡ Err CoreFault.Device → S.fault_count store.old < S.fault_count store.new }
-    ensures grows { S.fault_count store.old ≤ S.fault_count store.new }
+    ensures told { result ≢ Err CoreFault.Device → S.fault_count store.new ≡ S.fault_count store.old }
 {
     if attempt.pending().is_some() {
         return Err(CoreFault::CheckpointPending);
@@ -98,7 +98,7 @@ pub fn persist<O: Operator, S: SnapshotStore>(
     requires may { (n : ℕ) → attempt.old.coordination.pending ≡ Some n → has_acked attempt.old.coordination task ≡ false → task < length graph.now.tasks → put_refusal (S.state store.old) n task ≡ None }
     ensures ends { EndsPersist graph.now task attempt.old attempt.new (S.state store.old) (S.state store.new) (part_spelling O.Record.spelling O.Key.spelling O.State.spelling) result }
     ensures counted { result ≡ Err CoreFault.Device → S.fault_count store.old < S.fault_count store.new }
-    ensures grows { S.fault_count store.old ≤ S.fault_count store.new }
+    ensures told { result ≢ Err CoreFault.Device → S.fault_count store.new ≡ S.fault_count store.old }
     ensures readable { WhereReached result ((p : Part O.Record O.Key O.State) → copy_at attempt.old task ≡ Some p → whole_of (part_at O.Record.reading O.Key.cmp O.Key.reading O.State.reading) (part_spelling O.Record.spelling O.Key.spelling O.State.spelling (with_logs (logs_of graph.now attempt.old task) p)) ≡ Ok (with_logs (logs_of graph.now attempt.old task) p)) }
 {
     if graph.role(task).is_none() {
@@ -133,7 +133,7 @@ pub fn complete<O: Operator, S: SnapshotStore>(
     requires ready { (n : ℕ) → attempt.old.coordination.pending ≡ Some n → IsReady attempt.old.coordination → coordination.complete_refusal attempt.old.coordination n ≡ None }
     ensures ends { EndsComplete attempt.old attempt.new (S.state store.old) (S.state store.new) result }
     ensures counted { result ≡ Err CoreFault.Device → S.fault_count store.old < S.fault_count store.new }
-    ensures grows { S.fault_count store.old ≤ S.fault_count store.new }
+    ensures told { result ≢ Err CoreFault.Device → S.fault_count store.new ≡ S.fault_count store.old }
 {
     let Some(checkpoint) = attempt.pending() else {
         return Err(CoreFault::NoCheckpoint);

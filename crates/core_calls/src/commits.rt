@@ -1,6 +1,6 @@
 //! The transactions of complete checkpoints are committed (Flink's `TwoPhaseCommitSinkFunction`).
 
-ghost use Rattle.std.specs.Prelude.{◌≡◌, ◌<◌, ◌≤◌, ℕ, Err, Some, None, slice_get, IfSome, IfNone};
+ghost use Rattle.std.specs.Prelude.{◌≡◌, ◌≢◌, ◌<◌, ℕ, Err, Some, None, slice_get, IfSome, IfNone};
 ghost use Rattle.commit_sink.specs.Ledger.{commit_refusal};
 ghost use Rattle.commit_sink.specs.Sink.{Sinking};
 ghost use Rattle.commit_sink.specs.declared.sink.Pending.{Pending};
@@ -53,7 +53,7 @@ fn commit_oldest<O: Operator, X: Transactions>(
     requires { (sink : Sinking) (p : Pending) → IsNext task attempt.old sink p → commit_refusal (X.state transactions.old) p.transaction ≡ None }
     ensures ends { EndsRound task attempt.old attempt.new (X.state transactions.old) (X.state transactions.new) result }
     ensures counted { result ≡ Err CoreFault.CommitFault → X.fault_count transactions.old < X.fault_count transactions.new }
-    ensures grows { X.fault_count transactions.old ≤ X.fault_count transactions.new }
+    ensures told { result ≢ Err CoreFault.CommitFault → X.fault_count transactions.new ≡ X.fault_count transactions.old }
 {
     let Some(next) = next_of(attempt, task) else {
         return Ok(false);
@@ -78,6 +78,7 @@ pub fn commit<O: Operator, X: Transactions>(
     requires sinks { (task : ℕ) (sink : Sinking) → slice_get graph.now.tasks task ≡ Some (Role.Sink subtask) → slice_get attempt.old.tasks task ≡ Some (Holding.Sink sink) → SinkIn (X.state transactions.old) subtask sink }
     ensures ends { EndsCommit graph.now subtask attempt.old attempt.new (X.state transactions.old) (X.state transactions.new) result }
     ensures counted { result ≡ Err CoreFault.CommitFault → X.fault_count transactions.old < X.fault_count transactions.new }
+    ensures told { result ≢ Err CoreFault.CommitFault → X.fault_count transactions.new ≡ X.fault_count transactions.old }
 {
     let Some(task) = graph.sink_task(subtask) else {
         return Err(CoreFault::NoSuchTask);

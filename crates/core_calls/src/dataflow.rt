@@ -62,6 +62,7 @@ pub fn read_next<O: Operator, P: Partitions<Record = O::Record>>(
     ensures same { P.records log.new ≡ P.records log.old }
     ensures kept { OnErr result (attempt.new ≡ attempt.old) }
     ensures counted { result ≡ Err CoreFault.Device → P.fault_count log.old < P.fault_count log.new }
+    ensures told { result ≢ Err CoreFault.Device → P.fault_count log.new ≡ P.fault_count log.old }
     ensures fits { OnOk result ((p o : ℕ) (row : O.Record) → slice_get graph.now.tasks task ≡ Some (Role.Source p) → slice_get attempt.old.tasks task ≡ Some (Holding.Source o) → slice_get (records_at (P.records log.old) p) o ≡ Some row → Fits O.Record.HasSpelling O.Record.spelling row) }
 {
     let Some(Role::Source(partition)) = graph.role(task) else {
@@ -207,7 +208,7 @@ pub fn put_out<O: Operator, X: Transactions>(
     requires fit { AllFit (Fits O.Record.HasSpelling O.Record.spelling) attempt.old }
     ensures ends { EndsPutOut task input attempt.old attempt.new channel (X.state transactions.old) (X.state transactions.new) O.Record.spelling result }
     ensures counted { result ≡ Err CoreFault.Device → X.fault_count transactions.old < X.fault_count transactions.new }
-    ensures grows { X.fault_count transactions.old ≤ X.fault_count transactions.new }
+    ensures told { result ≢ Err CoreFault.Device → X.fault_count transactions.new ≡ X.fault_count transactions.old }
 {
     let bytes = row_spelling(alloc, first_record(attempt, task, input, channel)?)?;
     let Some(Holding::Sink(sink)) = attempt.holding(task) else {

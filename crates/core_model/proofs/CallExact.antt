@@ -1,5 +1,5 @@
 -- What an engine that keeps what every engine keeps has committed, if it is fresh.
-use Rattle.std.proofs.Common.{◌≡◌, ◌++◌, Option, Some, option_map, slice_get, map, ℕ, true, List, sym, ap, subst, ◌∙◌}
+use Rattle.std.proofs.Common.{◌≡◌, ◌++◌, Option, Some, option_map, slice_get, length, map, ℕ, true, List, sym, ap, subst, ◌∙◌}
 use Rattle.checkpoint_model.specs.Durable.{IsSink, joined}
 use Rattle.checkpoint_model.specs.Headline.{IsExactlyOnce}
 use Rattle.checkpoint_model.specs.Held.{held_run, held_running, IsHeldSound}
@@ -15,17 +15,23 @@ use Rattle.job_graph.specs.declared.role.Role.{Role}
 use Rattle.job_graph.specs.declared.role.Role.TheVariants as role
 use Rattle.job_graph.proofs.PlainTasks.{tasks-graph_of}
 use Rattle.job_state.specs.Held.{Held}
+use Rattle.core_model.specs.ExactlyOnce as rows
 use Rattle.core_model.specs.Language.{Language}
+use Rattle.core_model.specs.LastCommitted.{committed_of}
 use Rattle.core_model.specs.State.{State}
 use Rattle.core_model.specs.View.{run_of, transactions_at, job_of, is_logged_in, devices_of, engine_of}
 use Rattle.core_model.specs.Keeps.{Keeps}
 use Rattle.core_model.specs.Goes.{Goes}
-use Rattle.core_model.proofs.LedgerRows.{rows_in}
+use Rattle.core_model.proofs.LedgerRows.{rows_in, count_in}
 
 module _ {R K S O : Type 0} (lang : Language R K S O) where
   -- what a sink has committed, as its rows
   pub rows_at : (graph : Expanded) (l : Ledger) (task subtask : ℕ) → slice_get graph.tasks task ≡ Some (role.Sink subtask) → IsOrdered l → joined (transactions_at l (slice_get graph.tasks task)).committed ≡ committed_rows l subtask
   rows_at graph l task subtask is ordered = ap (λ (r : Option Role). joined (transactions_at l r).committed) is ∙ rows_in l subtask ordered
+
+  -- and in how many transactions
+  count_at : (graph : Expanded) (l : Ledger) (task subtask : ℕ) → slice_get graph.tasks task ≡ Some (role.Sink subtask) → IsOrdered l → length (transactions_at l (slice_get graph.tasks task)).committed ≡ length (committed_of l subtask)
+  count_at graph l task subtask is ordered = ap (λ (r : Option Role). length (transactions_at l r).committed) is ∙ count_in l subtask ordered
 
   pub is_sink_of : (s : State O R K S) (task subtask : ℕ) → slice_get s.graph.tasks task ≡ Some (role.Sink subtask) → IsSink (job_of lang s) task
   is_sink_of s task subtask is = tasks-graph_of s.graph s.operators task ∙ ap (option_map (task_of s.operators)) is
@@ -43,6 +49,22 @@ module _ {R K S O : Type 0} (lang : Language R K S O) where
     -- one plain run has a moment for each complete checkpoint, and each sink has committed its output at such a moment
     pub keeps_exact : IsExactlyOnce (job_of lang s) lang.spelling (devices_of lang s)
     keeps_exact = held_exact (job_of lang s) lang.spelling (is_logged_in s) (held_engine (engine_of lang s)) (keeps.fresh fresh)
+
+    -- so of the rows that it has committed
+    pub keeps_rows_exact : rows.IsExactlyOnce lang s
+    keeps_rows_exact =
+        let e = keeps_exact in
+        record {
+          moves = e.moves;
+          moments = e.moments;
+          is_run = e.is_run;
+          one_each = e.one_each;
+          in_order = e.in_order;
+          in_run = e.in_run;
+          exactly = λ task subtask j is many.
+              let x = e.exactly task j (is_sink_of s task subtask is) (count_at s.graph s.ledger task subtask is keeps.ordered ∙ many) in
+              (x.0, x.1, x.2, x.3, x.4 ∙ rows_at s.graph s.ledger task subtask is keeps.ordered);
+        }
 
     -- each sink has committed its output after some moves of the plain machine
     pub keeps_output : (task subtask : ℕ) → slice_get s.graph.tasks task ≡ Some (role.Sink subtask)

@@ -46,6 +46,7 @@ pub mod CallGoes
 pub mod CallPersists
 pub mod CallCompletes
 pub mod CompleteCuts
+pub mod CompleteReached
 pub mod CallTriggers
 pub mod LedgerOrdered
 pub mod CallCommits

@@ -1,5 +1,6 @@
 -- A fresh engine goes on from the cut of its last complete checkpoint.
 use Rattle.std.proofs.Common.{◌≡◌, Option, Some, None, Ok, slice_get, ℕ, true, [], refl, sym, ◌∙◌}
+use Rattle.checkpoint_model.specs.Cuts.{IsReachedStart}
 use Rattle.commit_sink.specs.Ledger.{Ledger}
 use Rattle.commit_sink.specs.Sink.{Sinking}
 use Rattle.job_graph.specs.declared.role.Role.TheVariants as role
@@ -10,13 +11,16 @@ use Rattle.core_model.specs.Language.{Language}
 use Rattle.core_model.specs.Restart.{EndsRestart}
 use Rattle.core_model.specs.RestartLaws.{restarted, GoesOnFromCut}
 use Rattle.core_model.specs.State.{State}
+use Rattle.core_model.specs.View.{job_of}
+use Rattle.core_model.proofs.CallExact.{rows_at, is_sink_of}
 use Rattle.core_model.proofs.CallGoes.{shape_of}
 use Rattle.core_model.proofs.CallLasts.{committed_all}
 use Rattle.core_model.proofs.CallRestarts.{keeps_restart}
+use Rattle.core_model.proofs.LedgerDevices.{devices_with}
 use Rattle.core_model.proofs.LedgerRows.{count_in}
-use Rattle.core_model.proofs.RestartBase.{base, seen_restored}
+use Rattle.core_model.proofs.RestartBase.{base}
 use Rattle.core_model.proofs.RestartHeld.{leaves}
-use Rattle.core_model.proofs.RestartSteps.{restart_goes, now_runs}
+use Rattle.core_model.proofs.RestartSteps.{restart_goes, now_runs, start_reached}
 
 module _ {R K S O : Type 0} (lang : Language R K S O) (KeyFits : K → Type 0) (RecordFits : R → Type 0) (IsGood : O → S → Type 0) (s : State O R K S) (keeps : Keeps lang RecordFits IsGood s) (down : s.held ≡ None) (fresh : s.is_fresh ≡ true)
     (ledger : Ledger) (n : ℕ) (last : Option ℕ) (k : Held R K S) (ends : EndsRestart lang KeyFits RecordFits IsGood s.graph s.operators s.partitions s.stored s.ledger ledger (Ok (last, k))) where
@@ -33,11 +37,17 @@ module _ {R K S O : Type 0} (lang : Language R K S O) (KeyFits : K → Type 0) (
       let settled = (leaves lang KeyFits RecordFits IsGood s.graph s.operators s.partitions s.stored s.ledger ledger last ends.starts ends.are k.tasks ends.take keeps.expanded keeps.ordered).settled in
       (there.0, there.1, (settled task subtask there.0 is there.1).1)
 
+  abbrev from_here : IsReachedStart (job_of lang s) lang.spelling (devices_with lang s.graph s.stored ledger) (base lang KeyFits RecordFits IsGood s keeps.expanded keeps.operators keeps.numbered s.ledger ledger last ends.starts ends.are k.tasks ends.take)
+  from_here = start_reached lang KeyFits RecordFits IsGood s keeps down fresh ledger n last k ends
+
   pub gives_cut : GoesOnFromCut lang new last k
   gives_cut = record {
-    base = base lang KeyFits RecordFits IsGood s keeps.expanded keeps.operators keeps.numbered s.ledger ledger last ends.starts ends.are k.tasks ends.take;
-    restored = seen_restored lang KeyFits RecordFits IsGood s keeps.expanded keeps.operators keeps.numbered s.ledger ledger last ends.starts ends.are k.tasks ends.take;
-    holds = now_runs lang KeyFits RecordFits IsGood s keeps down fresh ledger n last k ends;
+    moves = from_here.moves;
+    base = from_here.base;
+    reached = from_here.reached;
+    restored = from_here.restored;
+    outputs = λ task subtask is. from_here.restored.outputs task (is_sink_of lang s task subtask is) ∙ rows_at lang s.graph ledger task subtask is kept.ordered;
+    holds = now_runs lang KeyFits RecordFits IsGood s keeps down fresh ledger n last k ends ∙ sym from_here.is_seen;
     latest = ends.are.latest;
     committed = λ task subtask is.
         let sink = sink_there task subtask is in

@@ -1,15 +1,19 @@
 -- On a fresh engine a restart is steps of the model's engine, whatever it ends in, and it is not refused for what the devices hold.
 use Rattle.std.proofs.Common.{◌≡◌, ◌+◌, inl, inr, Option, Some, None, Result, Ok, Err, slice_get, option_map, length, ℕ, true, List, [], ◌∷◌, ◌++◌, refl, sym, ap, subst, ◌∙◌, append-nil, arith}
 use Rattle.std.proofs.lemmas.Option.{slice_get_within}
+use Rattle.checkpoint_model.specs.Cuts.{IsReachedStart}
 use Rattle.checkpoint_model.specs.Durable.{IsSink}
 use Rattle.checkpoint_model.specs.Engine.{Running}
 use Rattle.checkpoint_model.specs.EngineLaws.{IsSettled}
 use Rattle.checkpoint_model.specs.Headline.{Engine}
 use Rattle.checkpoint_model.specs.Held.{held_run, held_running, held_start, IsHeldSound, HeldRestarts, HeldLeads}
 use Rattle.checkpoint_model.specs.HeldLaws.{held_engine}
+use Rattle.checkpoint_model.proofs.Cuts.{restarts_reached}
+use Rattle.checkpoint_model.proofs.Held.{held_sound}
 use Rattle.commit_sink.specs.Ledger.{Ledger}
 use Rattle.job_graph.specs.declared.role.Role.{Role}
 use Rattle.job_graph.specs.declared.role.Role.TheVariants as role
+use Rattle.job_graph.proofs.PlainTasks.{receiver-graph_of}
 use Rattle.job_state.specs.Held.{Held}
 use Rattle.snapshot_store.specs.Store.{IsLatest}
 use Rattle.task_part.specs.Spelling.{Logs}
@@ -25,7 +29,7 @@ use Rattle.core_model.specs.declared.fault.CoreFault.TheVariants as fault
 use Rattle.core_model.specs.declared.start.Start.{Start}
 use Rattle.core_model.specs.declared.start.Start.TheVariants as start
 use Rattle.core_model.proofs.CallGoes.{leads_on}
-use Rattle.core_model.proofs.LedgerDevices.{names_in}
+use Rattle.core_model.proofs.LedgerDevices.{devices_with, names_in}
 use Rattle.core_model.proofs.LedgerRestart.{NamedIn}
 use Rattle.core_model.proofs.LedgerSettle.{named_none}
 use Rattle.core_model.proofs.RestartBase.{line_none, sink_of, part_said, base, begins_there, seen_restored}
@@ -119,6 +123,15 @@ module _ {R K S O : Type 0} (lang : Language R K S O) (KeyFits : K → Type 0) (
           let long = one_each lang KeyFits RecordFits IsGood s.graph s.operators s.partitions s.stored s.ledger ledger last ends.starts ends.are k.tasks ends.take in
           let within = slice_get_within s.graph.tasks task (role.Sink sink.0) sink.1 in
           subst (λ (o : Option Role). IsSettled (transactions_at ledger o)) (sym sink.1) (calls.1.settled task sink.0 sink.1 (omega (arith, long, within)))
+
+      -- a plain run comes to where it goes on from, with each sink's committed records as its output
+      pub start_reached : IsReachedStart (job_of lang s) lang.spelling (devices_with lang s.graph s.stored ledger) from_here
+      start_reached =
+          let first = calls.0 in
+          let receivers = receiver-graph_of s.graph s.operators keeps.expanded in
+          let now = held_sound (job_of lang s) lang.spelling (is_logged_in s) first.0 (down_with lang s keeps.expanded s.ledger) (down_with lang s keeps.expanded ledger) receivers first.1 sound in
+          restarts_reached (job_of lang s) lang.spelling (is_logged_in s) (devices_with lang s.graph s.stored ledger) from_here receivers all_settled now
+          (seen_restored lang KeyFits RecordFits IsGood s keeps.expanded keeps.operators keeps.numbered s.ledger ledger last ends.starts ends.are k.tasks ends.take)
 
       pub ok_goes : Goes lang s (restarted s ledger n (Ok (last, k)))
       ok_goes =

@@ -2,7 +2,6 @@
 -- fresh engine's committed rows.
 use Rattle.std.specs.Prelude.{◌≡◌, ℕ, Bool, true, List, Some, None, Ok, Result, length, map, slice_get}
 use Rattle.abs_codec.specs.Reading.{whole_of}
-use Rattle.checkpoint_model.specs.Headline.{IsExactlyOnce}
 use Rattle.commit_sink.specs.Ledger.{Ledger, IsOrdered, committed_rows}
 use Rattle.dataflow_model.specs.Graph.{Begins}
 use Rattle.dataflow_model.specs.Machine.{Configuration, Move, Reaches, start}
@@ -14,12 +13,13 @@ use Rattle.core_model.specs.declared.fault.CoreFault.{CoreFault}
 use Rattle.core_model.specs.Calls.{left_by, EndsPersist, EndsComplete, EndsTrigger}
 use Rattle.core_model.specs.CallLaws.{Passes, IsGoodBy, KeepsAndGoes, RunsWith}
 use Rattle.core_model.specs.Commits.{EndsCommit}
+use Rattle.core_model.specs.ExactlyOnce.{IsExactlyOnce}
 use Rattle.core_model.specs.Goes.{Goes}
 use Rattle.core_model.specs.Keeps.{Keeps}
 use Rattle.core_model.specs.LastCommitted.{committed_of, complete_numbers}
 use Rattle.core_model.specs.Language.{Language}
 use Rattle.core_model.specs.State.{State}
-use Rattle.core_model.specs.View.{job_of, devices_of}
+use Rattle.core_model.specs.View.{job_of}
 
 module _ {R K S O : Type 0} where
   -- a checkpoint begins
@@ -58,11 +58,11 @@ module _ {R K S O : Type 0} where
   FailuresKeepEngines lang =
       (fits : R → Bool) (state_fits : S → Bool) (suits : O → S → Bool) (s : State O R K S) (faults : ℕ) → Keeps lang (Passes fits) (IsGoodBy state_fits suits) s → KeepsAndGoes lang fits state_fits suits s (record s { held = None; faults = faults })
 
-  -- What every engine keeps says of a fresh one: one plain run has a moment for each complete checkpoint, in order, such that each sink has
-  -- committed exactly its output at the moment of its own last committed checkpoint.
+  -- What every engine keeps says of a fresh one: one plain run has a moment for each complete checkpoint, in order, such that the rows that each sink
+  -- has committed spell exactly its output at the moment of its own last committed checkpoint.
   abbrev pub FreshEnginesAreExact : Language R K S O → Type 0
   FreshEnginesAreExact lang =
-      (fits : R → Bool) (state_fits : S → Bool) (suits : O → S → Bool) (s : State O R K S) → Keeps lang (Passes fits) (IsGoodBy state_fits suits) s → s.is_fresh ≡ true → IsExactlyOnce (job_of lang s) lang.spelling (devices_of lang s)
+      (fits : R → Bool) (state_fits : S → Bool) (suits : O → S → Bool) (s : State O R K S) → Keeps lang (Passes fits) (IsGoodBy state_fits suits) s → s.is_fresh ≡ true → IsExactlyOnce lang s
 
   -- in rows: those that a sink subtask has committed spell its output after some moves of the plain machine
   abbrev pub FreshEnginesCommitOutputs : Language R K S O → Type 0

@@ -3,6 +3,7 @@ pub mod State
 pub mod View
 pub mod Keeps
 pub mod LastCommitted
+pub mod ExactlyOnce
 pub mod Laws
 pub mod Calls
 pub mod Goes

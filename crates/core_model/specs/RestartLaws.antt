@@ -1,12 +1,12 @@
 -- A restart keeps what every engine keeps, withdraws no committed row, and on a fresh engine is steps of the checkpoint model's engine.
-use Rattle.std.specs.Prelude.{◌≡◌, ◌≢◌, ℕ, Bool, true, length, slice_get, Option, Some, None, Result, Ok, Err}
+use Rattle.std.specs.Prelude.{◌≡◌, ◌≢◌, ℕ, Bool, true, List, length, map, slice_get, Option, Some, None, Result, Ok, Err}
 use Rattle.std.specs.Ordering.{is_eq}
 use Rattle.std.specs.declared.cmp.Ordering.{Ordering}
+use Rattle.checkpoint_model.specs.Headline.{IsRestored}
 use Rattle.checkpoint_model.specs.Held.{held_run, held_start}
-use Rattle.checkpoint_model.specs.Seen.{IsSeenRestored}
 use Rattle.commit_sink.specs.Ledger.{Ledger, committed_rows}
 use Rattle.dataflow_model.specs.Graph.{Begins, Meaning}
-use Rattle.dataflow_model.specs.Machine.{Configuration}
+use Rattle.dataflow_model.specs.Machine.{Configuration, Move, Reaches, start}
 use Rattle.job_graph.specs.declared.role.Role.TheVariants as role
 use Rattle.job_state.specs.Held.{Held}
 use Rattle.operators.specs.Operator.{OrderIsExact, KeysFit, FreshIsGood, StatesStayGood, SentFits}
@@ -57,10 +57,14 @@ module _ {R K S O : Type 0} where
 
 module _ {R K S O : Type 0} where
   -- A job that restarted goes on from the configuration that the parts of the last complete checkpoint say, or from the start where there is
-  -- none; its back-edges hold the logs, no checkpoint is pending, and each sink has committed once for each complete checkpoint.
+  -- none; its back-edges hold the logs, no checkpoint is pending, and each sink has committed once for each complete checkpoint. A plain run comes
+  -- to that configuration, in which the rows that a sink has committed are its output.
   pub record GoesOnFromCut (lang : Language R K S O) (s : State O R K S) (last : Option ℕ) (k : Held R K S) : Type 0 where
+    pub moves : List Move
     pub base : Configuration R K S
-    pub restored : IsSeenRestored (job_of lang s) (devices_of lang s) base
+    pub reached : Reaches (job_of lang s) moves start base
+    pub restored : IsRestored (job_of lang s) lang.spelling (devices_of lang s) base
+    pub outputs : (task subtask : ℕ) → slice_get s.graph.tasks task ≡ Some (role.Sink subtask) → map lang.spelling (base.tasks task).output ≡ committed_rows s.ledger subtask
     pub holds : held_run (run_of lang.cmp s.graph k) ≡ held_start base
     pub latest : IsLatest s.stored last
     pub committed : (task subtask : ℕ) → slice_get s.graph.tasks task ≡ Some (role.Sink subtask) → length (committed_of s.ledger subtask) ≡ length (complete_numbers s.stored)

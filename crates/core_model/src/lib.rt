@@ -1,4 +1,9 @@
-//! What an engine holds, as data, and what its calls do to it, in terms of the checkpoint model. The only code here is that of [`CoreFault`] and [`Start`].
+//! What an engine holds, as data, and what its calls do to it, in terms of the checkpoint model.
+//! The only code here is that of [`CoreFault`] and [`Start`]. Proved: each call on a running job,
+//! accepted, refused or cut short by a device, and each restart, keeps what every engine keeps and
+//! is steps of the model's engine; a checkpoint that completes is the cut that its attempt has made
+//! so far; a sound engine is exactly once; no step withdraws a committed row; a restart of a sound
+//! engine goes on from the last complete cut, and is not refused for what the devices hold.
 //!
 //! `State` is all that an engine holds; `engine_of` is what it stands for in the model, as a function of numbers; `Keeps` is what every engine
 //! keeps; the relations `Ends..` say how each call on a running job ends. The laws below say that those calls are the model's steps.
@@ -10,7 +15,7 @@ mod start;
 ghost use Rattle.core_model.specs.Language.{Language};
 ghost use Rattle.core_model.specs.CallLaws.{ReadsKeepEngines, InjectsKeepEngines, OperatesKeepEngines, OperatorBarriersKeepEngines, PutsOutKeepEngines, SinkBarriersKeepEngines};
 ghost use Rattle.core_model.specs.CheckpointLaws.{TriggersKeepEngines, PersistsKeepEngines, CompletesKeepEngines, CommitsKeepEngines, CommitsReachEveryCheckpoint, FailuresKeepEngines, FreshEnginesAreExact, FreshEnginesCommitOutputs, StepsWithdrawNoRow};
-ghost use Rattle.core_model.specs.CompleteCut.{CompletesAreTheCut};
+ghost use Rattle.core_model.specs.CompleteCut.{CompletesAreTheCut, FreshCompletesAreReached};
 ghost use Rattle.core_model.specs.RestartLaws.{RestartsKeepEngines, RestartsWithdrawNoRow, FreshRestartsAreSteps, FreshRestartsGiveTheCut, FreshRestartsAreNotBad};
 ghost use Rattle.core_model.specs.Laws.{ReadsAreSteps, OperatesAreSteps, InjectsAreSteps, CommittedAreRows, AppendsKeepSinks, CopiesKeepSinks, CommitsKeepSinks};
 
@@ -110,6 +115,11 @@ pub fn commits_reach_every_checkpoint<R, K, S, O>()
 /// A checkpoint that completes is the cut that its attempt has made so far, and every task's part is in the store: on any engine, fresh or not.
 pub fn completes_are_the_cut<R, K, S, O>()
     ensures { (lang : Language R K S O) → CompletesAreTheCut lang }
+{}
+
+/// On a fresh engine a plain run comes to that cut, where each sink's output is what it has settled.
+pub fn fresh_completes_are_reached<R, K, S, O>()
+    ensures { (lang : Language R K S O) → FreshCompletesAreReached lang }
 {}
 
 /// A failure of the job keeps what every engine keeps, and is a step of the model.

@@ -1,5 +1,8 @@
-//! What the calls of a running engine are in the plain machine: an accepted read or work is one plain step, of the named task and input, and no other
-//! call, nor one that is refused, moves the plain configuration that the engine stands for.
+//! What the calls of a running engine are in the plain machine: an accepted read or work is one
+//! plain step, of the named task and input, and no other call, nor one that is refused, moves the
+//! plain configuration that the engine stands for. Proved: an accepted read or work is exactly one
+//! plain step, of the named task and input, and no other call moves the plain configuration; a
+//! fresh engine that runs stands for one that the plain machine reaches.
 //!
 //! Nothing here runs. Each public function has an empty body, and its contract is the law.
 #![tactic(auto)]

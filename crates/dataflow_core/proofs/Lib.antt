@@ -1,4 +1,5 @@
 pub mod Appending
+pub mod Counting
 pub mod Opening
 pub mod Plain
 pub mod Raising

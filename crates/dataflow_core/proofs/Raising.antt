@@ -2,14 +2,13 @@
 use Rattle.std.proofs.Common.{ap, ◌≡◌, ◌≢◌, IfOk, MatchOption, Option, Some, None, is_some, Result, Ok, Err, slice_get, ℕ, false, refl}
 use Rattle.job_state.specs.Held.{Held}
 use Rattle.commit_sink.specs.Ledger.{Ledger}
+use Rattle.core_model.specs.ExactlyOnce.{IsExactlyOnce}
 use Rattle.core_model.specs.Keeps.{Keeps}
 use Rattle.core_model.specs.Language.{Language}
 use Rattle.core_model.specs.Restart.{EndsRestart}
 use Rattle.core_model.specs.RestartLaws.{held_by, restarted, GoesOnFromCut, OperatorsAreLawful}
 use Rattle.core_model.specs.Sound.{IsSound, AreLegal}
-use Rattle.core_model.specs.View.{job_of, devices_of}
-use Rattle.checkpoint_model.specs.Headline.{IsExactlyOnce}
-use Rattle.core_model.proofs.CallExact.{keeps_exact}
+use Rattle.core_model.proofs.CallExact.{keeps_rows_exact}
 use Rattle.core_model.specs.State.{State}
 use Rattle.core_model.specs.declared.fault.CoreFault.{CoreFault}
 use Rattle.core_model.specs.declared.fault.CoreFault.TheVariants.{BadSnapshot}
@@ -74,7 +73,7 @@ module _ {R K S O : Type 0} (lang : Language R K S O) (KeyFits : K → Type 0) (
     pub cut_by : (result : Result (Option ℕ × Held R K S) CoreFault) → Ends result → IfOk (number_of result) (λ last. MatchOption (held_by result) ⊥ (λ k. GoesOnFromCut lang (now result) last k))
     cut_by (Ok made) ends =
         let cut = gives_cut lang KeyFits RecordFits IsGood like_fresh keeps_fresh down refl ledger n made.0 made.1 ends in
-        record { base = cut.base; restored = cut.restored; holds = cut.holds; latest = cut.latest; committed = cut.committed }
+        record { moves = cut.moves; base = cut.base; reached = cut.reached; restored = cut.restored; outputs = cut.outputs; holds = cut.holds; latest = cut.latest; committed = cut.committed }
     cut_by (Err fault) ends = tt
 
 module _ {R K S O : Type 0} (lang : Language R K S O) (RecordFits : R → Type 0) (KeyFits : K → Type 0) (StateFits : S → Type 0) (Suits : O → S → Type 0) (s : State O R K S) (keeps : Keeps lang RecordFits (IsGoodState StateFits Suits) s) (down : s.held ≡ None)
@@ -86,8 +85,10 @@ module _ {R K S O : Type 0} (lang : Language R K S O) (RecordFits : R → Type 0
       never_bad lang RecordFits KeyFits StateFits Suits (as_fresh lang RecordFits (IsGoodState StateFits Suits) s) (keeps_as_fresh lang RecordFits (IsGoodState StateFits Suits) s keeps sound) down refl laws fit ledger result ends
 
 -- a sound engine is exactly once
-pub sound_exact : {R K S O : Type 0} (lang : Language R K S O) (RecordFits : R → Type 0) (IsGood : O → S → Type 0) (s : State O R K S) → Keeps lang RecordFits IsGood s → IsSound lang RecordFits s → IsExactlyOnce (job_of lang s) lang.spelling (devices_of lang s)
-sound_exact lang RecordFits IsGood s keeps sound = keeps_exact lang RecordFits IsGood (as_fresh lang RecordFits IsGood s) (keeps_as_fresh lang RecordFits IsGood s keeps sound) refl
+pub sound_exact : {R K S O : Type 0} (lang : Language R K S O) (RecordFits : R → Type 0) (IsGood : O → S → Type 0) (s : State O R K S) → Keeps lang RecordFits IsGood s → IsSound lang RecordFits s → IsExactlyOnce lang s
+sound_exact lang RecordFits IsGood s keeps sound =
+    let e = keeps_rows_exact lang RecordFits IsGood (as_fresh lang RecordFits IsGood s) (keeps_as_fresh lang RecordFits IsGood s keeps sound) refl in
+    record { moves = e.moves; moments = e.moments; is_run = e.is_run; one_each = e.one_each; in_order = e.in_order; in_run = e.in_run; exactly = e.exactly }
 
 -- the devices of a sound engine are legal
 pub hands_out_legal : {R K S O : Type 0} (lang : Language R K S O) (RecordFits : R → Type 0) (IsGood : O → S → Type 0) (s : State O R K S) → Keeps lang RecordFits IsGood s → IsSound lang RecordFits s

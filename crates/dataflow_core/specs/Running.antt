@@ -5,7 +5,22 @@ use Rattle.core_model.specs.Calls.{left_by}
 use Rattle.core_model.specs.RestartLaws.{held_by}
 use Rattle.core_model.specs.State.{State}
 use Rattle.core_model.specs.declared.fault.CoreFault.{CoreFault}
-use Rattle.core_model.specs.declared.fault.CoreFault.TheVariants.{NotRunning, NotReady, NumbersSpent}
+use Rattle.core_model.specs.declared.fault.CoreFault.TheVariants.{NotRunning, NotReady, Device, CommitFault, NumbersSpent}
+
+-- how often the devices have failed, before a fault is told and after it: more often where it is a device's, or a commit's, and else as often
+abbrev pub CountsFault : ℕ → ℕ → CoreFault → Type 0
+CountsFault old new Device = old < new
+CountsFault old new CommitFault = old < new
+CountsFault old new other = new ≡ old
+
+-- so of a call: a fault is counted exactly where it is told
+abbrev pub IsCounted : {T : Type 0} → ℕ → ℕ → Result T CoreFault → Type 0
+IsCounted old new (Ok v) = new ≡ old
+IsCounted old new (Err fault) = CountsFault old new fault
+
+-- what no call changes: the graph, the operators, and whether the devices were new
+abbrev pub IsSameJob : {O R K S : Type 0} → State O R K S → State O R K S → Type 0
+IsSameJob old new = (new.graph ≡ old.graph) × (new.operators ≡ old.operators) × (new.is_fresh ≡ old.is_fresh)
 
 module _ {O R K S T : Type 0} (old new : State O R K S) (Ends : Held R K S → Held R K S → Result T CoreFault → Type 0) (result : Result T CoreFault) where
   -- the call is refused where the job is down

@@ -11,26 +11,29 @@ ghost use Rattle.job_graph.specs.declared.role.Role.TheVariants as Role;
 ghost use Rattle.job_graph.specs.PlainGraph.{HaveOperators};
 ghost use Rattle.snapshot_store.specs.Store as stores;
 ghost use Rattle.source_log.specs.Partitions as partitions;
+ghost use Rattle.source_log.specs.declared.partitions.SourceFault.TheVariants as SourceFault;
 ghost use Rattle.task_part.specs.Spelling.{part_spelling};
 ghost use Rattle.core_model.specs.declared.fault.CoreFault.TheVariants as CoreFault;
 ghost use Rattle.core_model.specs.Calls.{input_at, left_by, EndsRead, EndsInject, EndsPersist, EndsTrigger, EndsComplete};
 ghost use Rattle.core_model.specs.Commits.{EndsCommit};
 ghost use Rattle.core_model.specs.CompleteCut.{HasTheCut};
 ghost use Rattle.core_model.specs.Goes.{Goes};
+ghost use Rattle.core_model.specs.Keeps.{Keeps};
 ghost use Rattle.core_model.specs.Language.{language};
-ghost use Rattle.checkpoint_model.specs.Headline.{IsExactlyOnce};
+ghost use Rattle.core_model.specs.ExactlyOnce.{IsExactlyOnce};
 ghost use Rattle.core_model.specs.LastCommitted.{committed_of, complete_numbers};
 ghost use Rattle.core_model.specs.Sound.{IsSound, AreLegal, HaveGrown};
-ghost use Rattle.core_model.specs.View.{job_of, devices_of};
 ghost use Rattle.line_core.specs.Lines.{IsLine, CommitsABeginning};
 ghost use Rattle.line_model.specs.Line.{applied};
 ghost use Rattle.core_plain.specs.Plain.{StepsIfOk, Stays};
+ghost use Rattle.core_model.specs.View.{job_of, devices_of};
 ghost use Rattle.core_model.specs.Restart.{EndsRestart};
 ghost use Rattle.core_model.specs.RestartLaws.{GoesOnFromCut};
+ghost use Rattle.checkpoint_model.specs.Cuts.{IsReachedCut};
 ghost use Rattle.dataflow_model.specs.Graph.{Begins};
 ghost use Rattle.dataflow_model.specs.Machine as machine;
 ghost use Rattle.dataflow_core.specs.Tasks.{EndsWork, EndsBarrier};
-ghost use Rattle.dataflow_core.specs.Running.{number_of, raised, attempts_after, OnDown, OnAttempt, OnStore, OnTransactions};
+ghost use Rattle.dataflow_core.specs.Running.{IsCounted, IsSameJob, number_of, raised, attempts_after, OnDown, OnAttempt, OnStore, OnTransactions};
 
 use crate::tasks::{take_barrier, work_task};
 use alignment::Effect;
@@ -199,13 +202,15 @@ impl<O: Operator, S: SnapshotStore, X: Transactions, P: Partitions<Record = O::R
         }
     }
 
-    /// Whether both devices were new when the core was opened. No call changes it. Of such a core one run of the plain machine, without barriers,
-    /// checkpoints or failures, has a moment for each complete checkpoint, in order, and each sink has committed exactly its output at the moment of
-    /// its own last committed checkpoint; on a line, what the operator makes of a beginning of the partition.
+    /// Whether both devices were new when the core was opened. No call changes it. What every core keeps is handed out (`kept`): among it, that the last
+    /// complete number of a running job is the store's, and that what a commit takes is of a complete checkpoint. Of a core over new devices one run of the plain machine, without barriers,
+    /// checkpoints or failures, has a moment for each complete checkpoint, in order, and the rows that each sink has committed, as `committed` answers them,
+    /// are exactly its output at the moment of its own last committed checkpoint; on a line, what the operator makes of a beginning of the partition.
     pub fn is_fresh(&self) -> bool
         ensures value { result ≡ self.now.is_fresh }
+        ensures kept { Keeps (language O.meaning O.Key.cmp O.Record.spelling O.Record.reading O.Key.reading O.State.reading) (Fits O.Record.HasSpelling O.Record.spelling) (IsGoodState (Fits O.State.HasSpelling O.State.spelling) O.Suits) self.now }
         ensures sound { IsTrue result → IsSound (language O.meaning O.Key.cmp O.Record.spelling O.Record.reading O.Key.reading O.State.reading) (Fits O.Record.HasSpelling O.Record.spelling) self.now }
-        ensures exact { IsTrue result → IsExactlyOnce (job_of (language O.meaning O.Key.cmp O.Record.spelling O.Record.reading O.Key.reading O.State.reading) self.now) O.Record.spelling (devices_of (language O.meaning O.Key.cmp O.Record.spelling O.Record.reading O.Key.reading O.State.reading) self.now) }
+        ensures exact { IsTrue result → IsExactlyOnce (language O.meaning O.Key.cmp O.Record.spelling O.Record.reading O.Key.reading O.State.reading) self.now }
         ensures line { IsTrue result → (operator : O) → IsLine self.now.graph → slice_get self.now.operators 0 ≡ Some operator → CommitsABeginning (language O.meaning O.Key.cmp O.Record.spelling O.Record.reading O.Key.reading O.State.reading) self.now (λ rows. applied O.meaning operator rows) }
     {
         self.is_fresh
@@ -218,7 +223,8 @@ impl<O: Operator, S: SnapshotStore, X: Transactions, P: Partitions<Record = O::R
         ensures goes { Goes (language O.meaning O.Key.cmp O.Record.spelling O.Record.reading O.Key.reading O.State.reading) self.old self.new }
         ensures sound { IsSound (language O.meaning O.Key.cmp O.Record.spelling O.Record.reading O.Key.reading O.State.reading) (Fits O.Record.HasSpelling O.Record.spelling) self.old → IsSound (language O.meaning O.Key.cmp O.Record.spelling O.Record.reading O.Key.reading O.State.reading) (Fits O.Record.HasSpelling O.Record.spelling) self.new }
         ensures stays { Stays (language O.meaning O.Key.cmp O.Record.spelling O.Record.reading O.Key.reading O.State.reading) self.old self.new }
-        ensures same { (self.new.graph ≡ self.old.graph) × (self.new.is_fresh ≡ self.old.is_fresh) }
+        ensures counted { IsCounted self.old.faults self.new.faults result }
+        ensures same { IsSameJob self.old self.new }
         ensures ledger { self.new.ledger ≡ self.old.ledger }
     {
         if self.attempt.is_none() {
@@ -238,8 +244,8 @@ impl<O: Operator, S: SnapshotStore, X: Transactions, P: Partitions<Record = O::R
         ensures begins { (subtask : ℕ) → Begins (committed_rows self.old.ledger subtask) (committed_rows self.new.ledger subtask) }
         ensures cut { IsSound (language O.meaning O.Key.cmp O.Record.spelling O.Record.reading O.Key.reading O.State.reading) (Fits O.Record.HasSpelling O.Record.spelling) self.old → IfOk result (λ last. MatchOption self.new.held ⊥ (λ k. GoesOnFromCut (language O.meaning O.Key.cmp O.Record.spelling O.Record.reading O.Key.reading O.State.reading) self.new last k)) }
         ensures good { IsSound (language O.meaning O.Key.cmp O.Record.spelling O.Record.reading O.Key.reading O.State.reading) (Fits O.Record.HasSpelling O.Record.spelling) self.old → result ≢ Err CoreFault.BadSnapshot }
-        ensures counted { result ≡ Err CoreFault.Device → self.old.faults < self.new.faults }
-        ensures same { (self.new.graph ≡ self.old.graph) × (self.new.is_fresh ≡ self.old.is_fresh) }
+        ensures counted { IsCounted self.old.faults self.new.faults result }
+        ensures same { IsSameJob self.old self.new }
     {
         if self.attempt.is_some() {
             return Err(CoreFault::NotReady);
@@ -266,8 +272,8 @@ impl<O: Operator, S: SnapshotStore, X: Transactions, P: Partitions<Record = O::R
         ensures goes { Goes (language O.meaning O.Key.cmp O.Record.spelling O.Record.reading O.Key.reading O.State.reading) self.old self.new }
         ensures sound { IsSound (language O.meaning O.Key.cmp O.Record.spelling O.Record.reading O.Key.reading O.State.reading) (Fits O.Record.HasSpelling O.Record.spelling) self.old → IsSound (language O.meaning O.Key.cmp O.Record.spelling O.Record.reading O.Key.reading O.State.reading) (Fits O.Record.HasSpelling O.Record.spelling) self.new }
         ensures plain { StepsIfOk result (language O.meaning O.Key.cmp O.Record.spelling O.Record.reading O.Key.reading O.State.reading) (machine.Read task) self.old self.new }
-        ensures counted { result ≡ Err CoreFault.Device → self.old.faults < self.new.faults }
-        ensures same { (self.new.graph ≡ self.old.graph) × (self.new.is_fresh ≡ self.old.is_fresh) }
+        ensures counted { IsCounted self.old.faults self.new.faults result }
+        ensures same { IsSameJob self.old self.new }
         ensures ledger { self.new.ledger ≡ self.old.ledger }
     {
         let Some(attempt) = &mut self.attempt else {
@@ -284,8 +290,8 @@ impl<O: Operator, S: SnapshotStore, X: Transactions, P: Partitions<Record = O::R
         ensures sound { IsSound (language O.meaning O.Key.cmp O.Record.spelling O.Record.reading O.Key.reading O.State.reading) (Fits O.Record.HasSpelling O.Record.spelling) self.old → IsSound (language O.meaning O.Key.cmp O.Record.spelling O.Record.reading O.Key.reading O.State.reading) (Fits O.Record.HasSpelling O.Record.spelling) self.new }
         ensures begins { (task subtask : ℕ) → slice_get self.old.graph.tasks task ≡ Some (Role.Sink subtask) → Begins (committed_rows self.old.ledger subtask) (committed_rows self.new.ledger subtask) }
         ensures plain { MatchOption (input_at self.old.graph task input) (Stays (language O.meaning O.Key.cmp O.Record.spelling O.Record.reading O.Key.reading O.State.reading) self.old self.new) (λ channel. StepsIfOk result (language O.meaning O.Key.cmp O.Record.spelling O.Record.reading O.Key.reading O.State.reading) (machine.Work task channel) self.old self.new) }
-        ensures counted { result ≡ Err CoreFault.Device → self.old.faults < self.new.faults }
-        ensures same { (self.new.graph ≡ self.old.graph) × (self.new.is_fresh ≡ self.old.is_fresh) }
+        ensures counted { IsCounted self.old.faults self.new.faults result }
+        ensures same { IsSameJob self.old self.new }
     {
         let Some(attempt) = &mut self.attempt else {
             return Err(CoreFault::NotRunning);
@@ -310,8 +316,8 @@ impl<O: Operator, S: SnapshotStore, X: Transactions, P: Partitions<Record = O::R
         ensures sound { IsSound (language O.meaning O.Key.cmp O.Record.spelling O.Record.reading O.Key.reading O.State.reading) (Fits O.Record.HasSpelling O.Record.spelling) self.old → IsSound (language O.meaning O.Key.cmp O.Record.spelling O.Record.reading O.Key.reading O.State.reading) (Fits O.Record.HasSpelling O.Record.spelling) self.new }
         ensures begins { (task subtask : ℕ) → slice_get self.old.graph.tasks task ≡ Some (Role.Sink subtask) → Begins (committed_rows self.old.ledger subtask) (committed_rows self.new.ledger subtask) }
         ensures stays { Stays (language O.meaning O.Key.cmp O.Record.spelling O.Record.reading O.Key.reading O.State.reading) self.old self.new }
-        ensures counted { result ≡ Err CoreFault.Device → self.old.faults < self.new.faults }
-        ensures same { (self.new.graph ≡ self.old.graph) × (self.new.is_fresh ≡ self.old.is_fresh) }
+        ensures counted { IsCounted self.old.faults self.new.faults result }
+        ensures same { IsSameJob self.old self.new }
     {
         let Some(attempt) = &mut self.attempt else {
             return Err(CoreFault::NotRunning);
@@ -333,7 +339,8 @@ impl<O: Operator, S: SnapshotStore, X: Transactions, P: Partitions<Record = O::R
         ensures goes { Goes (language O.meaning O.Key.cmp O.Record.spelling O.Record.reading O.Key.reading O.State.reading) self.old self.new }
         ensures sound { IsSound (language O.meaning O.Key.cmp O.Record.spelling O.Record.reading O.Key.reading O.State.reading) (Fits O.Record.HasSpelling O.Record.spelling) self.old → IsSound (language O.meaning O.Key.cmp O.Record.spelling O.Record.reading O.Key.reading O.State.reading) (Fits O.Record.HasSpelling O.Record.spelling) self.new }
         ensures stays { Stays (language O.meaning O.Key.cmp O.Record.spelling O.Record.reading O.Key.reading O.State.reading) self.old self.new }
-        ensures same { (self.new.graph ≡ self.old.graph) × (self.new.is_fresh ≡ self.old.is_fresh) }
+        ensures counted { IsCounted self.old.faults self.new.faults result }
+        ensures same { IsSameJob self.old self.new }
         ensures ledger { self.new.ledger ≡ self.old.ledger }
     {
         let Some(attempt) = &mut self.attempt else {
@@ -349,8 +356,8 @@ impl<O: Operator, S: SnapshotStore, X: Transactions, P: Partitions<Record = O::R
         ensures goes { Goes (language O.meaning O.Key.cmp O.Record.spelling O.Record.reading O.Key.reading O.State.reading) self.old self.new }
         ensures sound { IsSound (language O.meaning O.Key.cmp O.Record.spelling O.Record.reading O.Key.reading O.State.reading) (Fits O.Record.HasSpelling O.Record.spelling) self.old → IsSound (language O.meaning O.Key.cmp O.Record.spelling O.Record.reading O.Key.reading O.State.reading) (Fits O.Record.HasSpelling O.Record.spelling) self.new }
         ensures stays { Stays (language O.meaning O.Key.cmp O.Record.spelling O.Record.reading O.Key.reading O.State.reading) self.old self.new }
-        ensures counted { result ≡ Err CoreFault.Device → self.old.faults < self.new.faults }
-        ensures same { (self.new.graph ≡ self.old.graph) × (self.new.is_fresh ≡ self.old.is_fresh) }
+        ensures counted { IsCounted self.old.faults self.new.faults result }
+        ensures same { IsSameJob self.old self.new }
         ensures ledger { self.new.ledger ≡ self.old.ledger }
     {
         let Some(attempt) = &mut self.attempt else {
@@ -366,8 +373,8 @@ impl<O: Operator, S: SnapshotStore, X: Transactions, P: Partitions<Record = O::R
         ensures goes { Goes (language O.meaning O.Key.cmp O.Record.spelling O.Record.reading O.Key.reading O.State.reading) self.old self.new }
         ensures sound { IsSound (language O.meaning O.Key.cmp O.Record.spelling O.Record.reading O.Key.reading O.State.reading) (Fits O.Record.HasSpelling O.Record.spelling) self.old → IsSound (language O.meaning O.Key.cmp O.Record.spelling O.Record.reading O.Key.reading O.State.reading) (Fits O.Record.HasSpelling O.Record.spelling) self.new }
         ensures stays { Stays (language O.meaning O.Key.cmp O.Record.spelling O.Record.reading O.Key.reading O.State.reading) self.old self.new }
-        ensures counted { result ≡ Err CoreFault.Device → self.old.faults < self.new.faults }
-        ensures same { (self.new.graph ≡ self.old.graph) × (self.new.is_fresh ≡ self.old.is_fresh) }
+        ensures counted { IsCounted self.old.faults self.new.faults result }
+        ensures same { IsSameJob self.old self.new }
         ensures ledger { self.new.ledger ≡ self.old.ledger }
     {
         let Some(attempt) = &mut self.attempt else {
@@ -377,16 +384,18 @@ impl<O: Operator, S: SnapshotStore, X: Transactions, P: Partitions<Record = O::R
         leave(&mut self.attempt, outcome)
     }
 
-    /// The pending checkpoint, of which the store has every task's part, becomes complete. It takes no memory.
+    /// The pending checkpoint, of which the store has every task's part, becomes complete: the parts say the cut that the attempt has made. Of a sound core a plain
+    /// run comes to that cut, where each sink's output is what it has committed or has pre-committed for a complete checkpoint. It takes no memory.
     pub fn complete(&mut self) -> Result<u64, CoreFault>
         ensures ends { OnStore self.old self.new (λ h k. EndsComplete h k self.old.stored self.new.stored) result }
         ensures whole { IfOk result (λ number. stores.has_all_parts self.new.stored number ≡ true) }
         ensures cut { IfOk result (λ number. MatchOption self.old.held ⊥ (λ h. HasTheCut (language O.meaning O.Key.cmp O.Record.spelling O.Record.reading O.Key.reading O.State.reading) self.old h self.new.stored number)) }
+        ensures reached { IsSound (language O.meaning O.Key.cmp O.Record.spelling O.Record.reading O.Key.reading O.State.reading) (Fits O.Record.HasSpelling O.Record.spelling) self.old → IfOk result (IsReachedCut (job_of (language O.meaning O.Key.cmp O.Record.spelling O.Record.reading O.Key.reading O.State.reading) self.new) O.Record.spelling (devices_of (language O.meaning O.Key.cmp O.Record.spelling O.Record.reading O.Key.reading O.State.reading) self.new)) }
         ensures goes { Goes (language O.meaning O.Key.cmp O.Record.spelling O.Record.reading O.Key.reading O.State.reading) self.old self.new }
         ensures sound { IsSound (language O.meaning O.Key.cmp O.Record.spelling O.Record.reading O.Key.reading O.State.reading) (Fits O.Record.HasSpelling O.Record.spelling) self.old → IsSound (language O.meaning O.Key.cmp O.Record.spelling O.Record.reading O.Key.reading O.State.reading) (Fits O.Record.HasSpelling O.Record.spelling) self.new }
         ensures stays { Stays (language O.meaning O.Key.cmp O.Record.spelling O.Record.reading O.Key.reading O.State.reading) self.old self.new }
-        ensures counted { result ≡ Err CoreFault.Device → self.old.faults < self.new.faults }
-        ensures same { (self.new.graph ≡ self.old.graph) × (self.new.is_fresh ≡ self.old.is_fresh) }
+        ensures counted { IsCounted self.old.faults self.new.faults result }
+        ensures same { IsSameJob self.old self.new }
         ensures ledger { self.new.ledger ≡ self.old.ledger }
     {
         let Some(attempt) = &mut self.attempt else {
@@ -403,9 +412,9 @@ impl<O: Operator, S: SnapshotStore, X: Transactions, P: Partitions<Record = O::R
         ensures sound { IsSound (language O.meaning O.Key.cmp O.Record.spelling O.Record.reading O.Key.reading O.State.reading) (Fits O.Record.HasSpelling O.Record.spelling) self.old → IsSound (language O.meaning O.Key.cmp O.Record.spelling O.Record.reading O.Key.reading O.State.reading) (Fits O.Record.HasSpelling O.Record.spelling) self.new }
         ensures begins { (task subtask : ℕ) → slice_get self.old.graph.tasks task ≡ Some (Role.Sink subtask) → Begins (committed_rows self.old.ledger subtask) (committed_rows self.new.ledger subtask) }
         ensures stays { Stays (language O.meaning O.Key.cmp O.Record.spelling O.Record.reading O.Key.reading O.State.reading) self.old self.new }
-        ensures counted { result ≡ Err CoreFault.CommitFault → self.old.faults < self.new.faults }
+        ensures counted { IsCounted self.old.faults self.new.faults result }
         ensures reaches { IsSound (language O.meaning O.Key.cmp O.Record.spelling O.Record.reading O.Key.reading O.State.reading) (Fits O.Record.HasSpelling O.Record.spelling) self.old → OnOk result (length (committed_of self.new.ledger sink) ≡ length (complete_numbers self.new.stored)) }
-        ensures same { (self.new.graph ≡ self.old.graph) × (self.new.is_fresh ≡ self.old.is_fresh) }
+        ensures same { IsSameJob self.old self.new }
     {
         let Some(attempt) = &mut self.attempt else {
             return Err(CoreFault::NotRunning);
@@ -418,9 +427,10 @@ impl<O: Operator, S: SnapshotStore, X: Transactions, P: Partitions<Record = O::R
     pub fn append(&mut self, partition: u32, row: O::Record) -> Result<(), SourceFault>
         requires { Fits O.Record.HasSpelling O.Record.spelling row }
         ensures ends { partitions.Ends (self.old.partitions, self.old.faults) (self.new.partitions, self.new.faults) (partitions.append_refusal self.old.partitions partition) (partitions.appended self.old.partitions partition row) result }
+        ensures told { result ≢ Err SourceFault.Fault → self.new.faults ≡ self.old.faults }
         ensures same { self.new ≡ record self.old { partitions = self.new.partitions; faults = self.new.faults } }
         ensures stays { Stays (language O.meaning O.Key.cmp O.Record.spelling O.Record.reading O.Key.reading O.State.reading) self.old self.new }
-        ensures kept { (self.new.graph ≡ self.old.graph) × (self.new.is_fresh ≡ self.old.is_fresh) }
+        ensures kept { IsSameJob self.old self.new }
         ensures sound { IsSound (language O.meaning O.Key.cmp O.Record.spelling O.Record.reading O.Key.reading O.State.reading) (Fits O.Record.HasSpelling O.Record.spelling) self.old → IsSound (language O.meaning O.Key.cmp O.Record.spelling O.Record.reading O.Key.reading O.State.reading) (Fits O.Record.HasSpelling O.Record.spelling) self.new }
         ensures ledger { self.new.ledger ≡ self.old.ledger }
     {

@@ -101,22 +101,22 @@ impl<O: Operator, S: SnapshotStore, X: Transactions, P: Partitions<Record = O::R
     ghost use Rattle.std.specs.List.{AllByRecursion};
     ghost use Rattle.abs_codec.specs.Spelling.{Fits};
     ghost use Rattle.operators.specs.Operator.{IsGoodState};
-    ghost use Rattle.checkpoint_model.specs.Headline.{IsExactlyOnce};
     ghost use Rattle.commit_sink.specs.Ledger.{committed_rows};
     ghost use Rattle.dataflow_model.specs.Graph.{Begins};
     ghost use Rattle.job_graph.specs.declared.role.Role.TheVariants as Role;
     ghost use Rattle.task_part.specs.Spelling.{part_spelling};
     ghost use Rattle.core_model.specs.declared.fault.CoreFault.TheVariants as CoreFault;
+    ghost use Rattle.core_model.specs.ExactlyOnce.{IsExactlyOnce};
     ghost use Rattle.core_model.specs.Language.{language};
     ghost use Rattle.core_model.specs.Sound.{IsSound};
-    ghost use Rattle.core_model.specs.View.{job_of, devices_of};
+    ghost use Rattle.dataflow_core.specs.Running.{IsSameJob};
     ghost use Rattle.dataflow_core.specs.Steps.{StepFits, EndsStep, IsRun};
 
     /// Makes one call. What is appended has to fit, as `append` asks. A record that finds no memory for its copy is answered as `append` would.
     pub fn step(&mut self, step: &Step<O::Record>) -> Reply
         requires { StepFits (Fits O.Record.HasSpelling O.Record.spelling) step.now }
         ensures ends { EndsStep (language O.meaning O.Key.cmp O.Record.spelling O.Record.reading O.Key.reading O.State.reading) (Fits O.Key.HasSpelling O.Key.spelling) (Fits O.Record.HasSpelling O.Record.spelling) (IsGoodState (Fits O.State.HasSpelling O.State.spelling) O.Suits) (part_spelling O.Record.spelling O.Key.spelling O.State.spelling) step.now self.old self.new result }
-        ensures same { (self.new.graph ≡ self.old.graph) × (self.new.is_fresh ≡ self.old.is_fresh) }
+        ensures same { IsSameJob self.old self.new }
         ensures sound { IsSound (language O.meaning O.Key.cmp O.Record.spelling O.Record.reading O.Key.reading O.State.reading) (Fits O.Record.HasSpelling O.Record.spelling) self.old → IsSound (language O.meaning O.Key.cmp O.Record.spelling O.Record.reading O.Key.reading O.State.reading) (Fits O.Record.HasSpelling O.Record.spelling) self.new }
         ensures begins { (task subtask : ℕ) → slice_get self.old.graph.tasks task ≡ Some (Role.Sink subtask) → Begins (committed_rows self.old.ledger subtask) (committed_rows self.new.ledger subtask) }
     {
@@ -142,8 +142,8 @@ impl<O: Operator, S: SnapshotStore, X: Transactions, P: Partitions<Record = O::R
     pub fn run_steps(&mut self, steps: &[Step<O::Record>]) -> Result<Vec<Reply>, CoreFault>
         requires { AllByRecursion (StepFits (Fits O.Record.HasSpelling O.Record.spelling)) steps.now }
         ensures run { IfOk result (λ replies. IsRun (language O.meaning O.Key.cmp O.Record.spelling O.Record.reading O.Key.reading O.State.reading) (Fits O.Key.HasSpelling O.Key.spelling) (Fits O.Record.HasSpelling O.Record.spelling) (IsGoodState (Fits O.State.HasSpelling O.State.spelling) O.Suits) (part_spelling O.Record.spelling O.Key.spelling O.State.spelling) self.old steps.now replies.items self.new) }
-        ensures exact { IsSound (language O.meaning O.Key.cmp O.Record.spelling O.Record.reading O.Key.reading O.State.reading) (Fits O.Record.HasSpelling O.Record.spelling) self.old → IsExactlyOnce (job_of (language O.meaning O.Key.cmp O.Record.spelling O.Record.reading O.Key.reading O.State.reading) self.new) O.Record.spelling (devices_of (language O.meaning O.Key.cmp O.Record.spelling O.Record.reading O.Key.reading O.State.reading) self.new) }
-        ensures same { (self.new.graph ≡ self.old.graph) × (self.new.is_fresh ≡ self.old.is_fresh) }
+        ensures exact { IsSound (language O.meaning O.Key.cmp O.Record.spelling O.Record.reading O.Key.reading O.State.reading) (Fits O.Record.HasSpelling O.Record.spelling) self.old → IsExactlyOnce (language O.meaning O.Key.cmp O.Record.spelling O.Record.reading O.Key.reading O.State.reading) self.new }
+        ensures same { IsSameJob self.old self.new }
         ensures sound { IsSound (language O.meaning O.Key.cmp O.Record.spelling O.Record.reading O.Key.reading O.State.reading) (Fits O.Record.HasSpelling O.Record.spelling) self.old → IsSound (language O.meaning O.Key.cmp O.Record.spelling O.Record.reading O.Key.reading O.State.reading) (Fits O.Record.HasSpelling O.Record.spelling) self.new }
         ensures begins { (task subtask : ℕ) → slice_get self.old.graph.tasks task ≡ Some (Role.Sink subtask) → Begins (committed_rows self.old.ledger subtask) (committed_rows self.new.ledger subtask) }
         ensures err { IfErr result (λ fault. (fault ≡ CoreFault.Memory) × (self.new ≡ self.old)) }

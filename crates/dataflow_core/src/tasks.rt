@@ -1,6 +1,6 @@
 //! A task works, or takes a barrier, as what it is: an operator or a sink.
 
-ghost use Rattle.std.specs.Prelude.{◌≡◌, ◌<◌, ◌≤◌, Err, Some, slice_get};
+ghost use Rattle.std.specs.Prelude.{◌≡◌, ◌≢◌, ◌<◌, Err, Some, slice_get};
 ghost use Rattle.std.specs.Option.{option_copied};
 ghost use Rattle.abs_codec.specs.Spelling.{Fits};
 ghost use Rattle.operators.specs.Operator.{IsGoodState};
@@ -37,6 +37,7 @@ pub(crate) fn work_task<O: Operator, X: Transactions>(
     requires serves { Serves O.Key.cmp (Fits O.Record.HasSpelling O.Record.spelling) (IsGoodState (Fits O.State.HasSpelling O.State.spelling) O.Suits) graph.now operators.now (X.state transactions.old) attempt.old }
     ensures ends { EndsWork (language O.meaning O.Key.cmp O.Record.spelling O.Record.reading O.Key.reading O.State.reading) graph.now operators.now task input attempt.old attempt.new (X.state transactions.old) (X.state transactions.new) result }
     ensures counted { result ≡ Err CoreFault.Device → X.fault_count transactions.old < X.fault_count transactions.new }
+    ensures told { result ≢ Err CoreFault.Device → X.fault_count transactions.new ≡ X.fault_count transactions.old }
 {
     match graph.role(task) {
         Some(Role::Operator(number)) => {
@@ -71,6 +72,7 @@ pub(crate) fn take_barrier<O: Operator, X: Transactions>(
     requires serves { Serves O.Key.cmp (Fits O.Record.HasSpelling O.Record.spelling) (IsGoodState (Fits O.State.HasSpelling O.State.spelling) O.Suits) graph.now operators.now (X.state transactions.old) attempt.old }
     ensures ends { EndsBarrier graph.now task input attempt.old attempt.new (X.state transactions.old) (X.state transactions.new) result }
     ensures counted { result ≡ Err CoreFault.Device → X.fault_count transactions.old < X.fault_count transactions.new }
+    ensures told { result ≢ Err CoreFault.Device → X.fault_count transactions.new ≡ X.fault_count transactions.old }
 {
     match graph.role(task) {
         Some(Role::Operator(_)) => {

@@ -1,4 +1,6 @@
-//! The plain dataflow machine, and its laws.
+//! The plain dataflow machine, and its laws. Proved: a step is unique, two neighbouring steps of
+//! different tasks change places, runs join and part, and growing partitions keep runs
+//! (`steps_are_unique`, `steps_change_places`, `steps_come_earlier`, ..).
 //!
 //! A job is a directed graph of sources, operators and sinks, what its operators mean, and the partitions that its sources read. The plain machine moves
 //! one record at a time: a source reads its next one, or a task works off the first record of an input. It knows no barriers, checkpoints or failures:

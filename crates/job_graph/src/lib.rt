@@ -1,4 +1,5 @@
-//! Jobs, and the graphs of tasks and channels that they stand for.
+//! Jobs, and the graphs of tasks and channels that they stand for. Proved: the tasks, channels,
+//! routes and order of the graph that a job expands to, or the first fault in the documented order.
 #![tactic(auto)]
 
 mod blocks;

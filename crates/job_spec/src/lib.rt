@@ -1,4 +1,5 @@
-//! Jobs as job files give them.
+//! Jobs as job files give them. Proved: from a job file's bytes to the job, or its first fault in
+//! the documented order.
 #![tactic(auto)]
 
 mod edge;

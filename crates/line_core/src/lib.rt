@@ -1,4 +1,8 @@
 //! What an engine that runs a line has committed: in rows, and without the checkpoint model.
+//! Proved: the committed rows are what the operator, from its beginning, makes of the partition's
+//! first `o` rows, for `add n` those rows with `n` added to each, saturating; `o` is 0 with no
+//! committed checkpoint, and else, where the store still has the last committed one's part of task
+//! 0, the offset that it spells.
 //!
 //! A line is a source, an operator and a sink, each sending to the next. Whatever an engine over new devices went through, failures and restarts too,
 //! its committed rows are what the operator makes of a beginning of the partition, each row once and in order.

@@ -1,4 +1,5 @@
-//! Operators: what each makes of a record in the state of the record's key.
+//! Operators: what each makes of a record in the state of the record's key. Proved: the trait's
+//! laws for the nine row operators, for `Chain` and for `Pick`; `apply` is the operator's meaning.
 //!
 //! An [`Operator`] is a value with a ghost `meaning`: a function of that value, a state and a record, which gives the next state and the records to send, each with its
 //! port. Every method is specified by the meaning, and the trait's laws say what a caller relies on: records that fit, and states that fit and have the operator's

@@ -1,4 +1,6 @@
 //! The plain dataflow machine as a program: slow, and with nothing in it but the machine itself.
+//! Proved: each call is the plain machine's step, or says that it is not possible, and a run goes
+//! where its moves lead.
 //!
 //! It runs a job record by record, without barriers, checkpoints or failures, and with all channels copied at each step. Its contract is the
 //! machine of `dataflow_model`: `PlainMachine::step` makes exactly the step that a move asks for, or answers that the move is not possible, and

@@ -1,5 +1,5 @@
 -- How reading the parts ends, and settling the transactions.
-use Rattle.std.specs.Prelude.{◌≡◌, ◌⊎◌, ◌<◌, ℕ, List, [], ◌∷◌, ◌++◌, Option, Some, None, Result, Ok, Err, length, slice_get}
+use Rattle.std.specs.Prelude.{◌≡◌, ◌⊎◌, ◌<◌, ℕ, List, [], ◌∷◌, ◌++◌, Option, Some, None, Result, Ok, Err, IsSome, length, slice_get}
 use Rattle.abs_codec.specs.Reading.{whole_of}
 use Rattle.abs_codec.specs.declared.fault.CodecFault.{CodecFault}
 use Rattle.abs_codec.specs.declared.fault.CodecFault.TheVariants.{BadTag}
@@ -49,7 +49,7 @@ module _ {R K S O : Type 0} (lang : Language R K S O) (stored : Stored) where
   EndsReading number task (Err Fault) = Unit {0}
   EndsReading number task (Err MissingPart) = part_of stored number task ≡ None
   EndsReading number task (Err (Damaged which fault)) = (which ≡ task) × IsReadAs number task (Err fault)
-  EndsReading number task (Err Memory) = Unit {0}
+  EndsReading number task (Err Memory) = IsSome (part_of stored number task)
 
 module _ {R K S O : Type 0} (lang : Language R K S O) (KeyFits : K → Type 0) (RecordFits : R → Type 0) (IsGood : O → S → Type 0) (graph : Expanded) (operators : List O) (partitions : List (List R)) (stored : Stored) where
   -- the bytes spell a part, but one that the task can't start from
@@ -68,7 +68,7 @@ module _ {R K S O : Type 0} (lang : Language R K S O) (KeyFits : K → Type 0) (
   EndsPart number task r (Err Fault) = Unit {0}
   EndsPart number task r (Err MissingPart) = part_of stored number task ≡ None
   EndsPart number task r (Err (Damaged which fault)) = (which ≡ task) × IsDamage number task r fault
-  EndsPart number task r (Err Memory) = Unit {0}
+  EndsPart number task r (Err Memory) = IsSome (part_of stored number task)
 
   abbrev pub EndsTask : Option ℕ → ℕ → Role → Result (Start R K S) RecoveryFault → Type 0
   EndsTask None task r (Ok st) = st ≡ first_start r

@@ -75,7 +75,7 @@ fn read_part<O: Operator, S: SnapshotStore>(
     ensures ends { EndsReading (language O.meaning O.Key.cmp O.Record.spelling O.Record.reading O.Key.reading O.State.reading) (S.state store.old) number task result }
     ensures same { S.state store.new ≡ S.state store.old }
     ensures counted { result ≡ Err RecoveryFault.Fault → S.fault_count store.old < S.fault_count store.new }
-    ensures grows { S.fault_count store.old ≤ S.fault_count store.new }
+    ensures told { result ≢ Err RecoveryFault.Fault → S.fault_count store.new ≡ S.fault_count store.old }
 {
     let bytes = match store.get(number, task) {
         Ok(bytes) => bytes,
@@ -104,7 +104,7 @@ fn start_at<O: Operator, S: SnapshotStore, P: Partitions<Record = O::Record>>(
     ensures ends { (role : Role) → slice_get graph.now.tasks task ≡ Some role → EndsTask (language O.meaning O.Key.cmp O.Record.spelling O.Record.reading O.Key.reading O.State.reading) (Fits O.Key.HasSpelling O.Key.spelling) (Fits O.Record.HasSpelling O.Record.spelling) (IsGoodState (Fits O.State.HasSpelling O.State.spelling) O.Suits) graph.now operators.now (P.records log.now) (S.state store.old) last task role result }
     ensures same { S.state store.new ≡ S.state store.old }
     ensures counted { result ≡ Err RecoveryFault.Fault → S.fault_count store.old < S.fault_count store.new }
-    ensures grows { S.fault_count store.old ≤ S.fault_count store.new }
+    ensures told { result ≢ Err RecoveryFault.Fault → S.fault_count store.new ≡ S.fault_count store.old }
 {
     let Some(role) = graph.role(task) else {
         return Err(RecoveryFault::MissingPart);
@@ -132,7 +132,7 @@ fn starts_at<O: Operator, S: SnapshotStore, P: Partitions<Record = O::Record>>(
     ensures ends { MatchResult result (λ starts. AreStarts (language O.meaning O.Key.cmp O.Record.spelling O.Record.reading O.Key.reading O.State.reading) (Fits O.Key.HasSpelling O.Key.spelling) (Fits O.Record.HasSpelling O.Record.spelling) (IsGoodState (Fits O.State.HasSpelling O.State.spelling) O.Suits) graph.now operators.now (P.records log.now) (S.state store.old) last starts.items) (CannotRestore (language O.meaning O.Key.cmp O.Record.spelling O.Record.reading O.Key.reading O.State.reading) (Fits O.Key.HasSpelling O.Key.spelling) (Fits O.Record.HasSpelling O.Record.spelling) (IsGoodState (Fits O.State.HasSpelling O.State.spelling) O.Suits) graph.now operators.now (P.records log.now) (S.state store.old)) }
     ensures same { S.state store.new ≡ S.state store.old }
     ensures counted { result ≡ Err RecoveryFault.Fault → S.fault_count store.old < S.fault_count store.new }
-    ensures grows { S.fault_count store.old ≤ S.fault_count store.new }
+    ensures told { result ≢ Err RecoveryFault.Fault → S.fault_count store.new ≡ S.fault_count store.old }
 {
     let mut starts = Vec::new(alloc);
     for task in 0..graph.tasks() {
@@ -153,7 +153,7 @@ pub fn restore<O: Operator, S: SnapshotStore, P: Partitions<Record = O::Record>>
     ensures ends { EndsRestore (language O.meaning O.Key.cmp O.Record.spelling O.Record.reading O.Key.reading O.State.reading) (Fits O.Key.HasSpelling O.Key.spelling) (Fits O.Record.HasSpelling O.Record.spelling) (IsGoodState (Fits O.State.HasSpelling O.State.spelling) O.Suits) graph.now operators.now (P.records log.now) (S.state store.old) result }
     ensures same { S.state store.new ≡ S.state store.old }
     ensures counted { result ≡ Err RecoveryFault.Fault → S.fault_count store.old < S.fault_count store.new }
-    ensures grows { S.fault_count store.old ≤ S.fault_count store.new }
+    ensures told { result ≢ Err RecoveryFault.Fault → S.fault_count store.new ≡ S.fault_count store.old }
 {
     let number = match store.latest() {
         Ok(number) => number,

@@ -1,6 +1,6 @@
 //! A job restarts.
 
-ghost use Rattle.std.specs.Prelude.{◌≡◌, ◌<◌, ◌≤◌, ◌+◌, ℕ, Err, Some, slice_get};
+ghost use Rattle.std.specs.Prelude.{◌≡◌, ◌≢◌, ◌<◌, ◌≤◌, ◌+◌, ℕ, Err, Some, slice_get};
 ghost use Rattle.abs_codec.specs.Spelling.{Fits};
 ghost use Rattle.job_graph.specs.declared.role.Role.TheVariants as Role;
 ghost use Rattle.operators.specs.Operator.{IsGoodState};
@@ -33,6 +33,7 @@ pub fn restarted<O: Operator, S: SnapshotStore, X: Transactions, P: Partitions<R
     ensures ends { EndsRestart (language O.meaning O.Key.cmp O.Record.spelling O.Record.reading O.Key.reading O.State.reading) (Fits O.Key.HasSpelling O.Key.spelling) (Fits O.Record.HasSpelling O.Record.spelling) (IsGoodState (Fits O.State.HasSpelling O.State.spelling) O.Suits) graph.now operators.now (P.records log.now) (S.state store.old) (X.state transactions.old) (X.state transactions.new) result }
     ensures same { S.state store.new ≡ S.state store.old }
     ensures counted { result ≡ Err CoreFault.Device → S.fault_count store.old + X.fault_count transactions.old < S.fault_count store.new + X.fault_count transactions.new }
+    ensures told { result ≢ Err CoreFault.Device → (S.fault_count store.new ≡ S.fault_count store.old) × (X.fault_count transactions.new ≡ X.fault_count transactions.old) }
     ensures grows { (S.fault_count store.old ≤ S.fault_count store.new) × (X.fault_count transactions.old ≤ X.fault_count transactions.new) }
 {
     let _ = graph.tasks();

@@ -1,6 +1,6 @@
 //! The transactions are settled.
 
-ghost use Rattle.std.specs.Prelude.{◌≡◌, ◌<◌, ◌≤◌, ◌^◌, ℕ, length, All, Err, MatchResult};
+ghost use Rattle.std.specs.Prelude.{◌≡◌, ◌≢◌, ◌<◌, ◌^◌, ℕ, length, All, Err, MatchResult};
 ghost use Rattle.commit_sink.specs.Ledger.{unsettled_of};
 ghost use Rattle.recovery.specs.declared.fault.RecoveryFault.TheVariants as RecoveryFault;
 ghost use Rattle.recovery.specs.Ends as faults;
@@ -44,7 +44,7 @@ fn commit_named<X: Transactions>(
     ensures ends { EndsCommits (X.state transactions.old) (X.state transactions.new) task names.now result }
     ensures same { (X.state transactions.new).subtasks ≡ (X.state transactions.old).subtasks }
     ensures counted { result ≡ Err RecoveryFault.Fault → X.fault_count transactions.old < X.fault_count transactions.new }
-    ensures grows { X.fault_count transactions.old ≤ X.fault_count transactions.new }
+    ensures told { result ≢ Err RecoveryFault.Fault → X.fault_count transactions.new ≡ X.fault_count transactions.old }
 {
     for name in names {
         if let Err(fault) = transactions.commit(*name) {
@@ -64,7 +64,7 @@ fn abort_all<X: Transactions>(
     ensures ends { EndsAborts (X.state transactions.old) (X.state transactions.new) unsettled.now result }
     ensures same { (X.state transactions.new).subtasks ≡ (X.state transactions.old).subtasks }
     ensures counted { result ≡ Err RecoveryFault.Fault → X.fault_count transactions.old < X.fault_count transactions.new }
-    ensures grows { X.fault_count transactions.old ≤ X.fault_count transactions.new }
+    ensures told { result ≢ Err RecoveryFault.Fault → X.fault_count transactions.new ≡ X.fault_count transactions.old }
 {
     for transaction in unsettled {
         if let Err(fault) = transactions.abort(transaction.0) {
@@ -85,7 +85,7 @@ fn settle_sink<X: Transactions>(
     ensures ends { EndsSettle (X.state transactions.old) (X.state transactions.new) task names.now subtask result }
     ensures same { (X.state transactions.new).subtasks ≡ (X.state transactions.old).subtasks }
     ensures counted { result ≡ Err RecoveryFault.Fault → X.fault_count transactions.old < X.fault_count transactions.new }
-    ensures grows { X.fault_count transactions.old ≤ X.fault_count transactions.new }
+    ensures told { result ≢ Err RecoveryFault.Fault → X.fault_count transactions.new ≡ X.fault_count transactions.old }
 {
     commit_named(task, names, transactions)?;
     let unsettled = match transactions.unsettled(subtask) {
@@ -110,7 +110,7 @@ fn take<R: Drop, K: Ord + Drop, S: Drop, X: Transactions>(
     ensures ends { EndsTake (X.state transactions.old) (X.state transactions.new) task start result }
     ensures same { (X.state transactions.new).subtasks ≡ (X.state transactions.old).subtasks }
     ensures counted { result ≡ Err RecoveryFault.Fault → X.fault_count transactions.old < X.fault_count transactions.new }
-    ensures grows { X.fault_count transactions.old ≤ X.fault_count transactions.new }
+    ensures told { result ≢ Err RecoveryFault.Fault → X.fault_count transactions.new ≡ X.fault_count transactions.old }
 {
     match start {
         Start::Source(offset) => Ok((Holding::Source(offset), Items::new(alloc))),
@@ -133,7 +133,7 @@ pub fn settle_transactions<O: Operator, X: Transactions>(
     requires below { All (IsBelow (X.state transactions.old).subtasks) restored.1 }
     ensures ends { MatchResult result (λ x. TakeAll (X.state transactions.old) (X.state transactions.new) restored.1 (x.0.items, x.1.items)) (StopTaking (X.state transactions.old) (X.state transactions.new) restored.1) }
     ensures counted { result ≡ Err RecoveryFault.Fault → X.fault_count transactions.old < X.fault_count transactions.new }
-    ensures grows { X.fault_count transactions.old ≤ X.fault_count transactions.new }
+    ensures told { result ≢ Err RecoveryFault.Fault → X.fault_count transactions.new ≡ X.fault_count transactions.old }
 {
     let mut tasks = Vec::new(alloc);
     let mut openings = Vec::new(alloc);

@@ -1,4 +1,6 @@
-//! Script files: a job, the partitions that its sources read, and the steps to make on it.
+//! Script files: a job, the partitions that its sources read, and the steps to make on it. Proved:
+//! from a script's bytes to its job, partitions and steps, or the first refusal in the documented
+//! order.
 //!
 //! A script is a JSON object with exactly the members `job`, `partitions` and `steps`. It is read whole before any step
 //! is made: what comes out is the script, or the first fault of its text in one fixed order. The definitions that say

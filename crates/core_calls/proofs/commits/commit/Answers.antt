@@ -1,4 +1,4 @@
-use Rattle.std.proofs.Common.{[], ◌∷◌, ◌++◌, refl, arith}
+use Rattle.std.proofs.Common.{[], ◌∷◌, ◌++◌, refl, rules, arith}
 use Rattle.core_model.proofs.LedgerSinks.{commit_not_refused}
 use Rattle.core_calls.proofs.Numbers.{sink_within}
 use Rattle.core_calls.proofs.Rounds.{one_round, each_more, sinks_kept, fewer, ends_failed}
@@ -28,7 +28,7 @@ rounds-preserved g c =
     record {
       rounds = (made.0 ++ (c.commit_oldest.new.attempt, new) ∷ [], each_more c.in-Some.task c.args.attempt.now c.rounds.attempt (g.X.Transactions.state c.args.transactions.now) old made.0 c.commit_oldest.new.attempt new made.1 one);
       sinks = sinks_kept c.in-Some.task c.args.subtask c.rounds.attempt c.commit_oldest.new.attempt old new (g.met.X.Transactions.ordered c.rounds.transactions) one c.rounds.invariant.sinks;
-      grows = omega (arith, c.rounds.invariant.grows, c.commit_oldest.ensures.grows);
+      counted = search rules;
     }
 
 pub returns-in-Err-clause-ends : goal.returns-in-Err-clause-ends

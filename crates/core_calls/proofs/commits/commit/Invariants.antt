@@ -1,4 +1,4 @@
-use Rattle.std.proofs.Common.{◌≡◌, ◌≤◌, Some, slice_get, List}
+use Rattle.std.proofs.Common.{◌≡◌, Some, slice_get, List}
 use Rattle.commit_sink.specs.Ledger.{Ledger}
 use Rattle.commit_sink.specs.Sink.{Sinking}
 use Rattle.job_state.specs.Held.{Held}
@@ -13,7 +13,7 @@ abbrev pub invariant-rounds : goal.invariant-rounds
 invariant-rounds g l = record {
   rounds : (rounds : List (Held g.row.O-Record.Denot g.row.O-Key.Denot g.row.O-State.Denot × Ledger)) × CommitsEach l.task l.fn.attempt (g.X.Transactions.state l.fn.transactions) rounds l.attempt (g.X.Transactions.state l.transactions);
   sinks : (sink : Sinking) → slice_get l.attempt.tasks l.task ≡ Some (Holding.Sink sink) → SinkIn (g.X.Transactions.state l.transactions) l.subtask sink;
-  grows : g.X.Transactions.fault_count l.fn.transactions ≤ g.X.Transactions.fault_count l.transactions;
+  counted : g.X.Transactions.fault_count l.transactions ≡ g.X.Transactions.fault_count l.fn.transactions;
 }
 
 abbrev pub decreases-rounds : goal.decreases-rounds

@@ -16,7 +16,7 @@ loop-task-preserved g c =
       len = omega (arith, ap length c.in_ok-push.ensures.items, length-append starts (st ∷ []), c.loop-task.invariant.len);
       each = rw c.in_ok-push.ensures.items (starts_more (language g.O.Operator.meaning g.O.Key.Ord.cmp g.O.Record.Codec.spelling g.O.Record.Codec.reading g.O.Key.Codec.reading g.O.State.Codec.reading) (Fits g.O.Key.Codec.HasSpelling g.O.Key.Codec.spelling) (Fits g.O.Record.Codec.HasSpelling g.O.Record.Codec.spelling) (IsGoodState (Fits g.O.State.Codec.HasSpelling g.O.State.Codec.spelling) g.O.Operator.Suits) c.args.graph.now c.args.operators.now (g.P.Partitions.records c.args.log.now) (g.S.SnapshotStore.state c.args.store.now) c.args.last starts c.loop-task.task st c.loop-task.invariant.len c.loop-task.invariant.each (λ q is. let ends = c.in_ok-start.ensures.ends q is in search (rules, ends)));
       same = search rules;
-      grows = search rules;
+      counted = search rules;
     }
 
 pub returns-in_err-start-clause-ends : goal.returns-in_err-start-clause-ends

@@ -1,4 +1,4 @@
-use Rattle.std.proofs.Common.{◌≡◌, ◌≤◌, ℕ, Some, slice_get, length}
+use Rattle.std.proofs.Common.{◌≡◌, ℕ, Some, slice_get, length}
 use Rattle.abs_codec.specs.Spelling.{Fits}
 use Rattle.operators.specs.Operator.{IsGoodState}
 use Rattle.core_model.specs.Language.{language}
@@ -17,5 +17,5 @@ invariant-loop-task g l =
           → IsStart (language O.Operator.meaning O.Key.Ord.cmp O.Record.Codec.spelling O.Record.Codec.reading O.Key.Codec.reading O.State.Codec.reading) (Fits O.Key.Codec.HasSpelling O.Key.Codec.spelling) (Fits O.Record.Codec.HasSpelling O.Record.Codec.spelling)
           (IsGoodState (Fits O.State.Codec.HasSpelling O.State.Codec.spelling) O.Operator.Suits) l.graph l.operators (g.P.Partitions.records l.log) (g.S.SnapshotStore.state l.fn.store) l.last t r st;
       same : g.S.SnapshotStore.state l.store ≡ g.S.SnapshotStore.state l.fn.store;
-      grows : g.S.SnapshotStore.fault_count l.fn.store ≤ g.S.SnapshotStore.fault_count l.store;
+      counted : g.S.SnapshotStore.fault_count l.store ≡ g.S.SnapshotStore.fault_count l.fn.store;
     }

@@ -17,7 +17,7 @@ loop-transaction-preserved g c =
       turns = next.0;
       left = next.1;
       same = search rules;
-      grows = search rules;
+      counted = search rules;
     }
 
 pub returns-in-Err-clause-ends : goal.returns-in-Err-clause-ends
@@ -42,4 +42,4 @@ returns-in-Err-clause-counted g c =
     let new = c.abort.new.self in
     λ is.
     let counted = abort_counted left i c.args.subtask (X.fault_count old) (X.fault_count new) n (X.state old) (X.state new) c.in-Err.fault (slice_get-get_or left i (0, None) (omega arith)) (search rules) c.loop-transaction.invariant.left c.in-Err.ensures.ends in
-    omega (arith, counted, c.loop-transaction.invariant.grows)
+    omega (arith, counted, c.loop-transaction.invariant.counted)

@@ -1,4 +1,4 @@
-use Rattle.std.proofs.Common.{◌≡◌, ◌≤◌, take, drop}
+use Rattle.std.proofs.Common.{◌≡◌, take, drop}
 use Rattle.commit_sink.specs.Ledger.{unsettled_of}
 use Rattle.core_model.specs.Restart.{InTurn, AbortsNext}
 use Rattle.recovery.proofs.settle.abort_all.Given as goal
@@ -9,5 +9,5 @@ invariant-loop-transaction g l = record {
   turns : InTurn AbortsNext (take l.transaction-index l.unsettled) (g.X.Transactions.state l.fn.transactions) (g.X.Transactions.state l.transactions);
   left : unsettled_of (g.X.Transactions.state l.transactions) l.subtask ≡ drop l.transaction-index l.unsettled;
   same : (g.X.Transactions.state l.transactions).subtasks ≡ (g.X.Transactions.state l.fn.transactions).subtasks;
-  grows : g.X.Transactions.fault_count l.fn.transactions ≤ g.X.Transactions.fault_count l.transactions;
+  counted : g.X.Transactions.fault_count l.transactions ≡ g.X.Transactions.fault_count l.fn.transactions;
 }

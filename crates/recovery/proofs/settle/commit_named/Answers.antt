@@ -13,7 +13,7 @@ loop-name-preserved g c =
     record {
       turns = commit_next names i (get_or names i 0) (X.fault_count old) (X.fault_count new) (X.state c.args.transactions.now) (X.state old) (X.state new) (slice_get-get_or names i 0 (omega arith)) c.loop-name.invariant.turns (g.met.X.Transactions.ordered new) (search rules);
       same = search rules;
-      grows = search rules;
+      counted = search rules;
     }
 
 pub returns-in-Err-clause-ends : goal.returns-in-Err-clause-ends

@@ -1,4 +1,4 @@
-use Rattle.std.proofs.Common.{◌≡◌, ◌≤◌, take}
+use Rattle.std.proofs.Common.{◌≡◌, take}
 use Rattle.core_model.specs.Restart.{InTurn, CommitsNext}
 use Rattle.recovery.proofs.settle.commit_named.Given as goal
 
@@ -7,5 +7,5 @@ abbrev pub invariant-loop-name : goal.invariant-loop-name
 invariant-loop-name g l = record {
   turns : InTurn CommitsNext (take l.name-index l.names) (g.X.Transactions.state l.fn.transactions) (g.X.Transactions.state l.transactions);
   same : (g.X.Transactions.state l.transactions).subtasks ≡ (g.X.Transactions.state l.fn.transactions).subtasks;
-  grows : g.X.Transactions.fault_count l.fn.transactions ≤ g.X.Transactions.fault_count l.transactions;
+  counted : g.X.Transactions.fault_count l.transactions ≡ g.X.Transactions.fault_count l.fn.transactions;
 }

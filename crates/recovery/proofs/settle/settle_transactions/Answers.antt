@@ -20,7 +20,7 @@ loop-start-preserved g c =
       logs = c.in_ok-append.ensures.items ∙ ap (λ more. c.loop-start.openings.items ++ more) c.into_vec.ensures ∙ logs_next all met (drop (length met + 1) all) st (X.state c.args.transactions.now) (X.state c.loop-start.transactions) (X.state c.take.new.transactions) c.loop-start.tasks.items are c.loop-start.invariant.turns c.len-task.result (c.in_ok-holding.holding, c.in_ok-holding.logs) c.loop-start.openings.items c.in_ok-holding.ensures.ends c.loop-start.invariant.logs;
       len = omega (arith, ap length c.in_ok-push.ensures.items, length-append c.loop-start.tasks.items (c.in_ok-holding.holding ∷ []), length-append met (st ∷ []), c.loop-start.invariant.len);
       same = search rules;
-      grows = search rules;
+      counted = search rules;
     }
 
 pub returns-in_err-holding-clause-ends : goal.returns-in_err-holding-clause-ends

@@ -1,4 +1,4 @@
-use Rattle.std.proofs.Common.{◌≡◌, ◌≤◌, length}
+use Rattle.std.proofs.Common.{◌≡◌, length}
 use Rattle.core_model.specs.Restart.{InTurn, Takes, before_tasks, openings_of}
 use Rattle.recovery.proofs.settle.settle_transactions.Given as goal
 
@@ -9,5 +9,5 @@ invariant-loop-start g l = record {
   logs : l.openings.items ≡ openings_of l.yielded;
   len : length l.tasks.items ≡ length l.yielded;
   same : (g.X.Transactions.state l.transactions).subtasks ≡ (g.X.Transactions.state l.fn.transactions).subtasks;
-  grows : g.X.Transactions.fault_count l.fn.transactions ≤ g.X.Transactions.fault_count l.transactions;
+  counted : g.X.Transactions.fault_count l.transactions ≡ g.X.Transactions.fault_count l.fn.transactions;
 }

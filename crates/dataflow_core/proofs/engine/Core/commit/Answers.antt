@@ -1,8 +1,10 @@
+use Rattle.std.proofs.Common.{◌+◌, arith}
 use Rattle.core_model.proofs.CallCommits.{keeps_commit}
 use Rattle.dataflow_core.proofs.Serving.{reaches}
 use Rattle.core_plain.proofs.PlainCommits.{plain_commit}
 use Rattle.dataflow_core.proofs.Plain.{withdraws}
 use Rattle.core_model.proofs.Sounds.{keeps_as_fresh, sound_as_fresh}
+use Rattle.dataflow_core.proofs.Counting.{commit_counts}
 use Rattle.dataflow_core.proofs.engine.Core.commit.Goals as goal
 
 pub invariant_of-self-2 : goal.invariant_of-self-2
@@ -34,3 +36,14 @@ pub returns-clause-sound : goal.returns-clause-sound
 returns-clause-sound g c =
     rw (← c.self.view_is, c.leave.ensures.left)
     (λ sound. sound_as_fresh _ _ _ _ (keeps_commit _ _ _ _ (keeps_as_fresh _ _ _ _ c.self.invariant sound) c.in-Some.attempt c.in-Some.is c.args.sink c.commit-outcome.new.attempt (g.X.Transactions.state c.commit-outcome.new.transactions) _ c.commit-outcome.result c.commit-outcome.ensures.ends).0)
+
+pub returns-clause-counted : goal.returns-clause-counted
+returns-clause-counted g c =
+    let P = g.P.Partitions in
+    let S = g.S.SnapshotStore in
+    let X = g.X.Transactions in
+    let s = c.self.inside in
+    let new = c.commit-outcome.new in
+    rw (← c.self.view_is, c.leave.ensures.answer)
+    (commit_counts s.graph c.args.sink c.in-Some.attempt new.attempt (P.fault_count s.log + S.fault_count s.store + X.fault_count s.transactions) (P.fault_count s.log + S.fault_count s.store + X.fault_count new.transactions) (X.state s.transactions) (X.state new.transactions) c.commit-outcome.result c.commit-outcome.ensures.ends
+    (λ is. omega (arith, c.commit-outcome.ensures.counted is)) (λ other. omega (arith, c.commit-outcome.ensures.told other)))

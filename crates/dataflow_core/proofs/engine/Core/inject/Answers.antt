@@ -2,6 +2,7 @@ use Rattle.std.proofs.Common.{refl}
 use Rattle.core_model.proofs.CallInjects.{keeps_inject}
 use Rattle.core_plain.proofs.PlainCopies.{plain_inject}
 use Rattle.core_model.proofs.Sounds.{keeps_as_fresh, sound_as_fresh}
+use Rattle.dataflow_core.proofs.Counting.{inject_counted}
 use Rattle.dataflow_core.proofs.engine.Core.inject.Goals as goal
 
 pub invariant_of-self-2 : goal.invariant_of-self-2
@@ -28,3 +29,8 @@ pub returns-clause-sound : goal.returns-clause-sound
 returns-clause-sound g c =
     rw (← c.self.view_is, c.leave.ensures.left)
     (λ sound. sound_as_fresh _ _ _ _ (keeps_inject _ _ _ _ c.in-Some.attempt c.inject-outcome.new.attempt _ c.args.task (keeps_as_fresh _ _ _ _ c.self.invariant sound) c.in-Some.is c.inject-outcome.result c.inject-outcome.ensures).0)
+
+pub returns-clause-counted : goal.returns-clause-counted
+returns-clause-counted g c =
+    rw (← c.self.view_is, c.leave.ensures.answer)
+    (inject_counted c.self.inside.graph c.args.task c.in-Some.attempt c.inject-outcome.new.attempt _ 0 c.inject-outcome.result c.inject-outcome.ensures)

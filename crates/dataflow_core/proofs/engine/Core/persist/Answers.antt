@@ -1,8 +1,9 @@
-use Rattle.std.proofs.Common.{refl}
+use Rattle.std.proofs.Common.{refl, ◌+◌, arith}
 use Rattle.task_part.specs.Spelling.{part_spelling}
 use Rattle.core_model.proofs.CallPersists.{keeps_persist}
 use Rattle.dataflow_core.proofs.Plain.{persist_stays}
 use Rattle.core_model.proofs.Sounds.{keeps_as_fresh, sound_as_fresh}
+use Rattle.dataflow_core.proofs.Counting.{persist_counted}
 use Rattle.dataflow_core.proofs.engine.Core.persist.Goals as goal
 
 pub invariant_of-self-2 : goal.invariant_of-self-2
@@ -29,3 +30,14 @@ pub returns-clause-ends : goal.returns-clause-ends
 returns-clause-ends g c =
     rw (← c.self.view_is, c.in-Some.is, c.leave.ensures.left, c.leave.ensures.answer)
     (c.persist-outcome.new.attempt, c.persist-outcome.ensures.ends, refl)
+
+pub returns-clause-counted : goal.returns-clause-counted
+returns-clause-counted g c =
+    let P = g.P.Partitions in
+    let S = g.S.SnapshotStore in
+    let X = g.X.Transactions in
+    let s = c.self.inside in
+    let new = c.persist-outcome.new in
+    rw (← c.self.view_is, c.leave.ensures.answer)
+    (persist_counted s.graph c.args.task c.in-Some.attempt new.attempt (P.fault_count s.log + S.fault_count s.store + X.fault_count s.transactions) (P.fault_count s.log + S.fault_count new.store + X.fault_count s.transactions) (S.state s.store) (S.state new.store) (part_spelling g.O.Record.Codec.spelling g.O.Key.Codec.spelling g.O.State.Codec.spelling) c.persist-outcome.result c.persist-outcome.ensures.ends
+    (λ is. omega (arith, c.persist-outcome.ensures.counted is)) (λ other. omega (arith, c.persist-outcome.ensures.told other)))

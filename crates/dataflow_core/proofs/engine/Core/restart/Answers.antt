@@ -1,9 +1,12 @@
-use Rattle.std.proofs.Common.{◌<◌, sym, subst, ◌∙◌}
+use Rattle.std.proofs.Common.{◌<◌, ◌+◌, arith, sym, subst, ◌∙◌}
 use Rattle.abs_codec.specs.Spelling.{Fits}
 use Rattle.core_calls.proofs.Numbers.{sink_within}
 use Rattle.core_model.proofs.CallRestarts.{restart_withdraws}
+use Rattle.core_model.specs.Language.{language}
 use Rattle.core_model.specs.RestartLaws.{OperatorsAreLawful}
+use Rattle.operators.specs.Operator.{IsGoodState}
 use Rattle.dataflow_core.proofs.Raising.{none_is, raised_by, number_bad, restart_kept, restart_sound, restart_goes_on, cut_by, not_bad}
+use Rattle.dataflow_core.proofs.Counting.{restart_counted}
 use Rattle.dataflow_core.proofs.engine.Core.restart.Goals as goal
 
 pub restarted-outcome-requires : goal.restarted-outcome-requires
@@ -54,3 +57,15 @@ returns-clause-good g c =
     rw (← c.self.view_is, c.raise.ensures.number)
     (λ sound. number_bad c.restarted-outcome.result
     (not_bad _ _ (Fits g.O.Key.Codec.HasSpelling g.O.Key.Codec.spelling) (Fits g.O.State.Codec.HasSpelling g.O.State.Codec.spelling) g.O.Operator.Suits _ c.self.invariant down sound laws c.count.ensures.fit ledger c.restarted-outcome.result (rw (← c.deref.ensures.value) c.restarted-outcome.ensures.ends)))
+
+pub returns-clause-counted : goal.returns-clause-counted
+returns-clause-counted g c =
+    let P = g.P.Partitions in
+    let S = g.S.SnapshotStore in
+    let X = g.X.Transactions in
+    let s = c.self.inside in
+    let new = c.restarted-outcome.new in
+    rw (← c.self.view_is, c.raise.ensures.number)
+    (restart_counted (language g.O.Operator.meaning g.O.Key.Ord.cmp g.O.Record.Codec.spelling g.O.Record.Codec.reading g.O.Key.Codec.reading g.O.State.Codec.reading) (Fits g.O.Key.Codec.HasSpelling g.O.Key.Codec.spelling) (Fits g.O.Record.Codec.HasSpelling g.O.Record.Codec.spelling) (IsGoodState (Fits g.O.State.Codec.HasSpelling g.O.State.Codec.spelling) g.O.Operator.Suits) s.graph s.operators.items (P.records s.log) (S.state s.store) (X.state s.transactions) (X.state new.transactions)
+    (P.fault_count s.log + S.fault_count s.store + X.fault_count s.transactions) (P.fault_count s.log + S.fault_count new.store + X.fault_count new.transactions) c.restarted-outcome.result (rw (← c.deref.ensures.value) c.restarted-outcome.ensures.ends)
+    (λ is. omega (arith, c.restarted-outcome.ensures.counted is)) (λ other. (let told = c.restarted-outcome.ensures.told other in omega (arith, told.0, told.1))))

@@ -24,7 +24,8 @@ loop-step-preserved g c =
       count = search rules;
       room = search rules;
       graph = c.step-reply.ensures.same.0 ∙ c.loop-step.invariant.graph;
-      fresh = c.step-reply.ensures.same.1 ∙ c.loop-step.invariant.fresh;
+      operators = c.step-reply.ensures.same.1 ∙ c.loop-step.invariant.operators;
+      fresh = c.step-reply.ensures.same.2 ∙ c.loop-step.invariant.fresh;
       sound = λ sound. c.step-reply.ensures.sound (c.loop-step.invariant.sound sound);
       begins = λ task subtask at.
           begins_on _ _ _ (c.loop-step.invariant.begins task subtask at) (c.step-reply.ensures.begins task subtask (ap (λ (graph : Expanded). slice_get graph.tasks task) c.loop-step.invariant.graph ∙ at));

@@ -20,6 +20,7 @@ invariant-loop-step g l = record {
   count : vec_len l.replies ≡ l.step-index;
   room : length l.steps ≤ vec_capacity l.replies;
   graph : l.self.graph ≡ l.fn.self.graph;
+  operators : l.self.operators ≡ l.fn.self.operators;
   fresh : l.self.is_fresh ≡ l.fn.self.is_fresh;
   sound : IsSound (language g.O.Operator.meaning g.O.Key.Ord.cmp g.O.Record.Codec.spelling g.O.Record.Codec.reading g.O.Key.Codec.reading g.O.State.Codec.reading) (Fits g.O.Record.Codec.HasSpelling g.O.Record.Codec.spelling) l.fn.self
       → IsSound (language g.O.Operator.meaning g.O.Key.Ord.cmp g.O.Record.Codec.spelling g.O.Record.Codec.reading g.O.Key.Codec.reading g.O.State.Codec.reading) (Fits g.O.Record.Codec.HasSpelling g.O.Record.Codec.spelling) l.self;
