@@ -2,9 +2,9 @@
 //! at the sinks). Proved, of each call: its exact change and each refusal's cause (`ends`), that it
 //! is steps of the model's engine (`goes`), one plain step or none (`plain`, `stays`), withdraws no
 //! committed row (`begins`), leaves a sound core sound (`sound`), and counts a device's failure
-//! (`counted`). Of a sound core, after any list of calls: one run of the plain machine has a moment
-//! for each complete checkpoint, in order, and each sink has committed exactly its output at the
-//! moment of its own last committed checkpoint (`exact`).
+//! exactly where it is told (`counted`). Of a sound core, after any list of calls: one run of the
+//! plain machine has a moment for each complete checkpoint, in order, and each sink has committed
+//! exactly its output at the moment of its own last committed checkpoint (`exact`).
 //!
 //! A [`Core`] holds a job's graph and operators, its partitions, the snapshot store and the transactions, and, while the job runs, the attempt.
 //! What every core keeps is core_model's `Keeps`: that its data are one state of the checkpoint model's engine, and, of a core that was opened
