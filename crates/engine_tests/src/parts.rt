@@ -14,7 +14,7 @@ const PARTS: [&[u8]; 3] = [
     &[2, 0, 0, 0, 1, 0, 0, 0, 0, 0, 0, 0, 1, 0, 0, 0, 0],
 ];
 
-/// Checkpoint 1 of the line; checkpoint 2; and checkpoint 3 begins.
+/// Checkpoint 1 of the line, of 9 steps; checkpoint 2; and checkpoint 3 begins.
 const CHECKPOINTS: [(&str, &str); 18] = [
     ("restart", "ok 0"),
     ("trigger", "ok 1"),
@@ -35,9 +35,6 @@ const CHECKPOINTS: [(&str, &str); 18] = [
     ("complete", "ok 2"),
     ("trigger", "ok 3"),
 ];
-
-/// So many of these steps complete checkpoint 1, and with one more checkpoint 2 begins.
-const COMPLETES: usize = 9;
 
 /// The store of a job after these steps.
 fn store_after(
@@ -70,14 +67,21 @@ fn expect_parts(rt: &impl Abort, store: &mut impl SnapshotStore) -> Result<(), F
     Ok(())
 }
 
-/// They stay when the next checkpoint begins.
+/// So they do after these steps of the line.
+fn expect_parts_after(rt: &impl Abort, alloc: Global, steps: &[(&str, &str)]) -> Result<(), Fail> {
+    let mut store = store_after(rt, alloc, LINE, steps)?;
+    expect_parts(rt, &mut store)
+}
+
 #[test]
 fn parts_stand_as_they_are_spelled(rt: HostRuntime) -> Result<(), Fail> {
-    for count in [COMPLETES, COMPLETES + 1] {
-        let mut store = store_after(&rt, rt.alloc(), LINE, &CHECKPOINTS[..count])?;
-        expect_parts(&rt, &mut store)?;
-    }
-    Ok(())
+    expect_parts_after(&rt, rt.alloc(), &CHECKPOINTS[..9])
+}
+
+/// The parts of the last complete checkpoint stay when the next begins; those before it go.
+#[test]
+fn the_last_complete_checkpoint_is_kept(rt: HostRuntime) -> Result<(), Fail> {
+    expect_parts_after(&rt, rt.alloc(), &CHECKPOINTS[..10])
 }
 
 /// Checkpoint 2 has its parts, and checkpoint 1 has none.
