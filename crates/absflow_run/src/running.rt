@@ -21,6 +21,18 @@ fn make_steps<W: Write>(core: &mut RowCore, steps: Vec<Step>, out: &mut W) -> Re
     Ok(())
 }
 
+/// Starts the job, makes the steps and prints the committed rows.
+fn serve<W: Write>(
+    alloc: Global,
+    core: &mut RowCore,
+    steps: Vec<Step>,
+    out: &mut W,
+) -> Result<(), Refusal> {
+    core.restart()?;
+    make_steps(core, steps, out)?;
+    print_committed(alloc, core, out)
+}
+
 fn run<R: Read + Drop, W: Write>(alloc: Global, file: R, out: &mut W) -> Result<(), Refusal> {
     let bytes = read_bytes(alloc, file)?;
     let Script {
@@ -30,9 +42,7 @@ fn run<R: Read + Drop, W: Write>(alloc: Global, file: R, out: &mut W) -> Result<
     } = Script::read(alloc, &bytes)?;
     let log = rows_log(alloc, graph.sources(), partitions)?;
     let mut core = open(alloc, &job, graph, log)?;
-    core.restart()?;
-    make_steps(&mut core, steps, out)?;
-    print_committed(alloc, &core, out)
+    serve(alloc, &mut core, steps, out)
 }
 
 /// Runs a script over new devices: an answer line for each step, then the committed rows. It answers the exit status: 0, or 1 where the
