@@ -1,3 +1,4 @@
+pub mod Calls
 pub mod Log
 pub mod RowText
 pub mod Telling

@@ -1,8 +1,12 @@
 //! What a step came to, as its answer line says it.
 
-ghost use Rattle.std.specs.Prelude.{IfOk};
+ghost use Rattle.std.specs.Prelude.{◌≡◌, IfOk};
 ghost use Rattle.abs_codec.specs.Spelling.{Fits};
-ghost use Rattle.dataflow_core.specs.Steps.{StepFits};
+ghost use Rattle.absflow_run.specs.Calls.{call_named, MakesStep};
+ghost use Rattle.core_model.specs.Language.{language};
+ghost use Rattle.dataflow_core.specs.Steps.{StepFits, EndsStep};
+ghost use Rattle.operators.specs.Operator.{IsGoodState};
+ghost use Rattle.task_part.specs.Spelling.{part_spelling};
 
 use crate::opening::RowCore;
 use abs_codec::Codec;
@@ -55,7 +59,8 @@ fn device_call(call: FaultCall) -> DeviceCall {
 
 /// The core's call of a step's name, or the device's call that is to fail.
 fn call_of(step: Step) -> Result<CoreStep<Row>, (FaultCall, When)>
-    ensures { IfOk result (StepFits (Fits ⟦<Row as Codec>⟧.HasSpelling ⟦<Row as Codec>⟧.spelling)) }
+    ensures named { result ≡ call_named step }
+    ensures fits { IfOk result (StepFits (Fits ⟦<Row as Codec>⟧.HasSpelling ⟦<Row as Codec>⟧.spelling)) }
 {
     Ok(match step {
         Step::Read(task) => CoreStep::Read(task),
@@ -79,12 +84,15 @@ fn reply_to<O: Operator, S: SnapshotStore, X: Transactions, P: Partitions<Record
     call: &CoreStep<O::Record>,
 ) -> Answer
     requires { StepFits (Fits O.Record.HasSpelling O.Record.spelling) call.now }
+    ensures { EndsStep (language O.meaning O.Key.cmp O.Record.spelling O.Record.reading O.Key.reading O.State.reading) (Fits O.Key.HasSpelling O.Key.spelling) (Fits O.Record.HasSpelling O.Record.spelling) (IsGoodState (Fits O.State.HasSpelling O.State.spelling) O.Suits) (part_spelling O.Record.spelling O.Key.spelling O.State.spelling) call.now core.old core.new result.0 }
 {
     Answer(core.step(call))
 }
 
 /// Makes a step: the core's call of its name, or a device's call is made to fail.
-pub fn make_step(core: &mut RowCore, step: Step) -> Answer {
+pub fn make_step(core: &mut RowCore, step: Step) -> Answer
+    ensures { MakesStep step core.old core.new result.0 }
+{
     match call_of(step) {
         Ok(call) => reply_to(core, &call),
         Err((call, when)) => {
