@@ -49,15 +49,18 @@ fn number_option<'a>(alloc: Global, id: &'a str, low: u64, high: u64, default: &
         .default_value(default)
 }
 
-fn run_command<'a>(alloc: Global) -> Result<Command<'a>, Error> {
-    let inputs = Arg::new(alloc, "INPUT")
+fn inputs_argument<'a>(alloc: Global) -> Arg<'a> {
+    Arg::new(alloc, "INPUT")
         .required(true)
         .num_args(1..)
-        .action(ArgAction::Append);
+        .action(ArgAction::Append)
+}
+
+fn run_command<'a>(alloc: Global) -> Result<Command<'a>, Error> {
     Ok(
         Command::new(alloc, "run")
             .arg(Arg::new(alloc, "JOB").required(true))?
-            .arg(inputs)?
+            .arg(inputs_argument(alloc))?
             .arg(number_option(alloc, "workers", 1, MAX_WORKERS, "1"))?
             .arg(number_option(alloc, "every", 0, MAX_EVERY, "100"))?
             .arg(number_option(alloc, "turns", 1, MAX_TURNS, "1000000000"))?
@@ -65,16 +68,33 @@ fn run_command<'a>(alloc: Global) -> Result<Command<'a>, Error> {
     )
 }
 
-fn absflow_command<'a>(alloc: Global) -> Result<Command<'a>, Error> {
-    let script = Command::new(alloc, "script").arg(Arg::new(alloc, "FILE").required(true))?;
-    let check = Command::new(alloc, "check").arg(Arg::new(alloc, "JOB").required(true))?;
+/// The command under which a file is named.
+fn file_command<'a>(alloc: Global, name: &'a str, file: &'a str) -> Result<Command<'a>, Error> {
+    Ok(Command::new(alloc, name).arg(Arg::new(alloc, file).required(true))?)
+}
+
+/// The program's command with the one that reads a script.
+fn script_command<'a>(alloc: Global) -> Result<Command<'a>, Error> {
+    let script = file_command(alloc, "script", "FILE")?;
     Ok(
         Command::new(alloc, "absflow")
             .subcommand_required(true)
-            .subcommand(script)?
-            .subcommand(run_command(alloc)?)?
-            .subcommand(check)?,
+            .subcommand(script)?,
     )
+}
+
+/// The command with one more under it, if that one was made.
+fn with_command<'a>(
+    command: Command<'a>,
+    under: Result<Command<'a>, Error>,
+) -> Result<Command<'a>, Error> {
+    Ok(command.subcommand(under?)?)
+}
+
+fn absflow_command<'a>(alloc: Global) -> Result<Command<'a>, Error> {
+    let script = script_command(alloc)?;
+    let both = with_command(script, run_command(alloc))?;
+    with_command(both, file_command(alloc, "check", "JOB"))
 }
 
 /// The error for an argument that clap has judged and that is not there: it comes for no words.
