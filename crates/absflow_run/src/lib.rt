@@ -1,8 +1,9 @@
 //! What the program does with a script, and with a job. A script is run on a core over new devices
 //! in memory: its steps are made, and the committed rows are printed. Everything is generic over
 //! the reader and the writers, so that tests run it in memory. Proved: the core is opened as the
-//! script asks, over a log whose partitions are the script's, row by row; what is given up for is
-//! the fault that was met, and want of memory as such.
+//! script asks, over a log whose partitions are the script's, row by row; a script's step is the
+//! core's call of its name, and ends as that call does; what is given up for is the fault that was
+//! met, and want of memory as such.
 #![tactic(auto)]
 
 mod answer;
