@@ -4,8 +4,8 @@
 //!
 //! It runs a job record by record, without barriers, checkpoints or failures, and with all channels copied at each step. Its contract is the
 //! machine of `dataflow_model`: `PlainMachine::step` makes exactly the step that a move asks for, or answers that the move is not possible, and
-//! `PlainMachine::run` goes where the moves lead. So it says what the sinks of a job are to put out. Tests compare the engine with it, and
-//! nothing that runs imports it.
+//! `PlainMachine::run` goes where the moves lead. So it says what the sinks of a job are to put out. Jobs worked out by hand run on it
+//! (`worked_flows`), and nothing that runs imports it.
 #![tactic(auto)]
 
 mod fault;
