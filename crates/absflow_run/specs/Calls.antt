@@ -2,12 +2,12 @@
 use Rattle.std.specs.Prelude.{◌≡◌, ℕ, ◌-◌, ◌^◌, List, Result, Ok, Err, IfOk, IfErr}
 use Rattle.abs_codec.specs.Spelling.{Fits, IsTextWithin, bytes_spelling}
 use Rattle.core_model.specs.State.{State}
-use Rattle.dataflow_core.specs.Rows.{row_language}
-use Rattle.dataflow_core.specs.Steps.{EndsStep}
-use Rattle.dataflow_core.specs.declared.steps.Reply.{Reply}
-use Rattle.dataflow_core.specs.declared.steps.Reply.TheVariants.{Accepted}
-use Rattle.dataflow_core.specs.declared.steps.Step as core
-use Rattle.dataflow_core.specs.declared.steps.Step.TheVariants as call
+use Rattle.engine.specs.Rows.{row_language}
+use Rattle.engine.specs.Steps.{EndsStep}
+use Rattle.engine.specs.declared.steps.Reply.{Reply}
+use Rattle.engine.specs.declared.steps.Reply.TheVariants.{Accepted}
+use Rattle.engine.specs.declared.steps.Step as core
+use Rattle.engine.specs.declared.steps.Step.TheVariants as call
 use Rattle.fault_plan.specs.declared.plan.When.{When}
 use Rattle.operators.specs.Operator.{IsGoodState}
 use Rattle.operators.specs.RowMeaning.{RowSuits}

@@ -4,7 +4,7 @@ ghost use Rattle.std.specs.Prelude.{◌≡◌, IfOk};
 ghost use Rattle.abs_codec.specs.Spelling.{Fits};
 ghost use Rattle.absflow_run.specs.Calls.{call_named, MakesStep};
 ghost use Rattle.core_model.specs.Language.{language};
-ghost use Rattle.dataflow_core.specs.Steps.{StepFits, EndsStep};
+ghost use Rattle.engine.specs.Steps.{StepFits, EndsStep};
 ghost use Rattle.operators.specs.Operator.{IsGoodState};
 ghost use Rattle.task_part.specs.Spelling.{part_spelling};
 
@@ -12,7 +12,7 @@ use crate::opening::RowCore;
 use abs_codec::Codec;
 use alignment::Effect;
 use commit_sink::Transactions;
-use dataflow_core::{Core, DeviceCall, Reply, Step as CoreStep};
+use engine::{DeviceCall, Engine as Core, Reply, Step as CoreStep};
 use fault_plan::When;
 use operators::{Operator, Row};
 use script_file::{FaultCall, Step};

@@ -85,7 +85,7 @@ pub fn read_next<O: Operator, P: Partitions<Record = O::Record>>(
 }
 
 /// The state under a record's key, if there is one.
-fn state_at<'a, O: Operator>(
+pub fn state_at<'a, O: Operator>(
     attempt: &'a Attempt<O>,
     task: u32,
     key: &Option<O::Key>,
@@ -126,7 +126,7 @@ fn outcome_of<O: Operator>(
 }
 
 /// The record at the head of an input, which is this channel, where it may be taken.
-fn first_record<O: Operator>(
+pub fn first_record<O: Operator>(
     attempt: &Attempt<O>,
     task: u32,
     input: u32,
@@ -180,7 +180,7 @@ pub fn operate<O: Operator>(
 }
 
 /// The spelling of a record.
-fn row_spelling<R: Codec>(alloc: Global, row: &R) -> Result<Vec<u8>, CoreFault>
+pub fn row_spelling<R: Codec>(alloc: Global, row: &R) -> Result<Vec<u8>, CoreFault>
     ensures ok { IfOk result (λ bytes. bytes.items ≡ R.spelling row.now) }
     ensures err { IfErr result (λ fault. fault ≡ CoreFault.Memory) }
 {

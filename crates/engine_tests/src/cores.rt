@@ -1,10 +1,10 @@
 //! Cores over devices in memory, and steps on them.
 
-use crate::engine::Engine;
+use crate::core_reader::CoreReader;
 use abs_codec::decode_all;
 use absflow_run::{RowCore, make_step, row_line};
 use commit_sink::{FlakyTransactions, MemoryTransactions, Transactions};
-use dataflow_core::Core;
+use engine::Engine as Core;
 use job_graph::Graph;
 use job_spec::JobSpec;
 use operators::Row;
@@ -84,7 +84,11 @@ pub(crate) fn expect_answers(
 }
 
 /// The committed rows of a sink subtask.
-pub(crate) fn committed(alloc: Global, core: &impl Engine, sink: u32) -> Result<Vec<String>, Fail> {
+pub(crate) fn committed(
+    alloc: Global,
+    core: &impl CoreReader,
+    sink: u32,
+) -> Result<Vec<String>, Fail> {
     let mut lines = Vec::new(alloc);
     for number in 0..core.committed_len(sink)? {
         let Some(record) = core.committed(sink, number)? else {

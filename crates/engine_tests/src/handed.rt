@@ -1,7 +1,7 @@
 //! Cores over devices that were used before.
 
+use crate::core_reader::CoreReader;
 use crate::cores::{Log, Sinks, Store, expect_answers, open_over, opened};
-use crate::engine::Engine;
 use crate::jobs::LINE;
 use crate::lists::{almost_spent, store_of_lists};
 use abs_codec::{Bytes, Map};
@@ -52,7 +52,7 @@ fn a_core_goes_on_from_the_devices_of_another(rt: HostRuntime) -> Result<(), Fai
 }
 
 /// Whether the core is fresh, and how many rows it has committed.
-fn told(core: &impl Engine) -> Result<(bool, u64), Fail> {
+fn told(core: &impl CoreReader) -> Result<(bool, u64), Fail> {
     Ok((core.is_fresh(), core.committed_len(0)?))
 }
 

@@ -3,9 +3,9 @@
 #![tactic(auto)]
 
 #[cfg(test)]
-mod cores;
+mod core_reader;
 #[cfg(test)]
-mod engine;
+mod cores;
 #[cfg(test)]
 mod failed_copies;
 #[cfg(test)]

@@ -2,16 +2,16 @@
 
 ghost use Rattle.std.specs.List.{AllByRecursion};
 ghost use Rattle.abs_codec.specs.Spelling.{Fits};
-ghost use Rattle.dataflow_core.specs.Steps.{StepFits};
+ghost use Rattle.engine.specs.Steps.{StepFits};
 
+use crate::core_reader::CoreReader;
 use crate::cores::{committed, expect_answers, opened};
-use crate::engine::Engine;
 use crate::jobs::LINE;
 use abs_codec::{Codec, Text};
 use absflow_run::RowCore;
 use alignment::Effect;
 use commit_sink::Transactions;
-use dataflow_core::{Core, CoreFault, Reply, Step};
+use engine::{CoreFault, Engine as Core, Reply, Step};
 use operators::{Operator, Row};
 use snapshot_store::SnapshotStore;
 use source_log::{Partitions, SourceFault};
@@ -134,7 +134,7 @@ fn make_lists(rt: &impl Abort, alloc: Global, core: &mut RowCore) -> Result<(), 
 }
 
 /// The row is committed once.
-fn expect_the_row(rt: &impl Abort, alloc: Global, core: &impl Engine) -> Result<(), Fail> {
+fn expect_the_row(rt: &impl Abort, alloc: Global, core: &impl CoreReader) -> Result<(), Fail> {
     let rows = committed(alloc, core, 0)?;
     assert_eq!(rt; rows.len(), 1);
     assert_eq!(rt; rows[0].as_str(), "{\"k\":\"a\",\"v\":11}");

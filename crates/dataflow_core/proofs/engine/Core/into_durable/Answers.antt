@@ -1,5 +1,0 @@
-use Rattle.dataflow_core.proofs.Raising.{hands_out_legal}
-use Rattle.dataflow_core.proofs.engine.Core.into_durable.Goals as goal
-
-pub returns-clause-legal : goal.returns-clause-legal
-returns-clause-legal g c = rw (← c.self.view_is) (λ sound. hands_out_legal _ _ _ _ c.self.invariant sound)

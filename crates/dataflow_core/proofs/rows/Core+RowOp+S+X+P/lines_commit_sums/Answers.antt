@@ -1,6 +1,0 @@
-use Rattle.std.proofs.Common.{refl}
-use Rattle.line_core.proofs.Lines.{commits_sums}
-use Rattle.dataflow_core.proofs.rows.Core+RowOp+S+X+P.lines_commit_sums.Goals as goal
-
-pub returns : goal.returns
-returns g c = rw (← c.self.view_is) (λ fresh line n is. commits_sums _ _ _ _ n refl (record { keeps = c.self.invariant; fresh = fresh; line = line; operator_is = is }))

@@ -1,0 +1,90 @@
+-- What a running job gives its calls.
+use Rattle.std.proofs.Common.{◌≡◌, ◌<◌, Some, None, Result, Ok, Err, OnOk, IfOk, slice_get, length, ℕ, true, List, refl, sym, subst, ◌∙◌, arith}
+use Rattle.std.specs.declared.cmp.Ordering.{Ordering}
+use Rattle.std.proofs.lemmas.Option.{slice_get_within}
+use Rattle.commit_sink.specs.Ledger.{Ledger, open_refusal}
+use Rattle.commit_sink.specs.Sink.{Sinking}
+use Rattle.coordinator.specs.Coordinator.{IsReady}
+use Rattle.job_graph.specs.Expanded.{Expanded}
+use Rattle.job_graph.specs.declared.role.Role.{Role}
+use Rattle.job_graph.specs.declared.role.Role.TheVariants as role
+use Rattle.job_state.specs.Held.{Held}
+use Rattle.job_state.specs.declared.holding.Holding.TheVariants as holds
+use Rattle.snapshot_store.specs.Store.{Stored, complete_refusal, has_all_parts}
+use Rattle.core_calls.proofs.Holdings.{none_past}
+use Rattle.core_calls.proofs.Numbers.{source_within, operator_within, sink_within}
+use Rattle.core_model.specs.Calls.{EndsComplete}
+use Rattle.core_model.specs.Commits.{EndsCommit}
+use Rattle.core_model.specs.Keeps.{Keeps, GateFits}
+use Rattle.core_model.specs.LastCommitted.{committed_of, complete_numbers}
+use Rattle.core_model.specs.declared.fault.CoreFault.{CoreFault}
+use Rattle.core_model.specs.Language.{Language}
+use Rattle.core_model.specs.Sound.{IsSound}
+use Rattle.core_model.specs.State.{State}
+use Rattle.core_model.proofs.CallLasts.{commits_reach}
+use Rattle.core_model.proofs.CallGoes.{shape_of, runs_of}
+use Rattle.core_model.proofs.LedgerSinks.{open_not_refused}
+use Rattle.core_model.proofs.Sounds.{as_fresh, keeps_as_fresh}
+use Rattle.core_model.proofs.StoreComplete.{may_complete, ready_parts}
+use Rattle.core_model.proofs.StoreRuns.{runs_pending}
+use Rattle.engine.specs.Tasks.{Serves}
+
+module _ {R K S O : Type 0} (lang : Language R K S O) (RecordFits : R → Type 0) (IsGood : O → S → Type 0) (s : State O R K S) (keeps : Keeps lang RecordFits IsGood s) (h : Held R K S) (is : s.held ≡ Some h) where
+  pub serves : Serves lang.cmp RecordFits IsGood s.graph s.operators s.ledger h
+  serves = record {
+    expanded = keeps.expanded;
+    given = keeps.operators;
+    subtasks = keeps.subtasks;
+    shape = shape_of lang RecordFits IsGood s keeps h is;
+    sinks = (runs_of lang RecordFits IsGood s keeps h is).sinks;
+  }
+
+  -- each source has its partition
+  pub partitions_there : (task partition : ℕ) → slice_get s.graph.tasks task ≡ Some (role.Source partition) → partition < length s.partitions
+  partitions_there task partition at = subst (λ n. partition < n) (sym keeps.partitions) (source_within s.graph keeps.expanded task partition at)
+
+  -- a checkpoint of which every part is acknowledged may be completed
+  pub completes : (n : ℕ) → h.coordination.pending ≡ Some n → IsReady h.coordination → complete_refusal s.stored n ≡ None
+  completes n pending ready =
+      may_complete lang s.graph s.stored h n (runs_pending lang s h (runs_of lang RecordFits IsGood s keeps h is) n pending) ready ((shape_of lang RecordFits IsGood s keeps h is).acked ∙ sym keeps.stored_tasks)
+
+  -- a commit at Ok leaves as many committed transactions as there are complete checkpoints
+  module _ (sound : IsSound lang RecordFits s) (subtask : ℕ) (k : Held R K S) (ledger : Ledger) where
+    pub reaches : (result : Result Unit CoreFault) → EndsCommit s.graph subtask h k s.ledger ledger result → OnOk result (length (committed_of ledger subtask) ≡ length (complete_numbers s.stored))
+    reaches (Ok u) ends = commits_reach lang RecordFits IsGood (as_fresh lang RecordFits IsGood s) (keeps_as_fresh lang RecordFits IsGood s keeps sound) refl h is subtask k ledger u ends
+    reaches (Err fault) ends = tt
+
+  -- a checkpoint that is complete now has every part
+  module _ (stored : Stored) (k : Held R K S) where
+    pub whole : (result : Result ℕ CoreFault) → EndsComplete h k s.stored stored result → IfOk result (λ n. has_all_parts stored n ≡ true)
+    whole (Ok n) ends =
+        subst (λ (x : Stored). has_all_parts x n ≡ true) (sym ends.2)
+        (ready_parts lang s.graph s.stored h n (runs_pending lang s h (runs_of lang RecordFits IsGood s keeps h is) n ends.0) ends.1 ((shape_of lang RecordFits IsGood s keeps h is).acked ∙ sym keeps.stored_tasks))
+    whole (Err fault) ends = tt
+
+module _ {R K S O : Type 0} (cmp : K → K → Ordering) (RecordFits : R → Type 0) (IsGood : O → S → Type 0) (graph : Expanded) (operators : List O) (ledger : Ledger) (h : Held R K S) (serves : Serves cmp RecordFits IsGood graph operators ledger h) (task : ℕ) where
+  -- a task has its place among the copies
+  pub copies_within : (r : Role) → slice_get graph.tasks task ≡ Some r → task < length h.copies
+  copies_within r at = let less = slice_get_within graph.tasks task r at in omega (arith, less, serves.shape.copies)
+
+  -- and a gate that stands with what it holds
+  pub gate_there : (r : Role) → slice_get graph.tasks task ≡ Some r → GateFits graph h task
+  gate_there r at = serves.shape.gate_fits task (slice_get_within graph.tasks task r at)
+
+  -- an operator's task holds its states, and has its operator
+  pub holds_states : (number : ℕ) → slice_get graph.tasks task ≡ Some (role.Operator number) → (entries : List (K × S)) × (slice_get h.tasks task ≡ Some (holds.Operator entries))
+  holds_states number at = serves.shape.forms task (role.Operator number) at
+
+  pub operator_there : (number : ℕ) → slice_get graph.tasks task ≡ Some (role.Operator number) → slice_get operators number ≡ None → ⊥
+  operator_there number at none =
+      let less = operator_within graph serves.expanded task number at in
+      omega (arith, less, serves.given, none_past operators number none)
+
+  -- a sink's task holds its transactions, of which one is open
+  pub holds_sink : (subtask : ℕ) → slice_get graph.tasks task ≡ Some (role.Sink subtask) → (sink : Sinking) × (slice_get h.tasks task ≡ Some (holds.Sink sink)) × (open_refusal ledger sink.open_one ≡ None)
+  holds_sink subtask at =
+      let held = serves.shape.forms task (role.Sink subtask) at in
+      (held.0, held.1, open_not_refused ledger subtask held.0 (serves.sinks task subtask held.0 at held.1))
+
+  pub subtask_within : (subtask : ℕ) → slice_get graph.tasks task ≡ Some (role.Sink subtask) → subtask < ledger.subtasks
+  subtask_within subtask at = subst (λ n. subtask < n) (sym serves.subtasks) (sink_within graph serves.expanded task subtask at)

@@ -1,0 +1,119 @@
+-- A task works, or takes a barrier, as what it is.
+use Rattle.std.proofs.Common.{◌≡◌, ◌<◌, Option, Some, None, Result, MatchOption, slice_get, ℕ, List, refl, sym, ap, subst, ◌∙◌}
+use Rattle.alignment.specs.declared.input.Effect.{Effect}
+use Rattle.commit_sink.specs.Ledger.{Ledger, IsOrdered}
+use Rattle.dataflow_model.specs.Machine.{Work}
+use Rattle.job_graph.specs.Expanded.{Expanded}
+use Rattle.job_graph.specs.declared.role.Role.{Role}
+use Rattle.job_graph.specs.declared.role.Role.TheVariants as role
+use Rattle.job_state.specs.Held.{Held}
+use Rattle.core_calls.proofs.Numbers.{operator_within}
+use Rattle.core_model.specs.Calls.{EndsOperate, input_at, left_by}
+use Rattle.core_model.specs.Keeps.{Keeps}
+use Rattle.core_model.specs.Language.{Language}
+use Rattle.core_model.specs.State.{State}
+use Rattle.core_model.specs.declared.fault.CoreFault.{CoreFault}
+use Rattle.core_model.proofs.CallBarriers.{keeps_operator_barrier}
+use Rattle.core_model.proofs.CallOperates.{GoesOn, keeps_operate}
+use Rattle.core_model.proofs.CallPersists.{found}
+use Rattle.core_model.proofs.CallPutsOut.{keeps_put_out}
+use Rattle.core_model.proofs.CallSinkCopies.{keeps_sink_barrier}
+use Rattle.core_model.proofs.CallGoes.{KeepsAndGoes}
+use Rattle.core_model.proofs.CallSteps.{keeps_still}
+use Rattle.core_plain.specs.Plain.{StepsIfOk, Stays}
+use Rattle.core_plain.proofs.PlainCopies.{plain_operator_barrier, plain_sink_barrier}
+use Rattle.core_plain.proofs.PlainWorks.{plain_operate, plain_put_out}
+use Rattle.core_plain.proofs.Stands.{stays_same}
+use Rattle.engine.specs.Tasks.{NoSuchInput, WorksAs, TakesAs, EndsWork, EndsBarrier}
+
+-- an operator's work is a task's
+pub works_by_operator : {R K S O : Type 0} (lang : Language R K S O) (graph : Expanded) (operators : List O) (task input : ℕ) (h k : Held R K S) (ledger : Ledger) (result : Result Unit CoreFault) (number channel : ℕ) (operator : O)
+    → slice_get graph.tasks task ≡ Some (role.Operator number) → input_at graph task input ≡ Some channel → slice_get operators number ≡ Some operator → EndsOperate graph task h k input channel lang operator result
+    → EndsWork lang graph operators task input h k ledger ledger result
+works_by_operator lang graph operators task input h k ledger result number channel operator at leads op ends =
+    subst (λ (r : Option Role). WorksAs graph task input h k ledger ledger lang operators result r (input_at graph task input)) (sym at)
+    (subst (λ (c : Option ℕ). WorksAs graph task input h k ledger ledger lang operators result (Some (role.Operator number)) c) (sym leads) (operator, op, ends, refl))
+
+module _ {R K S O : Type 0} (lang : Language R K S O) (RecordFits : R → Type 0) (IsGood : O → S → Type 0) (s : State O R K S) (keeps : Keeps lang RecordFits IsGood s) (h k : Held R K S) (was : s.held ≡ Some h) (ledger : Ledger) where
+  -- a task has no such input, whatever was asked of it
+  module _ {T : Type 0} (result : Result T CoreFault) (none : NoSuchInput h k s.ledger ledger result) where
+    none_kept : (n : ℕ) → KeepsAndGoes lang RecordFits IsGood s (record s { held = left_by result (Some k); ledger = ledger; faults = n })
+    none_kept n =
+        subst (λ (x : Result T CoreFault). KeepsAndGoes lang RecordFits IsGood s (record s { held = left_by x (Some k); ledger = ledger; faults = n })) (sym none.0)
+        (subst (λ (l : Ledger). KeepsAndGoes lang RecordFits IsGood s (record s { held = Some k; ledger = l; faults = n })) (sym none.2) (keeps_still lang RecordFits IsGood s keeps h was k n none.1))
+
+    same_held : left_by result (Some k) ≡ s.held
+    same_held = ap (λ (x : Result T CoreFault). left_by x (Some k)) none.0 ∙ ap Some none.1 ∙ sym was
+
+    none_stays : (n : ℕ) → Stays lang s (record s { held = left_by result (Some k); ledger = ledger; faults = n })
+    none_stays n = stays_same lang s (record s { held = left_by result (Some k); ledger = ledger; faults = s.faults }) (λ i. record s { held = same_held i; ledger = none.2 i })
+
+  module _ (task input : ℕ) (result : Result Unit CoreFault) where
+    -- what the call leaves
+    abbrev left : Ledger → ℕ → State O R K S
+    left l n = record s { held = left_by result (Some k); ledger = l; faults = n }
+
+    none_steps : NoSuchInput h k s.ledger ledger result → (channel n : ℕ) → StepsIfOk result lang (Work task channel) s (left ledger n)
+    none_steps none channel n = subst (λ (x : Result Unit CoreFault). StepsIfOk x lang (Work task channel) s (left ledger n)) (sym none.0) (none_stays result none n)
+
+    module _ (ends : EndsWork lang s.graph s.operators task input h k s.ledger ledger result) where
+      pub work_kept : (n : ℕ) → ((operator : O) → GoesOn lang RecordFits IsGood operator) → IsOrdered ledger → KeepsAndGoes lang RecordFits IsGood s (left ledger n)
+      work_kept n goes_on ordered = by (slice_get s.graph.tasks task) refl (input_at s.graph task input) refl ends
+        where
+          by : (r : Option Role) → slice_get s.graph.tasks task ≡ r → (c : Option ℕ) → input_at s.graph task input ≡ c → WorksAs s.graph task input h k s.ledger ledger lang s.operators result r c → KeepsAndGoes lang RecordFits IsGood s (left ledger n)
+          by (Some (role.Operator number)) at (Some channel) leads e =
+              subst (λ (l : Ledger). KeepsAndGoes lang RecordFits IsGood s (left l n)) (sym e.3) (keeps_operate lang RecordFits IsGood s h k n task number input channel e.0 keeps was at e.1 (goes_on e.0) leads result e.2)
+          by (Some (role.Operator number)) at None leads e = none_kept result e n
+          by (Some (role.Sink subtask)) at (Some channel) leads e = keeps_put_out lang RecordFits IsGood s h k n task subtask input channel ledger keeps was at ordered leads result e
+          by (Some (role.Sink subtask)) at None leads e = none_kept result e n
+          by (Some (role.Source partition)) at channel leads e = none_kept result e n
+          by None at channel leads e = none_kept result e n
+
+      pub work_is_plain : (n : ℕ) → MatchOption (input_at s.graph task input) (Stays lang s (left ledger n)) (λ channel. StepsIfOk result lang (Work task channel) s (left ledger n))
+      work_is_plain n = by (slice_get s.graph.tasks task) refl (input_at s.graph task input) refl ends
+        where
+          -- nothing is worked, whether there is an input or not
+          neither : (c : Option ℕ) → NoSuchInput h k s.ledger ledger result → MatchOption c (Stays lang s (left ledger n)) (λ channel. StepsIfOk result lang (Work task channel) s (left ledger n))
+          neither None e = none_stays result e n
+          neither (Some channel) e = none_steps e channel n
+
+          by : (r : Option Role) → slice_get s.graph.tasks task ≡ r → (c : Option ℕ) → input_at s.graph task input ≡ c → WorksAs s.graph task input h k s.ledger ledger lang s.operators result r c
+              → MatchOption c (Stays lang s (left ledger n)) (λ channel. StepsIfOk result lang (Work task channel) s (left ledger n))
+          by (Some (role.Operator number)) at (Some channel) leads e =
+              subst (λ (l : Ledger). StepsIfOk result lang (Work task channel) s (left l n)) (sym e.3) (plain_operate lang RecordFits IsGood s h k n task number input channel e.0 keeps was at e.1 leads result e.2)
+          by (Some (role.Operator number)) at None leads e = none_stays result e n
+          by (Some (role.Sink subtask)) at (Some channel) leads e = plain_put_out lang RecordFits IsGood s h k n task subtask input channel ledger keeps was at leads result e
+          by (Some (role.Sink subtask)) at None leads e = none_stays result e n
+          by (Some (role.Source partition)) at c leads e = neither c e
+          by None at c leads e = neither c e
+
+  -- an operator or a sink takes a barrier
+  module _ (task input : ℕ) (result : Result Effect CoreFault) (ends : EndsBarrier s.graph task input h k s.ledger ledger result) where
+    -- what the call leaves
+    abbrev after_barrier : Ledger → ℕ → State O R K S
+    after_barrier l n = record s { held = left_by result (Some k); ledger = l; faults = n }
+
+    pub barrier_kept : (n : ℕ) → IsOrdered ledger → KeepsAndGoes lang RecordFits IsGood s (after_barrier ledger n)
+    barrier_kept n ordered = by (slice_get s.graph.tasks task) refl (input_at s.graph task input) refl ends
+      where
+        by : (r : Option Role) → slice_get s.graph.tasks task ≡ r → (c : Option ℕ) → input_at s.graph task input ≡ c → TakesAs s.graph task input h k s.ledger ledger result r c → KeepsAndGoes lang RecordFits IsGood s (after_barrier ledger n)
+        by (Some (role.Operator number)) at (Some channel) leads e =
+            let there = found s.operators number (subst (λ m. number < m) (sym keeps.operators) (operator_within s.graph keeps.expanded task number at)) in
+            subst (λ (l : Ledger). KeepsAndGoes lang RecordFits IsGood s (after_barrier l n)) (sym e.1) (keeps_operator_barrier lang RecordFits IsGood s h k n task number input channel there.0 keeps was at there.1 leads result e.0)
+        by (Some (role.Operator number)) at None leads e = none_kept result e n
+        by (Some (role.Sink subtask)) at (Some channel) leads e = keeps_sink_barrier lang RecordFits IsGood s h k n task subtask input channel ledger keeps was at ordered leads result e
+        by (Some (role.Sink subtask)) at None leads e = none_kept result e n
+        by (Some (role.Source partition)) at channel leads e = none_kept result e n
+        by None at channel leads e = none_kept result e n
+
+    pub barrier_stays : Stays lang s (after_barrier ledger s.faults)
+    barrier_stays = by (slice_get s.graph.tasks task) refl (input_at s.graph task input) refl ends
+      where
+        by : (r : Option Role) → slice_get s.graph.tasks task ≡ r → (c : Option ℕ) → input_at s.graph task input ≡ c → TakesAs s.graph task input h k s.ledger ledger result r c → Stays lang s (after_barrier ledger s.faults)
+        by (Some (role.Operator number)) at (Some channel) leads e =
+            subst (λ (l : Ledger). Stays lang s (after_barrier l s.faults)) (sym e.1) (plain_operator_barrier lang RecordFits IsGood s h k s.faults task keeps was input channel (role.Operator number) at leads result e.0)
+        by (Some (role.Operator number)) at None leads e = none_stays result e s.faults
+        by (Some (role.Sink subtask)) at (Some channel) leads e = plain_sink_barrier lang RecordFits IsGood s h k s.faults task keeps was input channel subtask ledger at leads result e
+        by (Some (role.Sink subtask)) at None leads e = none_stays result e s.faults
+        by (Some (role.Source partition)) at channel leads e = none_stays result e s.faults
+        by None at channel leads e = none_stays result e s.faults

@@ -1,0 +1,28 @@
+-- How an outcome is told.
+use Rattle.std.specs.Prelude.{ℕ, Option, Some, None, Result, Ok, Err}
+use Rattle.alignment.specs.declared.input.Effect.{Effect}
+use Rattle.source_log.specs.declared.partitions.SourceFault.{SourceFault}
+use Rattle.core_model.specs.declared.fault.CoreFault.{CoreFault}
+use Rattle.engine.specs.declared.steps.Reply.{Reply}
+use Rattle.engine.specs.declared.steps.Reply.TheVariants.{Accepted, Number, Barrier, Refused, Source}
+
+abbrev pub accepted_as : Result Unit CoreFault → Reply
+accepted_as (Ok u) = Accepted
+accepted_as (Err fault) = Refused fault
+
+abbrev pub numbered_as : Result ℕ CoreFault → Reply
+numbered_as (Ok number) = Number number
+numbered_as (Err fault) = Refused fault
+
+abbrev pub restarted_as : Result (Option ℕ) CoreFault → Reply
+restarted_as (Ok None) = Number 0
+restarted_as (Ok (Some number)) = Number number
+restarted_as (Err fault) = Refused fault
+
+abbrev pub copied_as : Result Effect CoreFault → Reply
+copied_as (Ok effect) = Barrier effect
+copied_as (Err fault) = Refused fault
+
+abbrev pub appended_as : Result Unit SourceFault → Reply
+appended_as (Ok u) = Accepted
+appended_as (Err fault) = Source fault
