@@ -1,13 +1,13 @@
 -- What a job that was judged has for its core.
-use Rattle.std.proofs.Common.{◌≡◌, ◌≤◌, ℕ, List, length, count_by, Result, Ok, Err}
+use Rattle.std.proofs.Common.{◌≡◌, ◌≤◌, ℕ, List, length, Result, Ok, Err}
 use Rattle.job_spec.specs.declared.fault.JobFault.{JobFault}
 use Rattle.job_spec.specs.Job.{Job, operators_of}
 use Rattle.job_spec.specs.Reading.{◌>>=◌, value_at, job_at, job_of}
-use Rattle.job_graph.specs.Expanded.{Expanded, is_source}
+use Rattle.job_graph.specs.Expanded.{Expanded}
 use Rattle.job_graph.specs.PlainGraph.{HaveOperators}
 use Rattle.operators.specs.declared.row.Row.{Row}
 use Rattle.absflow_run.proofs.JobTasks as tasks
-use Rattle.job_input.specs.Judged.{IsRead, IsJudged}
+use Rattle.job_input.specs.Judged.{IsJudged}
 use Rattle.serde_json.specs.Data.{Data}
 
 of_value : (given : Result Data JobFault) (j : Job) → (given >>= job_at) ≡ Ok j → (d : Data) × (job_at d ≡ Ok j)

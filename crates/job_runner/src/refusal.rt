@@ -8,8 +8,8 @@ use absflow_run::Refusal;
 use job_input::InputFault;
 use std::io;
 use std::io::Write;
-use thread_runner::RunFault;
 use thiserror::Error;
+use thread_runner::RunFault;
 
 /// Why a job was not run, or its run was given up. Its text is the line on standard error, without
 /// the names of G9.

@@ -113,9 +113,7 @@ pub fn run_job<
     ensures { result ≤ 1 }
 {
     let outcome = match judge(alloc, job, inputs) {
-        Ok(input) => {
-            run_judged::<Brand, R, W>(rt, alloc, input, Blank::new(65), options, out)
-        }
+        Ok(input) => { run_judged::<Brand, R, W>(rt, alloc, input, Blank::new(65), options, out) }
         Err(fault) => Err(RunRefusal::from(fault)),
     };
     finish_run(outcome, out, err)
