@@ -1,12 +1,12 @@
-# make demo    runs examples/line.json from the sources as they stand, with nothing proved: the answers, then the committed rows
+# make demo    runs examples/count with two workers, from the sources as they stand, with nothing proved: the committed rows
 # make test    the gate: every proof from nothing, every edit that must be refused, every test; then the program that was proved, on all scripts of tests/
 # make wrong   tries the finer edits, those of crates/NAME/wrong/; of some crates alone by make wrong CRATES="alignment channels"
 # make build   proves the program and all that it stands on, and leaves it as bin/absflow
-# make bench   prints the seconds of scripts of 10,000 and of 100,000 steps, through bin/absflow
+# make bench   prints the seconds of long scripts and of 1,000,000 rows through a count, through bin/absflow
 .PHONY: demo test wrong build bench
 
 demo:
-	cd crates/absflow && rt try < ../../examples/line.json
+	cd crates/absflow && rt try --data job.json=../../examples/count/job.json --data colors.jsonl=../../examples/count/colors.jsonl -- run job.json colors.jsonl --workers 2
 
 test:
 	rt ci
@@ -22,6 +22,7 @@ build:
 
 bench: bin/absflow
 	sh examples/bench.sh
+	tests/bench.sh
 
 bin/absflow:
 	$(MAKE) build

@@ -6,6 +6,9 @@
 #                            standard error is the whole of that, nothing is on standard output, and the status is 1
 # jobs/NAME.json             a job file for `absflow check`, in the same way
 # examples/NAME.out          what examples/NAME.json comes to, in the same way
+# runs/NAME/                 `absflow run`, in this folder and with the words of each line of args: out, err and status are wanted (nothing, nothing and 0
+#                            where they are not there; of status 2 clap's text is not compared); where there is any-order, the sorted lines of out
+# examples/NAME/             the same of its job and its inputs, which come to tests/examples/NAME.out
 # crashes/NAME.json          a run that fails at each of its places (see crashes.py)
 # conformance/STAGE/N.json   random scripts, with the output of an independent reference: 400 for each stage that is served
 #
@@ -67,6 +70,69 @@ expect_made() {
   expect "$1 of ${4::60}" "$work/made" "$1" "$work/made.json"
 }
 
+# expect_run WANTED FOLDER WORD..: `absflow run` with these words, in this folder, comes to the files of WANTED.
+expect_run() {
+  local wanted=$1 folder=$2 status=0 out=/dev/null err=/dev/null order=cat
+  shift 2
+  (cd "$folder" && "$program" run "$@") > "$work/out" 2> "$work/err"
+  local ended=$?
+  [ ! -e "$wanted/any-order" ] || order=sort
+  [ ! -e "$wanted/status" ] || status=$(cat "$wanted/status")
+  [ ! -e "$wanted/out" ] || { $order "$wanted/out" > "$work/wanted" && out=$work/wanted; }
+  [ ! -e "$wanted/err" ] || err=$wanted/err
+  [ "$status" -ne 2 ] || err=$work/err
+  $order "$work/out" > "$work/ordered"
+  if cmp -s "$out" "$work/ordered" && cmp -s "$err" "$work/err" && [ $ended -eq "$status" ]; then
+    passed=$((passed + 1))
+  else
+    failed=$((failed + 1))
+    echo "FAILED $wanted, run $*: status $ended, $status is wanted"
+    differ "$out" "$work/ordered"
+    differ "$err" "$work/err"
+  fi
+}
+
+# expect_runs FOLDER..: each line of its args.
+expect_runs() {
+  local folder words
+  for folder in "$@"; do
+    while read -r -a words; do expect_run "$PWD/$folder" "$folder" "${words[@]}"; done < "$folder/args"
+  done
+}
+
+# expect_example NAME INPUT WORD..: the example's job over its input.
+expect_example() {
+  rm -rf "$work/example"
+  mkdir "$work/example"
+  cp "tests/examples/$1.out" "$work/example/out"
+  expect_run "$work/example" "examples/$1" job.json "${@:2}"
+}
+
+# expect_long_line LENGTH OUT|ERR TEXT: a line of so many bytes, all but a row's being spaces, and its end.
+expect_long_line() {
+  rm -rf "$work/long"
+  mkdir "$work/long"
+  printf '%b' "$3" > "$work/long/$2"
+  [ "$2" = out ] || echo 1 > "$work/long/status"
+  cp tests/runs/line_of_two_rows/job.json "$work/long/"
+  python3 -c "print('{\"k\":\"a\",\"v\":1}'.ljust($1))" > "$work/long/0.jsonl"
+  expect_run "$work/long" "$work/long" job.json 0.jsonl
+}
+
+# expect_full: rows that can't be written end with status 1, and that is said.
+expect_full() {
+  local folder=tests/runs/line_of_two_rows ended
+  "$program" run "$folder/job.json" "$folder/0.jsonl" > /dev/full 2> "$work/err"
+  ended=$?
+  if [ $ended -eq 1 ] && [ "$(cat "$work/err")" = 'cannot write the output' ]; then
+    passed=$((passed + 1))
+  else
+    failed=$((failed + 1))
+    echo "FAILED run on a full device: status $ended, 1 is wanted"
+    cat "$work/err"
+  fi
+}
+
 for program in "${programs[@]}"; do
   [ -x "$program" ] || { echo "$program is not there: rt ci builds it"; echo "0 passed, 1 failed"; exit 1; }
   expect_all script tests/scripts/*.json
@@ -81,6 +147,17 @@ for program in "${programs[@]}"; do
   for count in 200 2000000; do expect_made script err 'script: not JSON\n' "b'[' * $count"; done
   for count in 200 $most_bytes; do expect_made check err 'G1 BadJson\n' "b'[' * $count"; done
   expect_made check err 'G11 TooMany\n' "b'[' * ($most_bytes + 1)"
+
+  expect_runs tests/runs/*
+  for workers in 1 2 8; do
+    expect_example count colors.jsonl --workers $workers
+    expect_example sum payments.jsonl --workers $workers
+    expect_example loop starts.jsonl --workers $workers --every 1
+  done
+  expect_long_line 1048576 out 'sink 0 rows 1\n{"k":"a","v":11}\n'
+  expect_long_line 1048577 err 'input 0 line 1: bad row\n'
+  expect_long_line 50000000 err 'input 0 line 1: bad row\n'
+  expect_full
 
   tests/crashes.py "$program" tests/crashes/*.json > "$work/crashes"
   grep FAILED "$work/crashes"

@@ -1,11 +1,16 @@
-//! The program `absflow`: `script FILE` runs a script, `check JOB` judges a job file, and no word at all runs the script on standard input.
+//! The program `absflow`: `script FILE` runs a script, `run JOB INPUT..` runs a job over its inputs, `check JOB` judges a job file, and no
+//! word at all runs the script on standard input.
 #![tactic(auto)]
 
 use absflow_run::{check, script};
 use command_line::{Line, parse_line};
+use job_runner::{Input, Options, run_job};
 use std::fs::File;
 use std::io::{BufRead, BufReader, BufWriter, ErrorKind, Read};
 use std::process::ExitCode;
+use std::sync::Wait;
+use std::thread::Threads;
+use std::time::Clock;
 use std::{env, fs, io};
 
 /// A command on a text, which answers the exit status.
@@ -50,11 +55,58 @@ fn refuse(rt: &HostRuntime, why: &str) -> io::Result<ExitCode> {
     Ok(ExitCode::from(1))
 }
 
-fn run_line(rt: &HostRuntime, line: &Line<'_>) -> io::Result<ExitCode> {
+/// The file of this name, as it opens.
+fn named<'a>(rt: &HostRuntime, name: &'a str) -> Input<'a, File> {
+    Input {
+        name,
+        file: fs::open(rt, name),
+    }
+}
+
+/// Runs the job in this file over the rows in these, in threads that this handle starts.
+fn run_files<R: Threads + Wait + Clock + Sync>(
+    rt: &HostRuntime,
+    threads: &R,
+    job: &str,
+    inputs: &[&str],
+    options: Options,
+) -> io::Result<ExitCode> {
+    let alloc = rt.alloc();
+    let mut files = Vec::with_capacity(alloc, inputs.len())?;
+    for name in inputs {
+        files.push(named(rt, name))?;
+    }
+    let mut out = BufWriter::new(alloc, io::writer(rt))?;
+    let mut err = rt.stderr();
+    let job = named(rt, job);
+    Ok(ExitCode::from(run_job(
+        threads, alloc, job, files, options, &mut out, &mut err,
+    )))
+}
+
+/// Does the command of the line.
+fn run_line<R: Threads + Wait + Clock + Sync>(
+    rt: &HostRuntime,
+    threads: &R,
+    line: &Line<'_>,
+) -> io::Result<ExitCode> {
     match line {
         Line::Script(name) => run_on(rt, Command::Script, name),
         Line::Check(name) => run_on(rt, Command::Check, name),
-        Line::Run { .. } => refuse(rt, "run: not served yet"),
+        Line::Run {
+            job,
+            inputs,
+            workers,
+            every,
+            turns,
+        } => {
+            let options = Options {
+                workers: *workers,
+                every: *every,
+                turns: *turns,
+            };
+            run_files(rt, threads, job, inputs, options)
+        }
     }
 }
 
@@ -69,7 +121,7 @@ fn main(rt: HostRuntime) -> io::Result<ExitCode> {
         texts.push(word.as_str())?;
     }
     match parse_line(alloc, texts.as_slice()) {
-        Ok(line) => run_line(&rt, &line),
+        Ok(line) => run_line(&rt, &rt, &line),
         Err(error) => {
             error.print(&rt)?;
             Ok(ExitCode::from(error.exit_code() as u8))

@@ -1,3 +1,3 @@
-mod JobTasks
+pub mod JobTasks
 mod Rows
 mod ScriptParts

@@ -1,16 +1,50 @@
 //! The committed rows, as the program prints them.
 
-use crate::opening::RowCore;
 use crate::refusal::Refusal;
 use crate::row_text::row_line;
 use abs_codec::decode_all;
-use operators::Row;
+use commit_sink::Transactions;
+use engine::{CoreFault, Engine as Core};
+use operators::{Operator, Row};
+use snapshot_store::SnapshotStore;
+use source_log::Partitions;
 use std::alloc::Global;
 use std::io::Write;
 
-fn print_sink<W: Write>(
+/// What a core tells of the rows that are committed.
+pub trait CommittedRows {
+    /// How many sink subtasks there are.
+    fn sinks(&self) -> u32;
+
+    /// How many records a sink subtask has committed.
+    fn committed_len(&self, sink: u32) -> Result<u64, CoreFault>;
+
+    /// The record of this number, from 0.
+    fn committed(&self, sink: u32, number: u64) -> Result<Option<Vec<u8>>, CoreFault>;
+}
+
+impl<
+    O: Operator,
+    S: SnapshotStore,
+    X: Transactions,
+    P: Partitions<Record = O::Record>,
+> CommittedRows for Core<O, S, X, P> {
+    fn sinks(&self) -> u32 {
+        self.sinks()
+    }
+
+    fn committed_len(&self, sink: u32) -> Result<u64, CoreFault> {
+        self.committed_len(sink)
+    }
+
+    fn committed(&self, sink: u32, number: u64) -> Result<Option<Vec<u8>>, CoreFault> {
+        self.committed(sink, number)
+    }
+}
+
+fn print_sink<C: CommittedRows, W: Write>(
     alloc: Global,
-    core: &RowCore,
+    core: &C,
     sink: u32,
     out: &mut W,
 ) -> Result<(), Refusal> {
@@ -28,9 +62,9 @@ fn print_sink<W: Write>(
 }
 
 /// For each sink subtask in order the line `sink S rows N`, then the rows.
-pub(crate) fn print_committed<W: Write>(
+pub fn print_committed<C: CommittedRows, W: Write>(
     alloc: Global,
-    core: &RowCore,
+    core: &C,
     out: &mut W,
 ) -> Result<(), Refusal> {
     for sink in 0..core.sinks() {

@@ -18,6 +18,8 @@ mod text;
 
 pub use answer::{Answer, make_step};
 pub use checking::check;
+pub use committed::{CommittedRows, print_committed};
 pub use opening::RowCore;
+pub use refusal::{Refusal, finish};
 pub use row_text::row_line;
 pub use running::script;

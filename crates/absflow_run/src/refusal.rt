@@ -19,7 +19,8 @@ use thiserror::Error;
 
 /// Why a script or a job was refused or given up. Its text is the line on standard error, without the names of G9.
 #[derive(Debug, Drop, Error)]
-pub(crate) enum Refusal {
+pub enum Refusal {
+    /// The file can't be read on.
     #[error("cannot read the input")]
     Unreadable,
     /// The script's text, a row or a step of it.
@@ -116,7 +117,7 @@ impl From<AllocError> for Refusal {
 
 impl Refusal {
     /// Writes the line, with the names that a cycle has.
-    fn complain<E: Write>(&self, err: &mut E) -> io::Result<()> {
+    pub fn complain<E: Write>(&self, err: &mut E) -> io::Result<()> {
         write!(err, "{self}")?;
         if let Refusal::Job(JobFault::UnmarkedCycle(names)) = self {
             let mut separator = ": ";
@@ -130,11 +131,7 @@ impl Refusal {
 }
 
 /// The exit status of a command: 0, or 1 where it was refused or given up, which is then said. Output that fails is a refusal too.
-pub(crate) fn finish<W: Write, E: Write>(
-    outcome: Result<(), Refusal>,
-    out: &mut W,
-    err: &mut E,
-) -> u8
+pub fn finish<W: Write, E: Write>(outcome: Result<(), Refusal>, out: &mut W, err: &mut E) -> u8
     ensures { result ≤ 1 }
 {
     let flushed = out.flush().map_err(|_| Refusal::Output);

@@ -25,16 +25,18 @@ pub enum Line<'a> {
         inputs: Vec<&'a str>,
         /// How many threads work: 1 to 64.
         workers: u64,
-        /// The records between two checkpoints, 0 for one checkpoint at the end: up to 1,000,000.
+        /// The records worked between two checkpoints, 0 for one checkpoint at the end: up to
+        /// 1,000,000.
         every: u64,
-        /// The steps after which the run is given up: 1 to 2^40.
+        /// The turns after which the run is given up: 1 to 2^40.
         turns: u64,
-        /// The file in which the job's state is kept between runs.
-        image: Option<&'a str>,
     },
     /// Judge the job in this file.
     Check(&'a str),
 }
+
+/// The version that `--version` prints behind the name.
+const VERSION: &str = "0.1.0";
 
 const MAX_WORKERS: u64 = 64;
 
@@ -42,45 +44,117 @@ const MAX_EVERY: u64 = 1_000_000;
 
 const MAX_TURNS: u64 = 1_099_511_627_776;
 
-fn number_option<'a>(alloc: Global, id: &'a str, low: u64, high: u64, default: &'a str) -> Arg<'a> {
-    Arg::new(alloc, id)
-        .long(id)
-        .value_parser(clap::builder::ValueParser::unsigned(low, high))
-        .default_value(default)
+/// An option with a number, and what `--help` says of it.
+struct NumberOption<'a> {
+    id: &'a str,
+    low: u64,
+    high: u64,
+    default: &'a str,
+    help: &'a str,
+}
+
+fn number_option<'a>(alloc: Global, option: &NumberOption<'a>) -> Arg<'a> {
+    Arg::new(alloc, option.id)
+        .long(option.id)
+        .value_name("N")
+        .value_parser(clap::builder::ValueParser::unsigned(option.low, option.high))
+        .default_value(option.default)
+        .help(option.help)
+}
+
+fn workers_option<'a>(alloc: Global) -> Arg<'a> {
+    number_option(
+        alloc,
+        &NumberOption {
+            id: "workers",
+            low: 1,
+            high: MAX_WORKERS,
+            default: "1",
+            help: "Threads that work on the job, 1 to 64",
+        },
+    )
+}
+
+fn every_option<'a>(alloc: Global) -> Arg<'a> {
+    number_option(
+        alloc,
+        &NumberOption {
+            id: "every",
+            low: 0,
+            high: MAX_EVERY,
+            default: "100",
+            help: "Records worked between two checkpoints, 0 to 1000000; 0 for the last one alone",
+        },
+    )
+}
+
+fn turns_option<'a>(alloc: Global) -> Arg<'a> {
+    number_option(
+        alloc,
+        &NumberOption {
+            id: "turns",
+            low: 1,
+            high: MAX_TURNS,
+            default: "1000000000",
+            help: "Turns after which the run is given up, 1 to 1099511627776 (2^40)",
+        },
+    )
+}
+
+fn file_argument<'a>(alloc: Global, id: &'a str, help: &'a str) -> Arg<'a> {
+    Arg::new(alloc, id).required(true).help(help)
 }
 
 fn inputs_argument<'a>(alloc: Global) -> Arg<'a> {
-    Arg::new(alloc, "INPUT")
-        .required(true)
-        .num_args(1..)
-        .action(ArgAction::Append)
+    file_argument(
+        alloc,
+        "INPUT",
+        "Files of rows, one for each source task in task order: one JSON row a line",
+    )
+    .num_args(1..)
+    .action(ArgAction::Append)
 }
+
+const JOB_HELP: &str = "The job's file: a JSON object of vertices and edges";
 
 fn run_command<'a>(alloc: Global) -> Result<Command<'a>, Error> {
     Ok(
         Command::new(alloc, "run")
-            .arg(Arg::new(alloc, "JOB").required(true))?
+            .about("Runs a job over its inputs until it is at rest, and prints the committed rows")
+            .arg(file_argument(alloc, "JOB", JOB_HELP))?
             .arg(inputs_argument(alloc))?
-            .arg(number_option(alloc, "workers", 1, MAX_WORKERS, "1"))?
-            .arg(number_option(alloc, "every", 0, MAX_EVERY, "100"))?
-            .arg(number_option(alloc, "turns", 1, MAX_TURNS, "1000000000"))?
-            .arg(Arg::new(alloc, "image").long("image"))?,
+            .arg(workers_option(alloc))?
+            .arg(every_option(alloc))?
+            .arg(turns_option(alloc))?,
     )
 }
 
-/// The command under which a file is named.
-fn file_command<'a>(alloc: Global, name: &'a str, file: &'a str) -> Result<Command<'a>, Error> {
-    Ok(Command::new(alloc, name).arg(Arg::new(alloc, file).required(true))?)
-}
-
-/// The program's command with the one that reads a script.
-fn script_command<'a>(alloc: Global) -> Result<Command<'a>, Error> {
-    let script = file_command(alloc, "script", "FILE")?;
+fn check_command<'a>(alloc: Global) -> Result<Command<'a>, Error> {
     Ok(
-        Command::new(alloc, "absflow")
-            .subcommand_required(true)
-            .subcommand(script)?,
+        Command::new(alloc, "check")
+            .about("Judges a job's file: prints what it expands to, or its first fault")
+            .arg(file_argument(alloc, "JOB", JOB_HELP))?,
     )
+}
+
+fn script_command<'a>(alloc: Global) -> Result<Command<'a>, Error> {
+    Ok(
+        Command::new(alloc, "script")
+            .about("Runs a script: prints an answer for each step, then the committed rows")
+            .arg(file_argument(
+                alloc,
+                "FILE",
+                "The script's file: a JSON object of a job, partitions and steps",
+            ))?,
+    )
+}
+
+/// The program's command, with none under it yet.
+fn program_command<'a>(alloc: Global) -> Command<'a> {
+    Command::new(alloc, "absflow")
+        .about("A stream processor with exactly-once output; with no words, the script on standard input is run")
+        .version(VERSION)
+        .subcommand_required(true)
 }
 
 /// The command with one more under it, if that one was made.
@@ -92,9 +166,9 @@ fn with_command<'a>(
 }
 
 fn absflow_command<'a>(alloc: Global) -> Result<Command<'a>, Error> {
-    let script = script_command(alloc)?;
+    let script = with_command(program_command(alloc), script_command(alloc))?;
     let both = with_command(script, run_command(alloc))?;
-    with_command(both, file_command(alloc, "check", "JOB"))
+    with_command(both, check_command(alloc))
 }
 
 /// The error for an argument that clap has judged and that is not there: it comes for no words.
@@ -137,7 +211,6 @@ fn run_line<'a>(alloc: Global, matches: &ArgMatches<'a>) -> Result<Line<'a>, Err
         workers: number_of(alloc, matches, "workers", 1, MAX_WORKERS)?,
         every: number_of(alloc, matches, "every", 0, MAX_EVERY)?,
         turns: number_of(alloc, matches, "turns", 1, MAX_TURNS)?,
-        image: matches.get_str("image"),
     })
 }
 

@@ -1,0 +1,6 @@
+use Rattle.job_input.specs.Lines.{PutsRows}
+use Rattle.job_input.proofs.rows.read_rows.Given as goal
+
+-- the rows of the lines so far are put last
+abbrev pub invariant-loop-number : goal.invariant-loop-number
+invariant-loop-number g l = PutsRows l.partition l.fn.log.rows l.log.rows

@@ -1,0 +1,15 @@
+-- What a job and its inputs come to.
+use Rattle.std.specs.Prelude.{◌≡◌, ℕ, List, Ok, length, count_by}
+use Rattle.job_graph.specs.Expanded.{Expanded, is_source}
+use Rattle.job_graph.specs.Expansion.{Expands}
+use Rattle.job_spec.specs.Job.{Job}
+use Rattle.job_spec.specs.Reading.{job_of}
+use Rattle.operators.specs.declared.row.Row.{Row}
+
+-- the job that these bytes say, and what it expands to
+abbrev pub IsRead : List ℕ → Job → Expanded → Type 0
+IsRead bytes job graph = (job_of bytes ≡ Ok job) × Expands job graph
+
+-- A job that some bytes say and what it expands to, with a partition for each source task.
+abbrev pub IsJudged : Job → Expanded → List (List Row) → Type 0
+IsJudged job graph partitions = ((bytes : List ℕ) × IsRead bytes job graph) × (length partitions ≡ count_by is_source graph.tasks)

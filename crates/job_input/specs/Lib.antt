@@ -1,0 +1,3 @@
+pub mod Judged
+pub mod Lines
+pub mod Telling

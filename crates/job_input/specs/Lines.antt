@@ -1,0 +1,31 @@
+-- The rows of lines.
+use Rattle.std.specs.Prelude.{◌≡◌, ℕ, ◌==◌, ◌||◌, List, ◌++◌, Bool, true, false, Result, Ok, slice_set}
+use Rattle.std.specs.List.{list_all}
+use Rattle.operators.specs.declared.row.Row.{Row}
+use Rattle.script_file.specs.declared.fault.ItemFault.{ItemFault}
+use Rattle.script_file.specs.declared.fault.ItemFault.TheVariants.{Bad}
+use Rattle.script_file.specs.Faults.{◌>>=◌, or_fault}
+use Rattle.script_file.specs.Json.{json_of}
+use Rattle.script_file.specs.Rows.{row_of}
+use Rattle.source_log.specs.Partitions.{records_at, appended}
+
+-- a space, a tab, or a part of a line's end
+abbrev pub is_space : ℕ → Bool
+is_space byte = (byte == 32) || (byte == 9) || (byte == 13) || (byte == 10)
+
+abbrev pub is_blank : List ℕ → Bool
+is_blank = list_all is_space
+
+-- the row of the line's JSON
+unfoldable pub row_of_line : List ℕ → Result Row ItemFault
+row_of_line line = or_fault Bad (json_of line) >>= row_of
+
+-- A blank line leaves the partitions as they are; of any other the row is put last.
+abbrev pub PutsLine : ℕ → List ℕ → List (List Row) → List (List Row) → Type 0
+PutsLine partition line old new =
+    (is_blank line ≡ true → new ≡ old)
+    × (is_blank line ≡ false → (row : Row) × (row_of_line line ≡ Ok row) × (new ≡ appended old partition row))
+
+-- Rows are put last in this partition, and the others stay as they are.
+abbrev pub PutsRows : ℕ → List (List Row) → List (List Row) → Type 0
+PutsRows partition old new = (rows : List Row) × (new ≡ slice_set old partition (records_at old partition ++ rows))

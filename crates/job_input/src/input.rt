@@ -1,0 +1,49 @@
+//! A file that was named.
+
+use crate::fault::{InputFault, LineFault, fault_at};
+use std::alloc::Global;
+use std::io;
+use std::io::{BufReader, ErrorKind, Read};
+
+/// A file by its name, and what opening it came to.
+#[derive(Drop)]
+pub struct Input<'a, R> {
+    pub name: &'a str,
+    pub file: io::Result<R>,
+}
+
+/// A job file has at most so many bytes.
+const MAX_JOB_BYTES: u64 = 16_777_216;
+
+/// What a reader's error is to a line.
+pub(crate) fn line_fault(error: &io::Error) -> LineFault {
+    if error.kind() == ErrorKind::OutOfMemory {
+        LineFault::Memory
+    } else {
+        LineFault::Unreadable
+    }
+}
+
+/// The file's bytes, up to one more than a job may have.
+fn job_bytes<R: Read + Drop>(alloc: Global, file: io::Result<R>) -> io::Result<Vec<u8>> {
+    let mut bytes = Vec::new(alloc);
+    file?.take(MAX_JOB_BYTES + 1).read_to_end(&mut bytes)?;
+    Ok(bytes)
+}
+
+impl<'a, R: Read + Drop> Input<'a, R> {
+    /// The bytes of a job file, up to one more than it may have.
+    pub(crate) fn into_bytes(self, alloc: Global) -> Result<Vec<u8>, InputFault<'a>> {
+        let Input { name, file } = self;
+        match job_bytes(alloc, file) {
+            Ok(bytes) => Ok(bytes),
+            Err(error) => Err(fault_at(line_fault(&error), name, 0, 0)),
+        }
+    }
+
+    /// The file behind a buffer.
+    pub(crate) fn into_buffered(self, alloc: Global) -> io::Result<BufReader<R>> {
+        let Input { file, .. } = self;
+        BufReader::new(alloc, file?)
+    }
+}

@@ -1,0 +1,91 @@
+//! The rows of an input.
+
+ghost use Rattle.std.specs.Prelude.{◌≡◌, length, OnOk, OnErr};
+ghost use Rattle.script_file.specs.Faults.{FindsItem};
+ghost use Rattle.job_input.specs.Lines.{is_blank, row_of_line, PutsLine, PutsRows};
+
+use crate::fault::LineFault;
+use crate::line::next_line;
+use operators::Row;
+use script_file::{FittingRow, ItemFault, read_row};
+use serde_json::Value;
+use source_log::{MemoryLog, Partitions};
+use std::alloc::Global;
+use std::io::BufRead;
+
+/// Whether a line is skipped: nothing but spaces, tabs and ends of lines.
+fn is_blank(line: &[u8]) -> bool
+    ensures { result ≡ is_blank line.now }
+{
+    line.iter().all(|byte| matches!(*byte, b' ' | b'\t' | b'\r' | b'\n'))
+}
+
+/// The row that the JSON text of a line is.
+#[tactic(auto, unfolding(crate::specs::Lines::row_of_line, script_file::specs::Json::json_of))]
+pub fn row_of_line(alloc: Global, line: &[u8]) -> Result<FittingRow, ItemFault>
+    ensures { FindsItem (λ r. r) result (row_of_line line.now) }
+{
+    match Value::from_slice(alloc, line) {
+        Ok(value) => read_row(alloc, &value),
+        Err(e) if e.is_memory() => Err(ItemFault::Memory),
+        Err(_) => Err(ItemFault::Bad),
+    }
+}
+
+/// Puts the row of a line last in the partition. A blank line has none.
+pub fn put_line(
+    alloc: Global,
+    log: &mut MemoryLog<Row>,
+    partition: u32,
+    line: &[u8],
+) -> Result<(), LineFault>
+    ensures ok { OnOk result (PutsLine partition line.now (⟦<MemoryLog<Row> as Partitions>⟧.records log.old) (⟦<MemoryLog<Row> as Partitions>⟧.records log.new)) }
+    ensures err { OnErr result (⟦<MemoryLog<Row> as Partitions>⟧.records log.new ≡ ⟦<MemoryLog<Row> as Partitions>⟧.records log.old) }
+{
+    if is_blank(line) {
+        return Ok(());
+    }
+    let row = row_of_line(alloc, line)?;
+    log.append(partition, row.into_row())?;
+    Ok(())
+}
+
+/// Puts the row of the file's next line last in the partition. False: the file has no more.
+#[tactic(auto, using(crate::proofs::Putting::puts_none, crate::proofs::Putting::puts_line))]
+fn take_line<R: BufRead>(
+    alloc: Global,
+    log: &mut MemoryLog<Row>,
+    partition: u32,
+    file: &mut R,
+    line: &mut Vec<u8>,
+) -> Result<bool, LineFault>
+    ensures { PutsRows partition (⟦<MemoryLog<Row> as Partitions>⟧.records log.old) (⟦<MemoryLog<Row> as Partitions>⟧.records log.new) }
+{
+    let more = next_line(file, line)?;
+    if more {
+        put_line(alloc, log, partition, line)?;
+    }
+    Ok(more)
+}
+
+/// Puts the rows of the file last in the partition, or answers the number of the line that is not
+/// taken, from 1, and why.
+#[tactic(auto, using(crate::proofs::Putting::puts_none, crate::proofs::Putting::puts_more))]
+pub fn read_rows<R: BufRead>(
+    alloc: Global,
+    log: &mut MemoryLog<Row>,
+    partition: u32,
+    file: &mut R,
+    line: &mut Vec<u8>,
+) -> Result<(), (u64, LineFault)>
+    ensures { PutsRows partition (⟦<MemoryLog<Row> as Partitions>⟧.records log.old) (⟦<MemoryLog<Row> as Partitions>⟧.records log.new) }
+{
+    for number in 1..u64::MAX {
+        match take_line(alloc, log, partition, file, line) {
+            Ok(true) => {}
+            Ok(false) => return Ok(()),
+            Err(fault) => return Err((number, fault)),
+        }
+    }
+    Err((u64::MAX, LineFault::Unreadable))
+}

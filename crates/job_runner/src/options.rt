@@ -1,0 +1,12 @@
+//! How a job is run.
+
+/// What the command line says of a run.
+#[derive(Clone, Copy, Debug)]
+pub struct Options {
+    /// How many threads work.
+    pub workers: u64,
+    /// The records worked between two checkpoints, 0 for one checkpoint at the end.
+    pub every: u64,
+    /// The turns after which the run is given up.
+    pub turns: u64,
+}

@@ -1,0 +1,120 @@
+//! Runs a job.
+
+ghost use Rattle.std.specs.Prelude.{◌≡◌, ◌≤◌};
+ghost use Rattle.job_input.specs.Judged.{IsJudged};
+
+use crate::opening::open;
+use crate::options::Options;
+use crate::refusal::{RunRefusal, finish_run};
+use absflow_run::print_committed;
+use commit_sink::Transactions;
+use engine::Engine as Core;
+use job_input::{Input, JobInput, judge};
+use operators::{Operator, Row};
+use snapshot_store::SnapshotStore;
+use source_log::{MemoryLog, Partitions};
+use std::alloc::Global;
+use std::io::{Read, Write};
+use std::marker::Brand;
+use std::sync::ledger::{Blank, Ledger};
+use std::sync::{Mutex, Wait};
+use std::thread::Threads;
+use std::time::Clock;
+use thread_runner::{Schedule, Station, run};
+
+/// A job that goes down is restarted so often.
+const RESTARTS: u64 = 8;
+
+/// Takes the job of this core to rest and prints what is committed, also where the run is refused.
+fn run_core<
+    O: Operator + Send,
+    S: SnapshotStore + Drop + Send,
+    X: Transactions + Drop + Send,
+    P: Partitions<Record = O::Record> + Drop + Send,
+    L: Ledger + Send + Sync,
+    R: Threads + Wait + Clock + Sync,
+    W: Write,
+>(
+    rt: &R,
+    alloc: Global,
+    core: Core<O, S, X, P>,
+    schedule: Schedule,
+    blank: Blank,
+    options: Options,
+    out: &mut W,
+) -> Result<(), RunRefusal<'static>>
+where
+    O::Record: Send,
+    O::Key: Send,
+    O::State: Send,
+    requires name { blank.name ≡ L.name }
+    requires parts { (blank.parts ≡ L.parts) × (L.parts ≡ 65) }
+{
+    let Options {
+        workers,
+        every,
+        turns,
+    } = options;
+    let (station, mut share) = Station::<O, S, X, P, L>::new(core, schedule, blank);
+    let station = Mutex::new(station);
+    let report = run(
+        rt,
+        alloc,
+        &station,
+        &mut share,
+        workers as usize,
+        every,
+        turns,
+        RESTARTS,
+    );
+    let core = station.into_inner().into_core();
+    let printed = print_committed(alloc, &core, out);
+    report?;
+    Ok(printed?)
+}
+
+/// Runs a job that was judged.
+fn run_judged<L: Ledger + Send + Sync, R: Threads + Wait + Clock + Sync, W: Write>(
+    rt: &R,
+    alloc: Global,
+    input: JobInput,
+    blank: Blank,
+    options: Options,
+    out: &mut W,
+) -> Result<(), RunRefusal<'static>>
+    requires judged { IsJudged input.job input.graph (⟦<MemoryLog<Row> as Partitions>⟧.records input.log) }
+    requires name { blank.name ≡ L.name }
+    requires parts { (blank.parts ≡ L.parts) × (L.parts ≡ 65) }
+{
+    let JobInput { job, graph, log } = input;
+    let (core, schedule) = open(alloc, &job, graph, log)?;
+    run_core::<_, _, _, _, L, R, W>(rt, alloc, core, schedule, blank, options, out)
+}
+
+/// Runs a job over its inputs, one for each source task in task order, until it is at rest: the
+/// committed rows of each sink subtask, also where the run is refused. It answers the exit status:
+/// 0, or 1 where the job, its inputs or the run were refused.
+pub fn run_job<
+    'a,
+    R: Threads + Wait + Clock + Sync,
+    J: Read + Drop,
+    F: Read + Drop,
+    W: Write,
+    E: Write,
+>(
+    rt: &R,
+    alloc: Global,
+    job: Input<'a, J>,
+    inputs: Vec<Input<'a, F>>,
+    options: Options,
+    out: &mut W,
+    err: &mut E,
+) -> u8
+    ensures { result ≤ 1 }
+{
+    let outcome = match judge(alloc, job, inputs) {
+        Ok(input) => { run_judged::<Brand, R, W>(rt, alloc, input, Blank::new(65), options, out) }
+        Err(fault) => Err(RunRefusal::from(fault)),
+    };
+    finish_run(outcome, out, err)
+}

@@ -1,0 +1,163 @@
+//! Workers on a station.
+
+ghost use Rattle.std.specs.Prelude.{◌≡◌, ◌+◌, ◌≤◌, ◌<◌, ◌^◌, IfOk, vec_len};
+
+use crate::fault::RunFault;
+use crate::inputs::Place;
+use crate::patience::Patience;
+use crate::station::{Next, Station};
+use commit_sink::Transactions;
+use engine::CoreFault;
+use operators::Operator;
+use snapshot_store::SnapshotStore;
+use source_log::Partitions;
+use std::alloc::Global;
+use std::sync::ledger::{Ledger, Share};
+use std::sync::{Mutex, Wait};
+use std::thread;
+use std::thread::Threads;
+use std::time::Clock;
+
+/// What a run did.
+#[derive(Clone, Copy, PartialEq, Eq, Debug)]
+pub struct Report {
+    /// How often a task's work was accepted.
+    pub finished: u128,
+}
+
+/// A worker's part of the total.
+#[derive(Drop)]
+struct Worker<L: Ledger> {
+    share: Share<L>,
+    finished: u128,
+    ghost one_part: { share.parts ≡ 1 },
+    ghost counted: { share.amount ≡ finished },
+}
+
+impl<L: Ledger> Worker<L> {
+    fn new(share: Share<L>) -> Worker<L>
+        requires { (share.parts ≡ 1) × (share.amount ≡ 0) }
+    {
+        Worker { share, finished: 0 }
+    }
+
+    /// Takes turns until the run is over.
+    fn work<
+        O: Operator,
+        S: SnapshotStore + Drop,
+        X: Transactions + Drop,
+        P: Partitions<Record = O::Record> + Drop,
+        R: Wait + Clock,
+    >(&mut self, rt: &R, station: &Mutex<Station<O, S, X, P, L>>, turns: u64) {
+        let mut patience = Patience::new();
+        for _ in 0..turns {
+            match self.turn(rt, station) {
+                Next::Over => return,
+                Next::Idle => patience.wait(rt),
+                Next::Again | Next::Work(_) => patience = Patience::new(),
+            }
+        }
+    }
+
+    /// One turn, under the lock.
+    fn turn<
+        O: Operator,
+        S: SnapshotStore + Drop,
+        X: Transactions + Drop,
+        P: Partitions<Record = O::Record> + Drop,
+        R: Wait,
+    >(&mut self, rt: &R, station: &Mutex<Station<O, S, X, P, L>>) -> Next {
+        let Worker { share, finished } = self;
+        let mut station = station.lock(rt);
+        let next = station.choose();
+        let Next::Work(Place { task, input }) = next else {
+            return next;
+        };
+        if station.is_spent() {
+            station.stop(RunFault::Core(CoreFault::NumbersSpent));
+            return Next::Over;
+        }
+        let worked = station.work_with(share, task, input);
+        if worked.is_ok() {
+            *finished += 1;
+        }
+        station.worked(Place { task, input }, worked);
+        next
+    }
+}
+
+/// Takes the job to rest, by so many workers, and says how often a task's work was accepted. A job that is
+/// down is restarted first. A checkpoint is triggered after every so many accepted works (0: none but the
+/// last), and a last one is committed. Where it is refused otherwise than for its workers, the job is down.
+pub fn run<
+    O: Operator + Send,
+    S: SnapshotStore + Drop + Send,
+    X: Transactions + Drop + Send,
+    P: Partitions<Record = O::Record> + Drop + Send,
+    L: Ledger + Send + Sync,
+    R: Threads + Wait + Clock + Sync,
+>(
+    rt: &R,
+    alloc: Global,
+    station: &Mutex<Station<O, S, X, P, L>>,
+    all: &mut Share<L>,
+    workers: usize,
+    every: u64,
+    turns: u64,
+    restarts: u64,
+) -> Result<Report, RunFault>
+where
+    O::Record: Send,
+    O::Key: Send,
+    O::State: Send,
+    requires whole { (all.old.parts ≡ L.parts) × (L.parts ≡ 65) }
+    ensures parts { all.new.parts ≡ all.old.parts }
+    ensures finished { IfOk result (λ r. all.new.amount ≡ all.old.amount + r.finished) }
+{
+    if workers == 0 || workers > 64 {
+        return Err(RunFault::BadWorkers);
+    }
+    let Ok(mut crew) = Vec::with_capacity(alloc, workers) else {
+        station.lock(rt).give_up();
+        return Err(RunFault::Memory);
+    };
+    station.lock(rt).begin(every, turns, restarts);
+    for _ in 0..workers {
+        crew.push_reserved(Worker::new(all.split_off(1, 0)));
+    }
+    thread::for_each_mut(
+        rt,
+        crew.as_mut_slice(),
+        workers,
+        &|_: usize, worker: &mut Worker<L>| worker.work(rt, station, turns),
+    );
+    let finished = gather(rt, station, all, crew);
+    station.lock(rt).end()?;
+    Ok(Report { finished })
+}
+
+/// Merges the workers' shares, and says how often their tasks' work was accepted.
+fn gather<
+    O: Operator,
+    S: SnapshotStore + Drop,
+    X: Transactions + Drop,
+    P: Partitions<Record = O::Record> + Drop,
+    L: Ledger,
+    R: Wait,
+>(
+    rt: &R,
+    station: &Mutex<Station<O, S, X, P, L>>,
+    all: &mut Share<L>,
+    mut crew: Vec<Worker<L>>,
+) -> u128
+    ensures parts { all.new.parts ≡ all.old.parts + vec_len crew }
+    ensures finished { all.new.amount ≡ all.old.amount + result }
+{
+    let mut sum: u128 = 0;
+    while let Some(Worker { share, finished }) = crew.pop() {
+        all.merge(share);
+        station.lock(rt).audit(all);
+        sum += finished;
+    }
+    sum
+}

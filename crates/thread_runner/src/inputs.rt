@@ -1,0 +1,108 @@
+//! The inputs of a task that may have something.
+
+use std::alloc::{AllocError, Global};
+use std::collections::VecDeque;
+
+/// An input of a task.
+#[derive(Clone, Copy, PartialEq, Eq, Debug)]
+pub struct Place {
+    pub task: u32,
+    pub input: u32,
+}
+
+/// A task's inputs that may have something, and those that wait for the barriers of others.
+#[derive(Drop)]
+pub(crate) struct Inputs {
+    /// In turn, each at most once.
+    ready: VecDeque<u32>,
+    /// Each at most once.
+    blocked: VecDeque<u32>,
+    /// Of each input, whether it is in one of the two.
+    listed: Vec<bool>,
+}
+
+impl Inputs {
+    /// So many inputs, of which none has anything.
+    pub(crate) fn new(alloc: Global, count: usize) -> Result<Inputs, AllocError> {
+        let mut listed = Vec::new(alloc);
+        listed.resize(count, false)?;
+        Ok(Inputs {
+            ready: VecDeque::with_capacity(alloc, count)?,
+            blocked: VecDeque::with_capacity(alloc, count)?,
+            listed,
+        })
+    }
+
+    /// The input whose turn it is.
+    pub(crate) fn first(&self) -> Option<u32> {
+        self.ready.front().copied()
+    }
+
+    pub(crate) fn is_empty(&self) -> bool {
+        self.ready.is_empty()
+    }
+
+    /// The input may have something.
+    pub(crate) fn mark(&mut self, input: u32) {
+        let Some(listed) = self.listed.get_mut(input as usize) else {
+            return;
+        };
+        if !*listed {
+            *listed = self.ready.push_back(input).is_ok();
+        }
+    }
+
+    /// Every input may have something.
+    pub(crate) fn mark_all(&mut self) {
+        self.unblock();
+        let count = u32::try_from(self.listed.len()).unwrap_or(u32::MAX);
+        for input in 0..count {
+            self.mark(input);
+        }
+    }
+
+    /// The first input comes last.
+    pub(crate) fn turn(&mut self) {
+        if let Some(input) = self.take_first() {
+            self.mark(input);
+        }
+    }
+
+    /// The first input has nothing.
+    pub(crate) fn drop_first(&mut self) {
+        let _ = self.take_first();
+    }
+
+    /// The first input waits for the barriers of others.
+    pub(crate) fn block_first(&mut self) {
+        let Some(input) = self.take_first() else {
+            return;
+        };
+        if let Some(listed) = self.listed.get_mut(input as usize) {
+            *listed = self.blocked.push_back(input).is_ok();
+        }
+    }
+
+    /// The barriers that inputs have waited for have come.
+    pub(crate) fn unblock(&mut self) {
+        for _ in 0..self.blocked.len() {
+            let Some(input) = self.blocked.pop_front() else {
+                return;
+            };
+            self.unlist(input);
+            self.mark(input);
+        }
+    }
+
+    fn take_first(&mut self) -> Option<u32> {
+        let input = self.ready.pop_front()?;
+        self.unlist(input);
+        Some(input)
+    }
+
+    fn unlist(&mut self, input: u32) {
+        if let Some(listed) = self.listed.get_mut(input as usize) {
+            *listed = false;
+        }
+    }
+}

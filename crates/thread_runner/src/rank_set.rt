@@ -1,0 +1,50 @@
+//! Sets of small numbers.
+
+/// A set of numbers below 256, whose greatest is found in constant time.
+#[derive(Drop)]
+pub(crate) struct RankSet {
+    words: [u64; 4],
+}
+
+impl RankSet {
+    pub(crate) fn new() -> RankSet {
+        RankSet { words: [0; 4] }
+    }
+
+    pub(crate) fn insert(&mut self, rank: u32) {
+        if let Some(word) = self.words.get_mut((rank / 64) as usize) {
+            *word |= bit(rank);
+        }
+    }
+
+    pub(crate) fn remove(&mut self, rank: u32) {
+        if let Some(word) = self.words.get_mut((rank / 64) as usize) {
+            *word &= !bit(rank);
+        }
+    }
+
+    pub(crate) fn clear(&mut self) {
+        self.words = [0; 4];
+    }
+
+    /// The greatest, if there is one.
+    pub(crate) fn greatest(&self) -> Option<u32> {
+        let [first, second, third, fourth] = self.words;
+        greatest_in(fourth, 192)
+            .or(greatest_in(third, 128))
+            .or(greatest_in(second, 64))
+            .or(greatest_in(first, 0))
+    }
+}
+
+fn bit(rank: u32) -> u64 {
+    1u64.wrapping_shl(rank % 64)
+}
+
+/// The greatest number of a word, whose lowest bit stands for this number.
+fn greatest_in(word: u64, lowest: u32) -> Option<u32> {
+    if word == 0 {
+        return None;
+    }
+    lowest.checked_add(word.ilog2())
+}

@@ -1,0 +1,140 @@
+//! How far the checkpoint is.
+
+use std::collections::VecDeque;
+
+/// What a checkpoint needs next.
+#[derive(Clone, Copy, PartialEq, Eq, Debug)]
+pub(crate) enum Need {
+    Inject(u32),
+    Persist(u32),
+    Complete,
+    Commit(u32),
+}
+
+#[derive(Clone, Copy, PartialEq, Eq, Debug)]
+enum Stage {
+    /// None is pending, and what was complete is committed.
+    None,
+    Pending,
+    /// It is complete, and sinks commit.
+    Complete,
+}
+
+/// The checkpoint that is made.
+#[derive(Drop)]
+pub(crate) struct Round {
+    stage: Stage,
+    to_inject: VecDeque<u32>,
+    to_persist: VecDeque<u32>,
+    /// How many parts are in the store.
+    persisted: u32,
+    /// The next sink to commit.
+    sink: u32,
+    tasks: u32,
+    sinks: u32,
+}
+
+impl Round {
+    /// Over these queues, which have room for every task.
+    pub(crate) fn new(
+        to_inject: VecDeque<u32>,
+        to_persist: VecDeque<u32>,
+        tasks: u32,
+        sinks: u32,
+    ) -> Round {
+        Round {
+            stage: Stage::None,
+            to_inject,
+            to_persist,
+            persisted: 0,
+            sink: 0,
+            tasks,
+            sinks,
+        }
+    }
+
+    /// No checkpoint is pending.
+    pub(crate) fn clear(&mut self) {
+        self.stage = Stage::None;
+        self.to_inject.clear();
+        self.to_persist.clear();
+    }
+
+    /// A checkpoint begins.
+    pub(crate) fn begin(&mut self, sources: &[u32]) {
+        self.stage = Stage::Pending;
+        self.to_inject.clear();
+        self.to_persist.clear();
+        self.persisted = 0;
+        for &task in sources {
+            let _ = self.to_inject.push_back(task);
+        }
+    }
+
+    pub(crate) fn is_none(&self) -> bool {
+        self.stage == Stage::None
+    }
+
+    pub(crate) fn is_pending(&self) -> bool {
+        self.stage == Stage::Pending
+    }
+
+    /// What is needed next, if anything can be done for it now.
+    pub(crate) fn next(&self) -> Option<Need> {
+        match self.stage {
+            Stage::None => None,
+            Stage::Pending => self.next_part(),
+            Stage::Complete => Some(Need::Commit(self.sink)),
+        }
+    }
+
+    fn next_part(&self) -> Option<Need> {
+        if let Some(task) = self.to_inject.front() {
+            return Some(Need::Inject(*task));
+        }
+        if let Some(task) = self.to_persist.front() {
+            return Some(Need::Persist(*task));
+        }
+        if self.persisted >= self.tasks {
+            return Some(Need::Complete);
+        }
+        None
+    }
+
+    /// A task's copy is whole.
+    pub(crate) fn copied(&mut self, task: u32) {
+        let _ = self.to_persist.push_back(task);
+    }
+
+    /// The first source has injected, now or before.
+    pub(crate) fn injected(&mut self) {
+        let _ = self.to_inject.pop_front();
+    }
+
+    /// The first copy is in the store, now or before.
+    pub(crate) fn persisted(&mut self, is_new: bool) {
+        let _ = self.to_persist.pop_front();
+        if is_new {
+            self.persisted = self.persisted.saturating_add(1);
+        }
+    }
+
+    /// The checkpoint is complete.
+    pub(crate) fn completed(&mut self) {
+        self.stage = Stage::Complete;
+        self.sink = 0;
+        self.end_if_committed();
+    }
+
+    /// The next sink has committed.
+    pub(crate) fn committed(&mut self) {
+        self.sink = self.sink.saturating_add(1);
+        self.end_if_committed();
+    }
+
+    fn end_if_committed(&mut self) {
+        if self.sink >= self.sinks {
+            self.stage = Stage::None;
+        }
+    }
+}

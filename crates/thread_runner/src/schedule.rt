@@ -1,0 +1,405 @@
+//! Which step comes next. Nothing is proved of it but that it ends: every call of the core is right
+//! whatever is asked for, and what the schedule forgot is found by a pass over all before a run ends.
+
+use crate::inputs::{Inputs, Place};
+use crate::rank_set::RankSet;
+use crate::round::{Need, Round};
+use std::collections::VecDeque;
+
+/// A step of a run.
+#[derive(Clone, Copy, PartialEq, Eq, Debug)]
+pub enum Step {
+    /// Nothing is left to do.
+    Over,
+    /// Nothing is to be had until a claim ends.
+    Idle,
+    /// Nothing is to be had at once, and the next choice finds out more.
+    Look,
+    Restart,
+    Trigger,
+    Inject(u32),
+    Persist(u32),
+    Complete,
+    Commit(u32),
+    Read(u32),
+    Work(Place),
+}
+
+/// A task as the schedule sees it.
+#[derive(Drop)]
+pub(crate) struct Node {
+    /// Its place in the graph's order: behind the senders of its unmarked inputs.
+    pub(crate) rank: u32,
+    pub(crate) inputs: Inputs,
+    /// The ends of the channels that it sends on.
+    pub(crate) ends: Vec<Place>,
+    /// How often it has sent since the ends were marked.
+    pub(crate) sent: usize,
+    /// Whether it holds a claim.
+    pub(crate) is_busy: bool,
+}
+
+/// What may have something, so that the next step is found in the same time whatever the number of
+/// tasks and channels. The task that stands furthest downstream comes first, so channels stay short.
+#[derive(Drop)]
+pub struct Schedule {
+    nodes: Vec<Node>,
+    /// The task of each rank.
+    order: Vec<u32>,
+    /// Which tasks are sources.
+    all_sources: Vec<u32>,
+    /// The ranks of tasks that hold no claim and have an input that may have something.
+    ready: RankSet,
+    /// The ranks of tasks that have sent since the ends of their channels were marked.
+    senders: RankSet,
+    /// The sources that may have a record, in turn.
+    sources: VecDeque<u32>,
+    round: Round,
+    /// How many claims are held.
+    claims: u64,
+    /// How many finishes come between triggers: 0 for any number.
+    every: u64,
+    /// How many came since the last one.
+    finishes: u64,
+    /// Whether a restart comes next.
+    is_down: bool,
+    /// Whether every input was marked since a step was last made.
+    is_searched: bool,
+    /// Whether the checkpoint that was triggered last is of a job at rest.
+    is_last: bool,
+}
+
+impl Schedule {
+    /// Over these tasks. The queues have room for every task.
+    pub(crate) fn over(
+        nodes: Vec<Node>,
+        order: Vec<u32>,
+        all_sources: Vec<u32>,
+        sources: VecDeque<u32>,
+        round: Round,
+    ) -> Schedule {
+        Schedule {
+            nodes,
+            order,
+            all_sources,
+            ready: RankSet::new(),
+            senders: RankSet::new(),
+            sources,
+            round,
+            claims: 0,
+            every: 0,
+            finishes: 0,
+            is_down: true,
+            is_searched: false,
+            is_last: false,
+        }
+    }
+
+    /// A run begins, and a restart comes first.
+    pub(crate) fn begin(&mut self, every: u64) {
+        self.every = every;
+        self.went_down();
+    }
+
+    /// The job is down.
+    pub(crate) fn went_down(&mut self) {
+        self.is_down = true;
+        self.is_last = false;
+    }
+
+    /// The next step.
+    pub(crate) fn next(&mut self) -> Step {
+        if self.is_down {
+            return Step::Restart;
+        }
+        if self.is_last && self.round.is_none() {
+            return Step::Over;
+        }
+        match self.round.next() {
+            Some(need) => step_for(need),
+            None if self.is_due() => Step::Trigger,
+            None => self.next_record(),
+        }
+    }
+
+    fn is_due(&self) -> bool {
+        self.every > 0 && self.finishes >= self.every && self.round.is_none()
+    }
+
+    /// A step that takes a record or a barrier, and what is to be done where there is none.
+    fn next_record(&mut self) -> Step {
+        if let Some(place) = self.next_input() {
+            return Step::Work(place);
+        }
+        if let Some(task) = self.sources.front() {
+            return Step::Read(*task);
+        }
+        if self.mark_sender() {
+            return Step::Look;
+        }
+        if self.claims > 0 {
+            return Step::Idle;
+        }
+        if !self.is_searched {
+            self.mark_everything();
+            return Step::Look;
+        }
+        self.at_rest()
+    }
+
+    /// The first input of the task that stands furthest downstream.
+    fn next_input(&self) -> Option<Place> {
+        let task = self.task_at(self.ready.greatest()?)?;
+        let input = self.nodes.get(task as usize)?.inputs.first()?;
+        Some(Place { task, input })
+    }
+
+    fn task_at(&self, rank: u32) -> Option<u32> {
+        self.order.get(rank as usize).copied()
+    }
+
+    /// A checkpoint of the job at rest; where one is pending, its end.
+    fn at_rest(&mut self) -> Step {
+        if self.round.is_pending() {
+            return Step::Complete;
+        }
+        self.is_last = true;
+        Step::Trigger
+    }
+
+    /// The job is up, and anything may be anywhere.
+    pub(crate) fn restarted(&mut self) {
+        self.is_down = false;
+        self.claims = 0;
+        self.finishes = 0;
+        self.round.clear();
+        for node in self.nodes.iter_mut() {
+            node.is_busy = false;
+        }
+        self.mark_everything();
+        self.moved();
+    }
+
+    /// Marks every input and every source.
+    fn mark_everything(&mut self) {
+        self.is_searched = true;
+        self.ready.clear();
+        self.senders.clear();
+        for node in self.nodes.iter_mut() {
+            node.sent = 0;
+            node.inputs.mark_all();
+            if !node.is_busy && !node.inputs.is_empty() {
+                self.ready.insert(node.rank);
+            }
+        }
+        self.sources.clear();
+        for task in self.all_sources.iter() {
+            let _ = self.sources.push_back(*task);
+        }
+    }
+
+    /// A record has moved.
+    fn moved(&mut self) {
+        self.is_searched = false;
+        self.is_last = false;
+    }
+
+    /// Marks the ends of a task that has sent since they were marked last. Whether there was one.
+    fn mark_sender(&mut self) -> bool {
+        let Some(rank) = self.senders.greatest() else {
+            return false;
+        };
+        self.senders.remove(rank);
+        if let Some(task) = self.task_at(rank) {
+            self.mark_ends(task);
+        }
+        true
+    }
+
+    /// Marks the ends of the channels that a task sends on.
+    fn mark_ends(&mut self, task: u32) {
+        let Some(node) = self.nodes.get_mut(task as usize) else {
+            return;
+        };
+        node.sent = 0;
+        let (rank, ends) = (node.rank, node.ends.len());
+        self.senders.remove(rank);
+        for number in 0..ends {
+            if let Some(place) = self.end_of(task, number) {
+                self.mark(place);
+            }
+        }
+    }
+
+    fn end_of(&self, task: u32, number: usize) -> Option<Place> {
+        self.nodes.get(task as usize)?.ends.get(number).copied()
+    }
+
+    fn mark(&mut self, place: Place) {
+        if let Some(node) = self.nodes.get_mut(place.task as usize) {
+            node.inputs.mark(place.input);
+        }
+        self.judge(place.task);
+    }
+
+    /// Whether a task is ready is said anew.
+    fn judge(&mut self, task: u32) {
+        let Some(node) = self.nodes.get(task as usize) else {
+            return;
+        };
+        if node.is_busy || node.inputs.is_empty() {
+            self.ready.remove(node.rank);
+        } else {
+            self.ready.insert(node.rank);
+        }
+    }
+
+    /// A task may have sent. The ends of its channels are marked once it has sent as often as it has
+    /// channels, so that a mark costs the same however many there are.
+    fn sent(&mut self, task: u32) {
+        let Some(node) = self.nodes.get_mut(task as usize) else {
+            return;
+        };
+        node.sent = node.sent.saturating_add(1);
+        if node.sent >= node.ends.len() {
+            self.mark_ends(task);
+        } else {
+            let rank = node.rank;
+            self.senders.insert(rank);
+        }
+    }
+
+    /// A task has taken a record from its first input.
+    pub(crate) fn worked(&mut self, task: u32) {
+        self.moved();
+        self.finishes = self.finishes.saturating_add(1);
+        if let Some(node) = self.nodes.get_mut(task as usize) {
+            node.inputs.turn();
+        }
+        self.judge(task);
+        self.sent(task);
+    }
+
+    /// A task's first input has nothing.
+    pub(crate) fn had_nothing(&mut self, task: u32) {
+        if let Some(node) = self.nodes.get_mut(task as usize) {
+            node.inputs.drop_first();
+        }
+        self.judge(task);
+    }
+
+    /// A task's first input waits for the barriers of others.
+    pub(crate) fn is_blocked(&mut self, task: u32) {
+        if let Some(node) = self.nodes.get_mut(task as usize) {
+            node.inputs.block_first();
+        }
+        self.judge(task);
+    }
+
+    /// The next source has sent a record.
+    pub(crate) fn read(&mut self) {
+        self.moved();
+        if let Some(task) = self.sources.pop_front() {
+            let _ = self.sources.push_back(task);
+            self.sent(task);
+        }
+    }
+
+    /// The next source has no record.
+    pub(crate) fn had_no_record(&mut self) {
+        let _ = self.sources.pop_front();
+    }
+
+    /// A checkpoint is pending: a new one, or one that others have begun.
+    pub(crate) fn triggered(&mut self, is_new: bool) {
+        self.finishes = 0;
+        self.is_searched = false;
+        self.round.begin(&self.all_sources);
+        if !is_new {
+            self.is_last = false;
+            for task in self.order.iter() {
+                self.round.copied(*task);
+            }
+        }
+    }
+
+    /// The next source has injected: now, or it had before.
+    pub(crate) fn injected(&mut self, task: u32, is_new: bool) {
+        self.is_searched = false;
+        self.round.injected();
+        if is_new {
+            self.round.copied(task);
+            self.mark_ends(task);
+        }
+    }
+
+    /// A task has taken the barrier of its first input.
+    pub(crate) fn took_barrier(&mut self, task: u32, is_copy: bool, is_done: bool) {
+        self.is_searched = false;
+        if let Some(node) = self.nodes.get_mut(task as usize) {
+            node.inputs.turn();
+            if is_copy || is_done {
+                node.inputs.unblock();
+            }
+        }
+        self.judge(task);
+        if is_copy {
+            self.mark_ends(task);
+        }
+        if is_done {
+            self.round.copied(task);
+        }
+    }
+
+    pub(crate) fn persisted(&mut self, is_new: bool) {
+        self.is_searched = false;
+        self.round.persisted(is_new);
+    }
+
+    pub(crate) fn completed(&mut self) {
+        self.round.completed();
+    }
+
+    pub(crate) fn committed(&mut self) {
+        self.round.committed();
+    }
+
+    /// Others have ended the checkpoint that was pending.
+    pub(crate) fn has_no_checkpoint(&mut self) {
+        self.is_searched = false;
+        self.is_last = false;
+        self.round.clear();
+    }
+
+    pub(crate) fn is_pending(&self) -> bool {
+        self.round.is_pending()
+    }
+
+    /// A task holds a claim.
+    pub(crate) fn claimed(&mut self, task: u32) {
+        self.claims = self.claims.saturating_add(1);
+        self.set_busy(task, true);
+    }
+
+    /// A task's claim has ended.
+    pub(crate) fn unclaimed(&mut self, task: u32) {
+        self.claims = self.claims.saturating_sub(1);
+        self.set_busy(task, false);
+    }
+
+    fn set_busy(&mut self, task: u32, is_busy: bool) {
+        if let Some(node) = self.nodes.get_mut(task as usize) {
+            node.is_busy = is_busy;
+        }
+        self.judge(task);
+    }
+}
+
+fn step_for(need: Need) -> Step {
+    match need {
+        Need::Inject(task) => Step::Inject(task),
+        Need::Persist(task) => Step::Persist(task),
+        Need::Complete => Step::Complete,
+        Need::Commit(sink) => Step::Commit(sink),
+    }
+}

@@ -1,0 +1,158 @@
+//! The turns of a run: what is done at each, and what its outcome means for the next.
+
+use crate::fault::RunFault;
+use crate::inputs::Place;
+use crate::schedule::{Schedule, Step};
+use alignment::Effect;
+use engine::CoreFault;
+
+/// The turns of the present run.
+#[derive(Drop)]
+pub(crate) struct Turns {
+    schedule: Schedule,
+    /// How many are left.
+    left: u64,
+    /// How many restarts are left.
+    restarts: u64,
+    /// How the run has ended, once it has.
+    end: Option<Result<(), RunFault>>,
+}
+
+impl Turns {
+    /// No turn, before the first run.
+    pub(crate) fn new(schedule: Schedule) -> Turns {
+        Turns {
+            schedule,
+            left: 0,
+            restarts: 0,
+            end: None,
+        }
+    }
+
+    /// A run of so many turns begins.
+    pub(crate) fn begin(&mut self, every: u64, turns: u64, restarts: u64) {
+        self.schedule.begin(every);
+        self.left = turns;
+        self.restarts = restarts;
+        self.end = None;
+    }
+
+    /// One turn: the step that is to be made.
+    pub(crate) fn choose(&mut self) -> Step {
+        if self.end.is_some() {
+            return Step::Over;
+        }
+        let step = self.schedule.next();
+        if step == Step::Over {
+            self.end = Some(Ok(()));
+        } else if self.left == 0 {
+            self.stop(RunFault::TurnsSpent);
+            return Step::Over;
+        } else {
+            self.left -= 1;
+        }
+        step
+    }
+
+    /// How the run has ended. Where its workers have left before it was over, its turns are spent.
+    pub(crate) fn end(&mut self) -> Result<(), RunFault> {
+        if let Some(end) = self.end {
+            return end;
+        }
+        if self.schedule.next() == Step::Over {
+            Ok(())
+        } else {
+            Err(RunFault::TurnsSpent)
+        }
+    }
+
+    /// The run ends by a refusal.
+    pub(crate) fn stop(&mut self, fault: RunFault) {
+        self.end = Some(Err(fault));
+    }
+
+    /// Whether barriers of a pending checkpoint may stand at the heads of inputs.
+    pub(crate) fn awaits_barriers(&self) -> bool {
+        self.schedule.is_pending()
+    }
+
+    /// What came of a step that is no task's work.
+    pub(crate) fn made(&mut self, step: Step, outcome: Result<(), CoreFault>) {
+        match outcome {
+            Ok(()) => self.accepted(step),
+            Err(fault) => self.refused(step, fault),
+        }
+    }
+
+    /// What came of a task's work.
+    pub(crate) fn worked(&mut self, place: Place, outcome: Result<(), CoreFault>) {
+        match outcome {
+            Ok(()) => self.schedule.worked(place.task),
+            Err(fault) => self.refused(Step::Work(place), fault),
+        }
+    }
+
+    /// What came of a task's taking of a barrier.
+    pub(crate) fn took_barrier(&mut self, place: Place, outcome: Result<Effect, CoreFault>) {
+        match outcome {
+            Ok(effect) => {
+                let is_copy = matches!(effect, Effect::Copy | Effect::CopyAndDone);
+                let is_done = matches!(effect, Effect::Done | Effect::CopyAndDone);
+                self.schedule.took_barrier(place.task, is_copy, is_done);
+            }
+            Err(fault) => self.refused(Step::Work(place), fault),
+        }
+    }
+
+    fn accepted(&mut self, step: Step) {
+        match step {
+            Step::Restart => self.schedule.restarted(),
+            Step::Trigger => self.schedule.triggered(true),
+            Step::Inject(task) => self.schedule.injected(task, true),
+            Step::Persist(_) => self.schedule.persisted(true),
+            Step::Complete => self.schedule.completed(),
+            Step::Commit(_) => self.schedule.committed(),
+            Step::Read(_) => self.schedule.read(),
+            Step::Work(_) | Step::Over | Step::Idle | Step::Look => {}
+        }
+    }
+
+    fn refused(&mut self, step: Step, fault: CoreFault) {
+        match fault {
+            CoreFault::Memory => self.stop(RunFault::Memory),
+            CoreFault::NumbersSpent | CoreFault::BadSnapshot => self.stop(RunFault::Core(fault)),
+            CoreFault::Device | CoreFault::NotRunning => self.went_down(),
+            CoreFault::CommitFault | CoreFault::Stale => {}
+            CoreFault::NoCheckpoint => self.schedule.has_no_checkpoint(),
+            other => self.found_nothing(step, other),
+        }
+    }
+
+    /// The job is restarted next, if a restart is left.
+    fn went_down(&mut self) {
+        if self.restarts == 0 {
+            self.stop(RunFault::RestartsSpent);
+        } else {
+            self.restarts -= 1;
+            self.schedule.went_down();
+        }
+    }
+
+    /// A step had nothing to do.
+    fn found_nothing(&mut self, step: Step, fault: CoreFault) {
+        match step {
+            Step::Restart => self.schedule.restarted(),
+            Step::Trigger => self.schedule.triggered(false),
+            Step::Inject(task) => self.schedule.injected(task, false),
+            Step::Persist(_) => self.schedule.persisted(false),
+            Step::Complete => self.stop(RunFault::Core(fault)),
+            Step::Commit(_) => self.schedule.committed(),
+            Step::Read(_) => self.schedule.had_no_record(),
+            Step::Work(place) if fault == CoreFault::ChannelBlocked => {
+                self.schedule.is_blocked(place.task);
+            }
+            Step::Work(place) => self.schedule.had_nothing(place.task),
+            Step::Over | Step::Idle | Step::Look => {}
+        }
+    }
+}
