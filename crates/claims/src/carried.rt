@@ -1,13 +1,14 @@
 //! Work, and what was made of it.
 
-ghost use Rattle.std.specs.Prelude.{◌≡◌, IfOk, IfErr};
+ghost use Rattle.std.specs.Prelude.{◌≡◌, IfOk};
 ghost use Rattle.abs_codec.specs.Spelling.{Fits};
 ghost use Rattle.operators.specs.Operator.{IsGoodState};
 ghost use Rattle.claims.specs.declared.parts.Given.TheVariants as Given;
 ghost use Rattle.claims.specs.Carried.{IsOperand, IsOutcome, given_of};
 
 use crate::parts::{Given, Made, Operand};
-use abs_codec::{Codec, NoMemory};
+use abs_codec::NoMemory;
+use core_calls::row_spelling;
 use operators::{Operator, Outcome};
 use std::alloc::Global;
 use std::marker::Model;
@@ -111,15 +112,5 @@ impl<O: Operator> Work<O> {
             Given::Operator(operand) => worked_operand(alloc, operand),
             Given::Sink(row) => worked_row(alloc, row),
         }
-    }
-}
-
-fn row_spelling<R: Codec>(alloc: Global, row: &R) -> Result<Vec<u8>, NoMemory>
-    ensures ok { IfOk result (λ bytes. bytes.items ≡ R.spelling row.now) }
-{
-    let mut bytes = Vec::new(alloc);
-    match row.encode(&mut bytes) {
-        Ok(()) => Ok(bytes),
-        Err(_) => Err(NoMemory),
     }
 }

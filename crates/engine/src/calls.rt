@@ -32,7 +32,7 @@ ghost use Rattle.core_model.specs.RestartLaws.{GoesOnFromCut};
 ghost use Rattle.checkpoint_model.specs.Cuts.{IsReachedCut};
 ghost use Rattle.dataflow_model.specs.Graph.{Begins};
 ghost use Rattle.dataflow_model.specs.Machine as machine;
-ghost use Rattle.engine.specs.Tasks.{EndsWork, EndsBarrier};
+ghost use Rattle.claims.specs.Tasks.{EndsWork, EndsBarrier};
 ghost use Rattle.engine.specs.Running.{IsCounted, IsSameJob, number_of, raised, attempts_after, OnDown, OnAttempt, OnStore, OnTransactions};
 
 use crate::tasks::{take_barrier, work_task};
