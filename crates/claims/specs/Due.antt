@@ -35,6 +35,12 @@ pub record IsRowDue {R K S : Type 0} (graph : Expanded) (task input : ℕ) (h : 
   pub leads : input_at graph task input ≡ Some channel
   pub first : IsRecordDue task input h channel row
 
+-- whether there is such a task and input is answered
+abbrev pub EndsAsking : Expanded → (task input : ℕ) → Result Unit CoreFault → Type 0
+EndsAsking graph task input (Ok u) = (channel : ℕ) × WorksFrom graph task input channel
+EndsAsking graph task input (Err NoSuchTask) = (channel : ℕ) → ¬ WorksFrom graph task input channel
+EndsAsking graph task input (Err other) = ⊥
+
 module _ {R K S O : Type 0} (lang : Language R K S O) (graph : Expanded) (operators : List O) (task input : ℕ) (h : Held R K S) where
   -- The task is this operator, the input is this channel, from which the record is the next to take, and the task has this state under the
   -- record's key, or none.
