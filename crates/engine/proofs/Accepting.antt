@@ -53,11 +53,11 @@ module _ {R K S O : Type 0} (lang : Language R K S O) (graph : Expanded) (operat
     where
       by : EndsWork lang graph operators task input h k old new result ⊎ Refuses h k old new result → IsCounted a b result
       by (inl e) = work_counted graph task h k a b lang result operators input old new e rises stays
-      by (inr (inl is, e)) = subst (IsCounted a b) (sym is) (stays (λ device. absurd (wrong (sym is ∙ device))))
+      by (inr (inl is, e, l)) = subst (IsCounted a b) (sym is) (stays (λ device. absurd (wrong (sym is ∙ device))))
         where
           wrong : ◌≡◌ {A = Result Unit CoreFault} (Err WrongResult) (Err Device) → ⊥
           wrong e = cc
-      by (inr (inr is, e)) = subst (IsCounted a b) (sym is) (stays (λ device. absurd (memory (sym is ∙ device))))
+      by (inr (inr is, e, l)) = subst (IsCounted a b) (sym is) (stays (λ device. absurd (memory (sym is ∙ device))))
         where
           memory : ◌≡◌ {A = Result Unit CoreFault} (Err Memory) (Err Device) → ⊥
           memory e = cc
@@ -69,8 +69,8 @@ module _ {R K S O : Type 0} (lang : Language R K S O) (RecordFits : R → Type 0
 
   -- a refused result takes nothing down
   refused_held : Refuses h k s.ledger ledger result → left_by result (Some k) ≡ Some k
-  refused_held (inl is, e) = ap (λ (x : Result Unit CoreFault). left_by x (Some k)) is
-  refused_held (inr is, e) = ap (λ (x : Result Unit CoreFault). left_by x (Some k)) is
+  refused_held (inl is, e, l) = ap (λ (x : Result Unit CoreFault). left_by x (Some k)) is
+  refused_held (inr is, e, l) = ap (λ (x : Result Unit CoreFault). left_by x (Some k)) is
 
   refused_kept : Refuses h k s.ledger ledger result → (n : ℕ) → KeepsAndGoes lang RecordFits IsGood s (left ledger n)
   refused_kept e n =
@@ -84,8 +84,8 @@ module _ {R K S O : Type 0} (lang : Language R K S O) (RecordFits : R → Type 0
   refused_stays e n = stays_same lang s (record s { held = left_by result (Some k); ledger = ledger; faults = s.faults }) (λ i. record s { held = same_held e i; ledger = e.2 i })
 
   refused_steps : Refuses h k s.ledger ledger result → (channel n : ℕ) → StepsIfOk result lang (Work task channel) s (left ledger n)
-  refused_steps (inl is, e) channel n = subst (λ (x : Result Unit CoreFault). StepsIfOk x lang (Work task channel) s (left ledger n)) (sym is) (refused_stays (inl is, e) n)
-  refused_steps (inr is, e) channel n = subst (λ (x : Result Unit CoreFault). StepsIfOk x lang (Work task channel) s (left ledger n)) (sym is) (refused_stays (inr is, e) n)
+  refused_steps (inl is, e, l) channel n = subst (λ (x : Result Unit CoreFault). StepsIfOk x lang (Work task channel) s (left ledger n)) (sym is) (refused_stays (inl is, e, l) n)
+  refused_steps (inr is, e, l) channel n = subst (λ (x : Result Unit CoreFault). StepsIfOk x lang (Work task channel) s (left ledger n)) (sym is) (refused_stays (inr is, e, l) n)
 
   module _ (ends : EndsAccept lang s.graph s.operators task input h k s.ledger ledger m result) where
     pub accept_kept : (n : ℕ) → ((operator : O) → GoesOn lang RecordFits IsGood operator) → IsOrdered ledger → KeepsAndGoes lang RecordFits IsGood s (left ledger n)
