@@ -1,0 +1,3 @@
+pub mod Calls
+pub mod CoreState
+pub mod Steps
