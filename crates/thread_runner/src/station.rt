@@ -8,7 +8,7 @@ ghost use Rattle.core_model.specs.Goes.{Goes};
 ghost use Rattle.core_model.specs.Language.{language};
 ghost use Rattle.core_model.specs.Sound.{IsSound};
 ghost use Rattle.dataflow_model.specs.Graph.{Begins};
-ghost use Rattle.engine.specs.Tasks.{EndsWork};
+ghost use Rattle.claims.specs.Tasks.{EndsWork};
 ghost use Rattle.engine.specs.Running.{OnTransactions};
 
 use crate::fault::RunFault;
