@@ -3,12 +3,13 @@
 ghost use Rattle.std.specs.Prelude.{◌≡◌, ◌≤◌};
 ghost use Rattle.job_input.specs.Judged.{IsJudged};
 
+use crate::committed::Committed;
 use crate::opening::open;
 use crate::options::Options;
 use crate::refusal::{RunRefusal, finish_run};
 use absflow_run::print_committed;
 use commit_sink::Transactions;
-use engine::Engine as Core;
+use dataflow_core::Core;
 use job_input::{Input, JobInput, judge};
 use operators::{Operator, Row};
 use snapshot_store::SnapshotStore;
@@ -20,7 +21,7 @@ use std::sync::ledger::{Blank, Ledger};
 use std::sync::{Mutex, Wait};
 use std::thread::Threads;
 use std::time::Clock;
-use thread_runner::{Schedule, Station, run};
+use thread_runner::{NoPause, Schedule, Station, run};
 
 /// A job that goes down is restarted so often.
 const RESTARTS: u64 = 8;
@@ -66,9 +67,10 @@ where
         every,
         turns,
         RESTARTS,
+        &NoPause,
     );
     let core = station.into_inner().into_core();
-    let printed = print_committed(alloc, &core, out);
+    let printed = print_committed(alloc, &Committed(&core), out);
     report?;
     Ok(printed?)
 }
