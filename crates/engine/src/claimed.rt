@@ -15,8 +15,8 @@ ghost use Rattle.core_plain.specs.Plain.{StepsIfOk, Stays};
 ghost use Rattle.claims.specs.Due.{EndsAsking, EndsOffer, EndsAccept};
 ghost use Rattle.engine.specs.Running.{IsCounted, IsSameJob, OnTransactions};
 
-use crate::calls::{leave, Engine};
-use claims::{accept, channel_of, offer, Work, Worked};
+use crate::calls::{Engine, leave};
+use claims::{Work, Worked, accept, channel_of, offer};
 use commit_sink::Transactions;
 use core_model::CoreFault;
 use operators::Operator;
