@@ -1,5 +1,5 @@
 -- Which work is due, as the calls find it.
-use Rattle.std.proofs.Common.{◌≡◌, ◌<◌, ◌↔◌, Option, Some, None, IsTrue, IfSome, IfNone, Result, Ok, Err, slice_get, length, unwrap_or, is_some, ℕ, List, true, refl, sym, ap, subst, ◌∙◌, arith}
+use Rattle.std.proofs.Common.{◌≡◌, ◌<◌, ◌↔◌, Option, Some, None, IsTrue, IfSome, IfNone, Ok, slice_get, length, unwrap_or, is_some, ℕ, List, refl, sym, ap, subst, ◌∙◌, arith}
 use Rattle.std.specs.declared.cmp.Ordering.{Ordering}
 use Rattle.std.proofs.lemmas.Option.{slice_get_within}
 use Rattle.abs_codec.specs.Entries.{value_at}
@@ -17,15 +17,12 @@ use Rattle.job_state.specs.declared.holding.Holding.TheVariants as holds
 use Rattle.operators.specs.declared.operator.Outcome.{Outcome}
 use Rattle.core_calls.proofs.Holdings.{none_past, found_is, works_same}
 use Rattle.core_calls.proofs.Numbers.{operator_within}
-use Rattle.core_calls.proofs.Taking.{channel_in}
 use Rattle.core_model.specs.Calls.{input_at, state_of, IsRecordDue, OperatesNext}
-use Rattle.core_model.specs.Keeps.{Shape, GateFits}
+use Rattle.core_model.specs.Keeps.{GateFits}
 use Rattle.core_model.specs.Language.{Language}
-use Rattle.core_model.specs.declared.fault.CoreFault.{CoreFault}
 use Rattle.core_model.proofs.Gates.{within_gate}
 use Rattle.claims.specs.Carried.{state_worked, IsOperand, IsOutcome}
-use Rattle.claims.specs.Due.{IsOperandDue, IsDue, EndsTaking}
-use Rattle.claims.specs.Tasks.{EndsWork}
+use Rattle.claims.specs.Due.{IsOperandDue, EndsTaking}
 use Rattle.claims.specs.declared.parts.Operand.{Operand}
 use Rattle.claims.specs.declared.parts.Given.TheVariants as given
 use Rattle.claims.proofs.Works.{works_by_operator}

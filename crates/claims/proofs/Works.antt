@@ -1,5 +1,5 @@
 -- A task works as what it is.
-use Rattle.std.proofs.Common.{◌≡◌, Option, Some, None, Result, slice_get, ℕ, List, refl, sym, subst}
+use Rattle.std.proofs.Common.{◌≡◌, Option, Some, Result, slice_get, ℕ, List, refl, sym, subst}
 use Rattle.commit_sink.specs.Ledger.{Ledger}
 use Rattle.job_graph.specs.Expanded.{Expanded}
 use Rattle.job_graph.specs.declared.role.Role.{Role}

@@ -1,5 +1,5 @@
 -- What a claim carries.
-use Rattle.std.specs.Prelude.{◌≡◌, ℕ, Bool, true, false, List, Option, Some, None, IfSome}
+use Rattle.std.specs.Prelude.{◌≡◌, ℕ, List, Option, Some, None, IfSome}
 use Rattle.dataflow_model.specs.Graph.{Meaning}
 use Rattle.operators.specs.declared.operator.Outcome.{Outcome}
 use Rattle.claims.specs.declared.parts.Operand.{Operand}

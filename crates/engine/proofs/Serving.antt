@@ -1,21 +1,14 @@
 -- What a running job gives its calls.
-use Rattle.std.proofs.Common.{◌≡◌, ◌<◌, Some, None, Result, Ok, Err, OnOk, IfOk, slice_get, length, ℕ, true, List, refl, sym, subst, ◌∙◌, arith}
-use Rattle.std.specs.declared.cmp.Ordering.{Ordering}
-use Rattle.std.proofs.lemmas.Option.{slice_get_within}
-use Rattle.commit_sink.specs.Ledger.{Ledger, open_refusal}
-use Rattle.commit_sink.specs.Sink.{Sinking}
+use Rattle.std.proofs.Common.{◌≡◌, ◌<◌, Some, None, Result, Ok, Err, OnOk, IfOk, slice_get, length, ℕ, true, refl, sym, subst, ◌∙◌}
+use Rattle.commit_sink.specs.Ledger.{Ledger}
 use Rattle.coordinator.specs.Coordinator.{IsReady}
-use Rattle.job_graph.specs.Expanded.{Expanded}
-use Rattle.job_graph.specs.declared.role.Role.{Role}
 use Rattle.job_graph.specs.declared.role.Role.TheVariants as role
 use Rattle.job_state.specs.Held.{Held}
-use Rattle.job_state.specs.declared.holding.Holding.TheVariants as holds
 use Rattle.snapshot_store.specs.Store.{Stored, complete_refusal, has_all_parts}
-use Rattle.core_calls.proofs.Holdings.{none_past}
-use Rattle.core_calls.proofs.Numbers.{source_within, operator_within, sink_within}
+use Rattle.core_calls.proofs.Numbers.{source_within}
 use Rattle.core_model.specs.Calls.{EndsComplete}
 use Rattle.core_model.specs.Commits.{EndsCommit}
-use Rattle.core_model.specs.Keeps.{Keeps, GateFits}
+use Rattle.core_model.specs.Keeps.{Keeps}
 use Rattle.core_model.specs.LastCommitted.{committed_of, complete_numbers}
 use Rattle.core_model.specs.declared.fault.CoreFault.{CoreFault}
 use Rattle.core_model.specs.Language.{Language}
@@ -23,7 +16,6 @@ use Rattle.core_model.specs.Sound.{IsSound}
 use Rattle.core_model.specs.State.{State}
 use Rattle.core_model.proofs.CallLasts.{commits_reach}
 use Rattle.core_model.proofs.CallGoes.{shape_of, runs_of}
-use Rattle.core_model.proofs.LedgerSinks.{open_not_refused}
 use Rattle.core_model.proofs.Sounds.{as_fresh, keeps_as_fresh}
 use Rattle.core_model.proofs.StoreComplete.{may_complete, ready_parts}
 use Rattle.core_model.proofs.StoreRuns.{runs_pending}

@@ -1,14 +1,13 @@
 -- A task works, or takes a barrier, as what it is.
-use Rattle.std.proofs.Common.{◌≡◌, ◌<◌, Option, Some, None, Result, MatchOption, slice_get, ℕ, List, refl, sym, ap, subst, ◌∙◌}
+use Rattle.std.proofs.Common.{◌≡◌, ◌<◌, Option, Some, None, Result, MatchOption, slice_get, ℕ, refl, sym, ap, subst, ◌∙◌}
 use Rattle.alignment.specs.declared.input.Effect.{Effect}
 use Rattle.commit_sink.specs.Ledger.{Ledger, IsOrdered}
 use Rattle.dataflow_model.specs.Machine.{Work}
-use Rattle.job_graph.specs.Expanded.{Expanded}
 use Rattle.job_graph.specs.declared.role.Role.{Role}
 use Rattle.job_graph.specs.declared.role.Role.TheVariants as role
 use Rattle.job_state.specs.Held.{Held}
 use Rattle.core_calls.proofs.Numbers.{operator_within}
-use Rattle.core_model.specs.Calls.{EndsOperate, input_at, left_by}
+use Rattle.core_model.specs.Calls.{input_at, left_by}
 use Rattle.core_model.specs.Keeps.{Keeps}
 use Rattle.core_model.specs.Language.{Language}
 use Rattle.core_model.specs.State.{State}
