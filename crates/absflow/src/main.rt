@@ -79,9 +79,7 @@ fn run_files<R: Threads + Wait + Clock + Sync>(
     let mut out = BufWriter::new(alloc, io::writer(rt))?;
     let mut err = rt.stderr();
     let job = named(rt, job);
-    Ok(ExitCode::from(run_job(
-        threads, alloc, job, files, options, &mut out, &mut err,
-    )))
+    Ok(ExitCode::from(run_job(threads, alloc, job, files, options, &mut out, &mut err)))
 }
 
 /// Does the command of the line.

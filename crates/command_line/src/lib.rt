@@ -152,7 +152,9 @@ fn script_command<'a>(alloc: Global) -> Result<Command<'a>, Error> {
 /// The program's command, with none under it yet.
 fn program_command<'a>(alloc: Global) -> Command<'a> {
     Command::new(alloc, "absflow")
-        .about("A stream processor with exactly-once output; with no words, the script on standard input is run")
+        .about(
+            "A stream processor with exactly-once output; with no words, the script on standard input is run",
+        )
         .version(VERSION)
         .subcommand_required(true)
 }

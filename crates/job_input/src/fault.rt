@@ -29,6 +29,7 @@ pub enum LineFault {
 
 impl From<ItemFault> for LineFault {
     ghost from_gives = { λ fault e. (fault ≡ ItemFault.Bad → e ≡ one.BadRow) × (fault ≡ ItemFault.Memory → e ≡ one.Memory) };
+
     ghost use Rattle.script_file.specs.declared.fault.ItemFault.TheVariants as ItemFault;
 
     fn from(fault: ItemFault) -> LineFault {

@@ -17,7 +17,8 @@ use std::io::BufRead;
 fn is_blank(line: &[u8]) -> bool
     ensures { result ≡ is_blank line.now }
 {
-    line.iter().all(|byte| matches!(*byte, b' ' | b'\t' | b'\r' | b'\n'))
+    line.iter()
+        .all(|byte| matches!(*byte, b' ' | b'\t' | b'\r' | b'\n'))
 }
 
 /// The row that the JSON text of a line is.
