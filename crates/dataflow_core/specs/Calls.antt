@@ -9,7 +9,7 @@ use Rattle.core_model.specs.State.{State}
 use Rattle.core_model.specs.declared.fault.CoreFault.{CoreFault}
 use Rattle.core_model.specs.declared.fault.CoreFault.TheVariants.{NotRunning}
 use Rattle.engine.specs.Running.{OnAttempt, OnStore, OnTransactions, OnDown}
-use Rattle.engine.specs.Tasks.{EndsBarrier}
+use Rattle.claims.specs.Tasks.{EndsBarrier}
 use Rattle.source_log.specs.Partitions as partitions
 use Rattle.source_log.specs.declared.partitions.SourceFault.{SourceFault}
 use Rattle.source_log.specs.declared.partitions.SourceFault.TheVariants.{Fault}
