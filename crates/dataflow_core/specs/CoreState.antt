@@ -2,7 +2,7 @@
 use Rattle.std.specs.Prelude.{ℕ, List, [], ◌∷◌, Result, Ok, Err}
 use Rattle.core_model.specs.State.{State}
 use Rattle.core_model.specs.declared.fault.CoreFault.{CoreFault}
-use Rattle.dataflow_core.specs.declared.claims.Claim.{Claim}
+use Rattle.dataflow_core.specs.declared.held.Claim.{Claim}
 
 pub record CoreState (O R K S : Type 0) : Type 0 where
   pub engine : State O R K S

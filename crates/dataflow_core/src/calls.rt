@@ -25,7 +25,7 @@ ghost use Rattle.dataflow_core.specs.Calls.{Fails, Restarts, Reads, Injects, Tri
 ghost use Rattle.dataflow_core.specs.CoreState.{claims_after};
 ghost use Rattle.dataflow_core.specs.Steps.{IsStep, IsRestart};
 
-use crate::claims::{Claim, drop_claims};
+use crate::held::{Claim, drop_claims};
 use crate::rules::Rules;
 use commit_sink::Transactions;
 use engine::{CoreFault, Engine};

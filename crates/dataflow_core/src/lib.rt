@@ -7,12 +7,15 @@
 #![tactic(auto)]
 
 mod calls;
-mod claims;
+mod claiming;
 mod faults;
+mod held;
+mod jobs;
 mod rows;
 mod rules;
 
 pub use calls::Core;
-pub use claims::Claim;
 pub use engine::{CoreFault, DeviceCall};
+pub use held::Claim;
+pub use jobs::{Done, Job};
 pub use rules::Rules;
