@@ -15,7 +15,7 @@ use Rattle.core_model.specs.Restart.{EndsRestart}
 use Rattle.core_model.specs.declared.fault.CoreFault.{CoreFault}
 use Rattle.core_model.specs.declared.fault.CoreFault.TheVariants.{NotRunning, NoSuchTask, NotReady, ChannelBlocked, Busy, Stale, WrongResult, CheckpointPending, NoCheckpoint, NotAllAcked, Memory, Device, CommitFault, NumbersSpent, BadSnapshot}
 use Rattle.engine.specs.Running.{IsCounted, number_of}
-use Rattle.engine.specs.Tasks.{NoSuchInput, WorksAs, TakesAs, EndsWork, EndsBarrier}
+use Rattle.claims.specs.Tasks.{NoSuchInput, WorksAs, TakesAs, EndsWork, EndsBarrier}
 
 -- it is, if the count rises where either fault is told, and stays where neither is
 counted_by : {T : Type 0} (result : Result T CoreFault) (a b : ℕ) → (result ≡ Err Device → a < b) → (result ≡ Err CommitFault → a < b) → (result ≢ Err Device → result ≢ Err CommitFault → b ≡ a) → IsCounted a b result

@@ -1,3 +1,4 @@
+pub mod Accepting
 pub mod Appending
 pub mod Counting
 pub mod Opening

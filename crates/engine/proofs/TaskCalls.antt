@@ -24,15 +24,7 @@ use Rattle.core_plain.specs.Plain.{StepsIfOk, Stays}
 use Rattle.core_plain.proofs.PlainCopies.{plain_operator_barrier, plain_sink_barrier}
 use Rattle.core_plain.proofs.PlainWorks.{plain_operate, plain_put_out}
 use Rattle.core_plain.proofs.Stands.{stays_same}
-use Rattle.engine.specs.Tasks.{NoSuchInput, WorksAs, TakesAs, EndsWork, EndsBarrier}
-
--- an operator's work is a task's
-pub works_by_operator : {R K S O : Type 0} (lang : Language R K S O) (graph : Expanded) (operators : List O) (task input : ℕ) (h k : Held R K S) (ledger : Ledger) (result : Result Unit CoreFault) (number channel : ℕ) (operator : O)
-    → slice_get graph.tasks task ≡ Some (role.Operator number) → input_at graph task input ≡ Some channel → slice_get operators number ≡ Some operator → EndsOperate graph task h k input channel lang operator result
-    → EndsWork lang graph operators task input h k ledger ledger result
-works_by_operator lang graph operators task input h k ledger result number channel operator at leads op ends =
-    subst (λ (r : Option Role). WorksAs graph task input h k ledger ledger lang operators result r (input_at graph task input)) (sym at)
-    (subst (λ (c : Option ℕ). WorksAs graph task input h k ledger ledger lang operators result (Some (role.Operator number)) c) (sym leads) (operator, op, ends, refl))
+use Rattle.claims.specs.Tasks.{NoSuchInput, WorksAs, TakesAs, EndsWork, EndsBarrier}
 
 module _ {R K S O : Type 0} (lang : Language R K S O) (RecordFits : R → Type 0) (IsGood : O → S → Type 0) (s : State O R K S) (keeps : Keeps lang RecordFits IsGood s) (h k : Held R K S) (was : s.held ≡ Some h) (ledger : Ledger) where
   -- a task has no such input, whatever was asked of it

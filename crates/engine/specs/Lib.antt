@@ -1,4 +1,3 @@
-pub mod Tasks
 pub mod Replies
 pub mod Running
 pub mod Rows

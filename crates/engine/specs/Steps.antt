@@ -12,7 +12,7 @@ use Rattle.core_model.specs.declared.fault.CoreFault.{CoreFault}
 use Rattle.core_model.specs.declared.fault.CoreFault.TheVariants.{NotRunning}
 use Rattle.engine.specs.Replies.{accepted_as, numbered_as, restarted_as, copied_as, appended_as}
 use Rattle.engine.specs.Running.{IsCounted, OnAttempt, OnStore, OnTransactions, OnDown}
-use Rattle.engine.specs.Tasks.{EndsWork, EndsBarrier}
+use Rattle.claims.specs.Tasks.{EndsWork, EndsBarrier}
 use Rattle.engine.specs.declared.steps.Reply.{Reply}
 use Rattle.engine.specs.declared.steps.Reply.TheVariants.{Source}
 use Rattle.engine.specs.declared.steps.Step.{Step}

@@ -32,7 +32,7 @@ ghost use Rattle.core_model.specs.RestartLaws.{GoesOnFromCut};
 ghost use Rattle.checkpoint_model.specs.Cuts.{IsReachedCut};
 ghost use Rattle.dataflow_model.specs.Graph.{Begins};
 ghost use Rattle.dataflow_model.specs.Machine as machine;
-ghost use Rattle.engine.specs.Tasks.{EndsWork, EndsBarrier};
+ghost use Rattle.claims.specs.Tasks.{EndsWork, EndsBarrier};
 ghost use Rattle.engine.specs.Running.{IsCounted, IsSameJob, number_of, raised, attempts_after, OnDown, OnAttempt, OnStore, OnTransactions};
 
 use crate::tasks::{take_barrier, work_task};
@@ -59,15 +59,15 @@ pub struct Engine<
     P: Partitions<Record = O::Record>,
 > {
     pub(crate) alloc: Global,
-    graph: Graph,
-    operators: Vec<O>,
+    pub(crate) graph: Graph,
+    pub(crate) operators: Vec<O>,
     pub(crate) log: P,
     pub(crate) store: S,
     pub(crate) transactions: X,
-    attempt: Option<Attempt<O>>,
+    pub(crate) attempt: Option<Attempt<O>>,
     pub(crate) is_fresh: bool,
     /// How many attempts were made: a number below 2^63.
-    attempts: u64,
+    pub(crate) attempts: u64,
 }
 
 impl<O: Operator, S: SnapshotStore, X: Transactions, P: Partitions<Record = O::Record>> Model
@@ -114,7 +114,7 @@ impl<O: Operator, S: SnapshotStore, X: Transactions, P: Partitions<Record = O::R
 const LAST_ATTEMPT: u64 = (1 << 63) - 1;
 
 /// Takes the job down where a device has failed.
-fn leave<A: Drop, T: Drop>(
+pub(crate) fn leave<A: Drop, T: Drop>(
     attempt: &mut Option<A>,
     outcome: Result<T, CoreFault>,
 ) -> Result<T, CoreFault>

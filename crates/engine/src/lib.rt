@@ -12,6 +12,7 @@
 #![tactic(auto)]
 
 mod calls;
+mod claimed;
 mod faults;
 mod rows;
 mod steps;

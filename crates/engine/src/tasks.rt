@@ -6,9 +6,10 @@ ghost use Rattle.abs_codec.specs.Spelling.{Fits};
 ghost use Rattle.operators.specs.Operator.{IsGoodState};
 ghost use Rattle.core_model.specs.declared.fault.CoreFault.TheVariants as CoreFault;
 ghost use Rattle.core_model.specs.Language.{language};
-ghost use Rattle.engine.specs.Tasks.{Serves, EndsWork, EndsBarrier};
+ghost use Rattle.claims.specs.Tasks.{Serves, EndsWork, EndsBarrier};
 
 use alignment::Effect;
+use claims::operator_of;
 use commit_sink::Transactions;
 use core_calls::{input_of, operate, operator_barrier, put_out, sink_barrier};
 use core_model::CoreFault;
@@ -16,13 +17,6 @@ use job_graph::{Graph, Role};
 use job_state::Attempt;
 use operators::Operator;
 use std::alloc::Global;
-
-/// The operator of a number.
-fn operator_of<O: Operator>(operators: &[O], number: u32) -> Option<&O>
-    ensures { option_copied result ≡ slice_get operators.now number }
-{
-    operators.get(number as usize)
-}
 
 /// A task works the record at the head of its input.
 pub(crate) fn work_task<O: Operator, X: Transactions>(

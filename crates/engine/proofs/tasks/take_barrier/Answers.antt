@@ -1,6 +1,6 @@
 use Rattle.std.proofs.Common.{Some, sym, ap, ◌∙◌}
 use Rattle.job_graph.specs.declared.role.Role.TheVariants as role
-use Rattle.engine.proofs.Serving.{copies_within, gate_there, holds_states, holds_sink, subtask_within}
+use Rattle.claims.proofs.Serving.{copies_within, gate_there, holds_states, holds_sink, subtask_within}
 use Rattle.engine.proofs.tasks.take_barrier.Goals as goal
 
 pub operator_barrier-requires-clause-holds : goal.operator_barrier-requires-clause-holds

@@ -1,8 +1,8 @@
 use Rattle.std.proofs.Common.{Some, sym, ap, ◌∙◌}
 use Rattle.std.specs.Option.{option_copied}
 use Rattle.job_graph.specs.declared.role.Role.TheVariants as role
-use Rattle.engine.proofs.Serving.{gate_there, holds_states, holds_sink, operator_there}
-use Rattle.engine.proofs.TaskCalls.{works_by_operator}
+use Rattle.claims.proofs.Serving.{gate_there, holds_states, holds_sink, operator_there}
+use Rattle.claims.proofs.Works.{works_by_operator}
 use Rattle.engine.proofs.tasks.work_task.Goals as goal
 
 -- each operator task has an operator

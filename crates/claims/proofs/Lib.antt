@@ -1,0 +1,3 @@
+pub mod Dues
+pub mod Serving
+pub mod Works

@@ -1,0 +1,3 @@
+pub mod Carried
+pub mod Due
+pub mod Tasks

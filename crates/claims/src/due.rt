@@ -1,0 +1,158 @@
+//! Which work is a task's to do now.
+
+ghost use Rattle.std.specs.Prelude.{◌≡◌, ◌<◌, ◌↔◌, ℕ, List, Some, length, slice_get, IsTrue, IfSome, IfNone};
+ghost use Rattle.std.specs.Option.{option_copied};
+ghost use Rattle.abs_codec.specs.Spelling.{Fits};
+ghost use Rattle.operators.specs.Operator.{IsGoodState};
+ghost use Rattle.job_state.specs.Held.{gate_at};
+ghost use Rattle.job_state.specs.declared.holding.Holding.TheVariants as Holding;
+ghost use Rattle.core_model.specs.Calls.{state_of, IsRecordDue};
+ghost use Rattle.core_model.specs.Keeps.{GateFits, Shape};
+ghost use Rattle.core_model.specs.Language.{language};
+ghost use Rattle.claims.specs.Carried.{IsGiven};
+ghost use Rattle.claims.specs.Due.{WorksFrom, IsOperandDue, IsRowDue, IsDue};
+
+use crate::parts::{Given, Operand};
+use core_calls::{first_record, input_of, state_at};
+use job_graph::{Graph, Role};
+use job_state::Attempt;
+use operators::Operator;
+
+/// The operator of a number.
+pub fn operator_of<O: Operator>(operators: &[O], number: u32) -> Option<&O>
+    ensures { option_copied result ≡ slice_get operators.now number }
+{
+    operators.get(number as usize)
+}
+
+/// The channel that an input of an operator or of a sink is.
+pub fn channel_of(graph: &Graph, task: u32, input: u32) -> Option<u32>
+    ensures some { IfSome result (WorksFrom graph.now task input) }
+    ensures none { IfNone result ((channel : ℕ) → ¬ WorksFrom graph.now task input channel) }
+{
+    match graph.role(task) {
+        Some(Role::Operator(_)) => input_of(graph, task, input),
+        Some(Role::Sink(_)) => input_of(graph, task, input),
+        Some(Role::Source(_)) => None,
+        None => None,
+    }
+}
+
+/// Whether this is the operator of a number.
+fn is_operator<O: Operator>(operators: &[O], number: u32, operator: &O) -> bool
+    ensures { IsTrue result ↔ (slice_get operators.now number ≡ Some operator.now) }
+{
+    match operator_of(operators, number) {
+        Some(found) => found == operator,
+        None => false,
+    }
+}
+
+/// Whether a record is the one to take from an input, which is this channel.
+fn is_first<O: Operator>(
+    attempt: &Attempt<O>,
+    task: u32,
+    input: u32,
+    channel: u32,
+    row: &O::Record,
+) -> bool
+    requires { input < length (gate_at attempt.now task).inputs }
+    ensures { IsTrue result ↔ IsRecordDue task input attempt.now channel row.now }
+{
+    match first_record(attempt, task, input, channel) {
+        Ok(first) => first == row,
+        Err(_) => false,
+    }
+}
+
+/// Whether a task has this state under a key, or has none where none is given.
+fn has_state<O: Operator>(
+    attempt: &Attempt<O>,
+    task: u32,
+    key: &Option<O::Key>,
+    state: &Option<O::State>,
+) -> bool
+    ensures { (entries : List (O.Key × O.State)) → slice_get attempt.now.tasks task ≡ Some (Holding.Operator entries) → IsTrue result ↔ (state_of O.Key.cmp entries key.now ≡ state.now) }
+{
+    match state_at(attempt, task, key) {
+        Some(found) => match state {
+            Some(state) => found == state,
+            None => false,
+        },
+        None => state.is_none(),
+    }
+}
+
+/// The channel from which a task is to take an operator's record, where that work is due.
+pub(crate) fn operand_channel<O: Operator>(
+    attempt: &Attempt<O>,
+    graph: &Graph,
+    operators: &[O],
+    task: u32,
+    input: u32,
+    operand: &Operand<O, O::Key, O::State, O::Record>,
+) -> Option<u32>
+    requires shape { Shape O.Key.cmp (Fits O.Record.HasSpelling O.Record.spelling) (IsGoodState (Fits O.State.HasSpelling O.State.spelling) O.Suits) graph.now operators.now attempt.now }
+    requires key { operand.now.key ≡ O.meaning.key operand.now.operator operand.now.row }
+    ensures some { IfSome result (λ channel. IsOperandDue (language O.meaning O.Key.cmp O.Record.spelling O.Record.reading O.Key.reading O.State.reading) graph.now operators.now task input attempt.now channel operand.now) }
+    ensures none { IfNone result ((channel : ℕ) → ¬ IsOperandDue (language O.meaning O.Key.cmp O.Record.spelling O.Record.reading O.Key.reading O.State.reading) graph.now operators.now task input attempt.now channel operand.now) }
+{
+    let Some(Role::Operator(number)) = graph.role(task) else {
+        return None;
+    };
+    let Some(channel) = input_of(graph, task, input) else {
+        return None;
+    };
+    if is_operator(operators, number, &operand.operator)
+        && is_first(attempt, task, input, channel, &operand.row)
+        && has_state(attempt, task, &operand.key, &operand.state)
+    {
+        Some(channel)
+    } else {
+        None
+    }
+}
+
+/// The channel from which a sink is to take a record, where that work is due.
+pub(crate) fn row_channel<O: Operator>(
+    attempt: &Attempt<O>,
+    graph: &Graph,
+    task: u32,
+    input: u32,
+    row: &O::Record,
+) -> Option<u32>
+    requires gates { (t : ℕ) → t < length graph.now.tasks → GateFits graph.now attempt.now t }
+    ensures some { IfSome result (λ channel. IsRowDue graph.now task input attempt.now channel row.now) }
+    ensures none { IfNone result ((channel : ℕ) → ¬ IsRowDue graph.now task input attempt.now channel row.now) }
+{
+    let Some(Role::Sink(_)) = graph.role(task) else {
+        return None;
+    };
+    let channel = input_of(graph, task, input)?;
+    if is_first(attempt, task, input, channel, row) {
+        Some(channel)
+    } else {
+        None
+    }
+}
+
+/// Whether work is due.
+pub(crate) fn is_due<O: Operator>(
+    attempt: &Attempt<O>,
+    graph: &Graph,
+    operators: &[O],
+    task: u32,
+    input: u32,
+    given: &Given<O, O::Key, O::State, O::Record>,
+) -> bool
+    requires shape { Shape O.Key.cmp (Fits O.Record.HasSpelling O.Record.spelling) (IsGoodState (Fits O.State.HasSpelling O.State.spelling) O.Suits) graph.now operators.now attempt.now }
+    requires given { IsGiven O.meaning (Fits O.Record.HasSpelling O.Record.spelling) (IsGoodState (Fits O.State.HasSpelling O.State.spelling) O.Suits) given.now }
+    ensures { IsTrue result ↔ IsDue (language O.meaning O.Key.cmp O.Record.spelling O.Record.reading O.Key.reading O.State.reading) graph.now operators.now task input attempt.now given.now }
+{
+    match given {
+        Given::Operator(operand) => {
+            operand_channel(attempt, graph, operators, task, input, operand).is_some()
+        }
+        Given::Sink(row) => row_channel(attempt, graph, task, input, row).is_some(),
+    }
+}

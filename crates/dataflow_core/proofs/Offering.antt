@@ -1,0 +1,97 @@
+-- What may be claimed, and why a claim is refused.
+use Rattle.std.proofs.Common.{◌≡◌, ◌<◌, ◌≤◌, ◌^◌, ℕ, Bool, true, false, Option, Some, None, Result, Ok, Err, IfOk, IfErr, MatchOption, slice_get, List, refl, subst, sym, ap}
+use Rattle.job_graph.specs.declared.role.Role.{Role}
+use Rattle.job_graph.specs.declared.role.Role.TheVariants as role
+use Rattle.job_state.specs.Held.{Held}
+use Rattle.claims.specs.Due.{IsWorker, WorksFrom, IsDue, EndsAsking, EndsOffer}
+use Rattle.claims.specs.declared.parts.Given.{Given}
+use Rattle.claims.specs.declared.parts.Given.TheVariants as given
+use Rattle.core_model.specs.Language.{Language}
+use Rattle.core_model.specs.declared.fault.CoreFault.{CoreFault}
+use Rattle.core_model.specs.declared.fault.CoreFault.TheVariants.{NotRunning, NoSuchTask, NotReady, ChannelBlocked, Busy, Stale, WrongResult, CheckpointPending, NoCheckpoint, NotAllAcked, Memory, Device, CommitFault, NumbersSpent, BadSnapshot}
+use Rattle.dataflow_core.specs.Claims.{IsBusy, HasInput, HasRecord, RefusesClaim, Refuses, MayClaim, spent_as}
+use Rattle.dataflow_core.specs.CoreState.{CoreState}
+
+module _ {R K S O : Type 0} (lang : Language R K S O) (s : CoreState O R K S) (task input : ℕ) where
+  -- where work is due there is a record to take
+  due_there : (h : Held R K S) (work : Given O K S R) → IsDue lang s.engine.graph s.engine.operators task input h work → HasRecord s task input h
+  due_there h (given.Operator p) due = (due.0, p.row, (subst IsWorker (sym due.1.is_operator) tt, due.1.leads), due.1.first)
+  due_there h (given.Sink row) due = (due.0, row, (subst IsWorker (sym due.1.is_sink) tt, due.1.leads), due.1.first)
+
+  -- how a task's asking for work ends
+  abbrev Answers : Held R K S → Result (Given O K S R) CoreFault → Type 0
+  Answers h (Ok work) = ¬ IsBusy task s.claims × IsDue lang s.engine.graph s.engine.operators task input h work × (s.serials < 2 ^ 63)
+  Answers h (Err fault) = RefusesClaim s task input h fault
+
+  abbrev Offered : Held R K S → Result (Given O K S R) CoreFault → Type 0
+  Offered h offered = EndsOffer lang s.engine.graph s.engine.operators task input h offered
+
+  module _ (free : ¬ IsBusy task s.claims) where
+    answers : (h : Held R K S) → s.serials < 2 ^ 63 → (offered : Result (Given O K S R) CoreFault) → Offered h offered → Answers h offered
+    answers h left (Ok work) e = (free, e, left)
+    answers h left (Err Memory) e = (free, e, left)
+    answers h left (Err NoSuchTask) e = e
+    answers h left (Err ChannelBlocked) e = (free, e)
+    answers h left (Err NotReady) e = (free, e)
+    answers h left (Err NotRunning) e = absurd e
+    answers h left (Err Busy) e = absurd e
+    answers h left (Err Stale) e = absurd e
+    answers h left (Err WrongResult) e = absurd e
+    answers h left (Err CheckpointPending) e = absurd e
+    answers h left (Err NoCheckpoint) e = absurd e
+    answers h left (Err NotAllAcked) e = absurd e
+    answers h left (Err Device) e = absurd e
+    answers h left (Err CommitFault) e = absurd e
+    answers h left (Err NumbersSpent) e = absurd e
+    answers h left (Err BadSnapshot) e = absurd e
+
+    answers_spent : (h : Held R K S) → 2 ^ 63 ≤ s.serials → (offered : Result (Given O K S R) CoreFault) → Offered h offered → Answers h (spent_as offered)
+    answers_spent h spent (Ok work) e = (free, due_there h work e, spent)
+    answers_spent h spent (Err Memory) e = (free, e, spent)
+    answers_spent h spent (Err NoSuchTask) e = e
+    answers_spent h spent (Err ChannelBlocked) e = (free, e)
+    answers_spent h spent (Err NotReady) e = (free, e)
+    answers_spent h spent (Err NotRunning) e = absurd e
+    answers_spent h spent (Err Busy) e = absurd e
+    answers_spent h spent (Err Stale) e = absurd e
+    answers_spent h spent (Err WrongResult) e = absurd e
+    answers_spent h spent (Err CheckpointPending) e = absurd e
+    answers_spent h spent (Err NoCheckpoint) e = absurd e
+    answers_spent h spent (Err NotAllAcked) e = absurd e
+    answers_spent h spent (Err Device) e = absurd e
+    answers_spent h spent (Err CommitFault) e = absurd e
+    answers_spent h spent (Err NumbersSpent) e = absurd e
+    answers_spent h spent (Err BadSnapshot) e = absurd e
+
+    ok_of : (h : Held R K S) (r : Result (Given O K S R) CoreFault) → Answers h r → IfOk r (λ work. ¬ IsBusy task s.claims × IsDue lang s.engine.graph s.engine.operators task input h work × (s.serials < 2 ^ 63))
+    ok_of h (Ok work) a = a
+    ok_of h (Err fault) a = tt
+
+    err_of : (h : Held R K S) (r : Result (Given O K S R) CoreFault) → Answers h r → IfErr r (λ fault. RefusesClaim s task input h fault)
+    err_of h (Ok work) a = tt
+    err_of h (Err fault) a = a
+
+    module _ (offered : Result (Given O K S R) CoreFault) where
+      abbrev Offers : Option (Held R K S) → Type 0
+      Offers held = MatchOption held (offered ≡ Err NotRunning) (λ h. Offered h offered)
+
+      ok_by : s.serials < 2 ^ 63 → (held : Option (Held R K S)) → Offers held → IfOk offered (λ work. MatchOption held ⊥ (λ h. ¬ IsBusy task s.claims × IsDue lang s.engine.graph s.engine.operators task input h work × (s.serials < 2 ^ 63)))
+      ok_by left (Some h) e = ok_of h offered (answers h left offered e)
+      ok_by left None e = subst (λ (r : Result (Given O K S R) CoreFault). IfOk r (λ work. ⊥)) (sym e) tt
+
+      err_by : s.serials < 2 ^ 63 → (held : Option (Held R K S)) → Offers held → IfErr offered (λ fault. MatchOption held (fault ≡ NotRunning) (λ h. RefusesClaim s task input h fault))
+      err_by left (Some h) e = err_of h offered (answers h left offered e)
+      err_by left None e = subst (λ (r : Result (Given O K S R) CoreFault). IfErr r (λ fault. fault ≡ NotRunning)) (sym e) refl
+
+      spent_by : 2 ^ 63 ≤ s.serials → (held : Option (Held R K S)) → Offers held → IfErr (spent_as offered) (λ fault. MatchOption held (fault ≡ NotRunning) (λ h. RefusesClaim s task input h fault))
+      spent_by spent (Some h) e = err_of h (spent_as offered) (answers_spent h spent offered e)
+      spent_by spent None e = subst (λ (r : Result (Given O K S R) CoreFault). IfErr (spent_as r) (λ fault. fault ≡ NotRunning)) (sym e) refl
+
+      pub offers_ok : s.serials < 2 ^ 63 → Offers s.engine.held → IfOk offered (MayClaim s task input lang)
+      offers_ok left e = ok_by left s.engine.held e
+
+      pub offers_err : s.serials < 2 ^ 63 → Offers s.engine.held → IfErr offered (Refuses s task input)
+      offers_err left e = err_by left s.engine.held e
+
+      pub offers_spent : 2 ^ 63 ≤ s.serials → Offers s.engine.held → IfErr (spent_as offered) (Refuses s task input)
+      offers_spent spent e = spent_by spent s.engine.held e

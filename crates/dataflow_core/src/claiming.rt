@@ -1,0 +1,158 @@
+//! Claims are made and finished.
+
+ghost use Rattle.std.specs.Prelude.{◌≡◌, ◌≢◌, ◌⊎◌, ◌+◌, ◌↔◌, ◌≤◌, ◌<◌, ◌^◌, ℕ, None, IsTrue, IfOk, IfErr};
+ghost use Rattle.claims.specs.declared.parts.Given.{Given};
+ghost use Rattle.core_model.specs.declared.fault.CoreFault.TheVariants as CoreFault;
+ghost use Rattle.core_plain.specs.Plain.{Stays};
+ghost use Rattle.engine.specs.Running.{IsCounted};
+ghost use Rattle.dataflow_core.specs.Claims.{IsHeldAt, IsFreshTicket, IsHeldUp, Refuses, MayClaim, Claims, TakesBarrierUnclaimed, EndsFinish, FinishMoves, spent_as};
+ghost use Rattle.dataflow_core.specs.Steps.{IsStep};
+
+use crate::calls::Core;
+use crate::held::{Claim, claim_of, end_claim, is_busy, keep_claim};
+use crate::jobs::{Done, Job};
+use crate::rules::Rules;
+use alignment::Effect;
+use claims::Work;
+use commit_sink::Transactions;
+use engine::CoreFault;
+use operators::Operator;
+use snapshot_store::SnapshotStore;
+use source_log::Partitions;
+
+/// No claim has this serial or a greater one.
+const SERIALS: u64 = 1 << 63;
+
+/// Refuses what was offered, since no serial is left.
+fn spent<O: Operator>(offered: Result<Work<O>, CoreFault>) -> Result<Work<O>, CoreFault>
+    ensures { result ≡ spent_as offered }
+{
+    match offered {
+        Ok(_) => Err(CoreFault::NumbersSpent),
+        Err(CoreFault::Memory) => Err(CoreFault::NumbersSpent),
+        Err(fault) => Err(fault),
+    }
+}
+
+impl<O: Operator, S: SnapshotStore, X: Transactions, P: Partitions<Record = O::Record>> Core<
+    O,
+    S,
+    X,
+    P,
+> {
+    /// At most 2^63 claims were made.
+    pub fn serials_bound(&self)
+        ensures { self.now.serials ≤ 2 ^ 63 }
+    {
+        let _ = &self.serials;
+    }
+
+    /// The work that a task may claim now.
+    fn offered(&self, task: u32, input: u32) -> Result<Work<O>, CoreFault>
+        ensures ok { IfOk result (MayClaim self.now task input ⟦<O as Rules>⟧.lang) }
+        ensures err { IfErr result (Refuses self.now task input) }
+    {
+        self.engine.has_input(task, input)?;
+        if is_busy(&self.claims, task) {
+            return Err(CoreFault::Busy);
+        }
+        let offered = self.engine.offer(task, input);
+        if self.serials >= SERIALS {
+            return spent(offered);
+        }
+        offered
+    }
+
+    /// A task claims the record at the head of its input, which stays there. The job carries all that
+    /// its work needs. Serials are below 2^63, and rise over all attempts.
+    pub fn claim(&mut self, task: u32, input: u32) -> Result<Job<O>, CoreFault>
+        ensures ok { IfOk result (λ job. Claims self.old task input ⟦<O as Rules>⟧.lang self.new job.attempt job.serial job.work) }
+        ensures err { IfErr result (λ fault. Refuses self.old task input fault × (self.new ≡ self.old)) }
+    {
+        let work = self.offered(task, input)?;
+        let Core {
+            alloc,
+            engine,
+            claims,
+            serials,
+        } = self;
+        let serial = *serials;
+        keep_claim(
+            claims,
+            Claim {
+                serial,
+                task,
+                input,
+            },
+        )?;
+        *serials += 1;
+        Ok(Job {
+            attempt: engine.attempt_number(),
+            serial,
+            alloc: *alloc,
+            work,
+        })
+    }
+
+    /// The claim of which this attempt and serial are a fresh ticket, and its place.
+    fn ticket(&self, attempt: u64, serial: u64) -> Result<(usize, Claim), CoreFault>
+        ensures ok { IfOk result (λ found. (self.now.engine.held ≢ None) × IsHeldAt self.now attempt serial found.0 found.1) }
+        ensures err { IfErr result (λ fault. ((fault ≡ CoreFault.NotRunning) × (self.now.engine.held ≡ None)) ⊎ ((fault ≡ CoreFault.Stale) × (self.now.engine.held ≢ None) × ¬ IsFreshTicket self.now attempt serial)) }
+    {
+        if !self.engine.is_running() {
+            return Err(CoreFault::NotRunning);
+        }
+        if attempt != self.engine.attempt_number() {
+            return Err(CoreFault::Stale);
+        }
+        match claim_of(&self.claims, serial) {
+            Some(found) => Ok(found),
+            None => Err(CoreFault::Stale),
+        }
+    }
+
+    /// Takes what was done of a job: the record is taken, and the claim ends. A result that is no
+    /// fresh ticket is stale. One whose operator, state or record differ from the core's is wrong, and
+    /// leaves the claim. Where memory was refused the claim ends, and its record is still at the head.
+    pub fn finish(&mut self, done: Done<O>) -> Result<(), CoreFault>
+        ensures ends { EndsFinish self.old ⟦<O as Rules>⟧.lang self.new done.attempt done.serial done.worked result }
+        ensures step { IsStep ⟦<O as Rules>⟧.lang ⟦<O as Rules>⟧.RecordFits self.old.engine self.new.engine }
+        ensures plain { FinishMoves self.old ⟦<O as Rules>⟧.lang self.new done.attempt done.serial result }
+        ensures counted { IsCounted self.old.engine.faults self.new.engine.faults result }
+    {
+        let Done {
+            attempt,
+            serial,
+            worked,
+        } = done;
+        let (at, claim) = self.ticket(attempt, serial)?;
+        let Core { engine, claims, .. } = self;
+        let outcome = engine.accept(claim.task, claim.input, worked);
+        end_claim(claims, at, &outcome);
+        outcome
+    }
+
+    /// Whether a task would take a barrier over its claim.
+    fn is_held_up(&self, task: u32, input: u32) -> bool
+        ensures { IsTrue result ↔ IsHeldUp self.now task input }
+    {
+        self.engine.has_input(task, input).is_ok() && is_busy(&self.claims, task)
+    }
+
+    /// A task that holds no claim takes the barrier at the head of its input. At the last of its
+    /// unmarked inputs it copies what it holds; a sink then begins a transaction and pre-commits the
+    /// old one.
+    pub fn take_barrier(&mut self, task: u32, input: u32) -> Result<Effect, CoreFault>
+        ensures ends { TakesBarrierUnclaimed self.old task input self.new result }
+        ensures step { IsStep ⟦<O as Rules>⟧.lang ⟦<O as Rules>⟧.RecordFits self.old.engine self.new.engine }
+        ensures stays { Stays ⟦<O as Rules>⟧.lang self.old.engine self.new.engine }
+        ensures counted { IsCounted self.old.engine.faults self.new.engine.faults result }
+        ensures claims { self.new ≡ record self.old { engine = self.new.engine } }
+    {
+        if self.is_held_up(task, input) {
+            return Err(CoreFault::Busy);
+        }
+        let Core { engine, .. } = self;
+        engine.take_barrier(task, input)
+    }
+}

@@ -1,0 +1,77 @@
+//! Jobs, and what is done of them.
+
+ghost use Rattle.std.specs.Prelude.{◌≡◌};
+ghost use Rattle.claims.specs.Carried.{given_of};
+
+use claims::{Work, Worked};
+use operators::Operator;
+use std::alloc::Global;
+
+/// A claim's work, to be done anywhere.
+#[derive(Drop)]
+pub struct Job<O: Operator> {
+    pub(crate) attempt: u64,
+    pub(crate) serial: u64,
+    pub(crate) alloc: Global,
+    pub(crate) work: Work<O>,
+}
+
+/// A claim's work that was done, or for which memory was refused.
+#[derive(Drop)]
+pub struct Done<O: Operator> {
+    pub(crate) attempt: u64,
+    pub(crate) serial: u64,
+    pub(crate) worked: Worked<O>,
+}
+
+impl<O: Operator> Job<O> {
+    /// The attempt in which the claim was made.
+    pub fn attempt(&self) -> u64
+        ensures { result ≡ self.now.attempt }
+    {
+        self.attempt
+    }
+
+    /// The claim's serial.
+    pub fn serial(&self) -> u64
+        ensures { result ≡ self.now.serial }
+    {
+        self.serial
+    }
+
+    /// Does the work. It waits for nobody, and touches nothing shared. What is done is of the same
+    /// attempt and serial, and carries the work.
+    pub fn run(self) -> Done<O>
+        ensures attempt { result.attempt ≡ self.attempt }
+        ensures serial { result.serial ≡ self.serial }
+        ensures carries { given_of result.worked ≡ self.work }
+    {
+        let Job {
+            attempt,
+            serial,
+            alloc,
+            work,
+        } = self;
+        Done {
+            attempt,
+            serial,
+            worked: work.run(alloc),
+        }
+    }
+}
+
+impl<O: Operator> Done<O> {
+    /// The attempt in which the claim was made.
+    pub fn attempt(&self) -> u64
+        ensures { result ≡ self.now.attempt }
+    {
+        self.attempt
+    }
+
+    /// The claim's serial.
+    pub fn serial(&self) -> u64
+        ensures { result ≡ self.now.serial }
+    {
+        self.serial
+    }
+}

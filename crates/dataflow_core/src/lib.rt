@@ -1,0 +1,21 @@
+//! The core: an engine, and the claims on its records. A claim is a task's hold on the record at the
+//! head of an input, while its result is worked out elsewhere. Proved, of each call: its exact change
+//! and each refusal's cause (`ends`); that it is steps of the model's engine, keeps the job, leaves a
+//! sound core sound and withdraws no committed row (`step`); that it is one plain step (`plain`) or
+//! none (`stays`); that a device's failure is counted exactly where it is told (`counted`); and what
+//! becomes of the claims (`claims`).
+#![tactic(auto)]
+
+mod calls;
+mod claiming;
+mod faults;
+mod held;
+mod jobs;
+mod rows;
+mod rules;
+
+pub use calls::Core;
+pub use engine::{CoreFault, DeviceCall};
+pub use held::Claim;
+pub use jobs::{Done, Job};
+pub use rules::Rules;

@@ -1,0 +1,101 @@
+//! A task's work in two halves: what is to be done is offered, and what was made of it is taken.
+
+ghost use Rattle.std.specs.Prelude.{◌≡◌, ◌≢◌, ◌↔◌, ℕ, Err, None, Some, slice_get, IsTrue, MatchOption};
+ghost use Rattle.abs_codec.specs.Spelling.{Fits};
+ghost use Rattle.commit_sink.specs.Ledger.{committed_rows};
+ghost use Rattle.dataflow_model.specs.Graph.{Begins};
+ghost use Rattle.dataflow_model.specs.Machine as machine;
+ghost use Rattle.job_graph.specs.declared.role.Role.TheVariants as Role;
+ghost use Rattle.core_model.specs.declared.fault.CoreFault.TheVariants as CoreFault;
+ghost use Rattle.core_model.specs.Calls.{input_at};
+ghost use Rattle.core_model.specs.Goes.{Goes};
+ghost use Rattle.core_model.specs.Language.{language};
+ghost use Rattle.core_model.specs.Sound.{IsSound};
+ghost use Rattle.core_plain.specs.Plain.{StepsIfOk, Stays};
+ghost use Rattle.claims.specs.Due.{EndsAsking, EndsOffer, EndsAccept};
+ghost use Rattle.engine.specs.Running.{IsCounted, IsSameJob, OnTransactions};
+
+use crate::calls::{leave, Engine};
+use claims::{accept, channel_of, offer, Work, Worked};
+use commit_sink::Transactions;
+use core_model::CoreFault;
+use operators::Operator;
+use snapshot_store::SnapshotStore;
+use source_log::Partitions;
+
+impl<O: Operator, S: SnapshotStore, X: Transactions, P: Partitions<Record = O::Record>> Engine<
+    O,
+    S,
+    X,
+    P,
+> {
+    /// How many attempts were made: the number of the one that runs, or that ran last.
+    pub fn attempt_number(&self) -> u64
+        ensures { result ≡ self.now.attempts }
+    {
+        self.attempts
+    }
+
+    /// Whether the job runs.
+    pub fn is_running(&self) -> bool
+        ensures { IsTrue result ↔ (self.now.held ≢ None) }
+    {
+        self.attempt.is_some()
+    }
+
+    /// Whether a task is an operator or a sink that has such an input: `K1` where the job is down, `K2` where it is not.
+    pub fn has_input(&self, task: u32, input: u32) -> Result<(), CoreFault>
+        ensures { MatchOption self.now.held (result ≡ Err CoreFault.NotRunning) (λ _. EndsAsking self.now.graph task input result) }
+    {
+        if self.attempt.is_none() {
+            return Err(CoreFault::NotRunning);
+        }
+        match channel_of(&self.graph, task, input) {
+            Some(_) => Ok(()),
+            None => Err(CoreFault::NoSuchTask),
+        }
+    }
+
+    /// Offers the work that a task is to do at an input now, and changes nothing.
+    pub fn offer(&self, task: u32, input: u32) -> Result<Work<O>, CoreFault>
+        ensures { MatchOption self.now.held (result ≡ Err CoreFault.NotRunning) (λ h. EndsOffer (language O.meaning O.Key.cmp O.Record.spelling O.Record.reading O.Key.reading O.State.reading) self.now.graph self.now.operators task input h result) }
+    {
+        let Some(attempt) = &self.attempt else {
+            return Err(CoreFault::NotRunning);
+        };
+        offer(
+            self.alloc,
+            attempt,
+            &self.graph,
+            &self.operators,
+            task,
+            input,
+        )
+    }
+
+    /// Takes what was made of a task's work, which ends as the task's own work would. Where that work is not what the task is to do now, it is
+    /// refused by `K7`, and where memory was refused for it by `K11`; then nothing has changed.
+    pub fn accept(&mut self, task: u32, input: u32, worked: Worked<O>) -> Result<(), CoreFault>
+        ensures ends { OnTransactions self.old self.new (λ h k. EndsAccept (language O.meaning O.Key.cmp O.Record.spelling O.Record.reading O.Key.reading O.State.reading) self.old.graph self.old.operators task input h k self.old.ledger self.new.ledger worked) result }
+        ensures goes { Goes (language O.meaning O.Key.cmp O.Record.spelling O.Record.reading O.Key.reading O.State.reading) self.old self.new }
+        ensures sound { IsSound (language O.meaning O.Key.cmp O.Record.spelling O.Record.reading O.Key.reading O.State.reading) (Fits O.Record.HasSpelling O.Record.spelling) self.old → IsSound (language O.meaning O.Key.cmp O.Record.spelling O.Record.reading O.Key.reading O.State.reading) (Fits O.Record.HasSpelling O.Record.spelling) self.new }
+        ensures begins { (task subtask : ℕ) → slice_get self.old.graph.tasks task ≡ Some (Role.Sink subtask) → Begins (committed_rows self.old.ledger subtask) (committed_rows self.new.ledger subtask) }
+        ensures plain { MatchOption (input_at self.old.graph task input) (Stays (language O.meaning O.Key.cmp O.Record.spelling O.Record.reading O.Key.reading O.State.reading) self.old self.new) (λ channel. StepsIfOk result (language O.meaning O.Key.cmp O.Record.spelling O.Record.reading O.Key.reading O.State.reading) (machine.Work task channel) self.old self.new) }
+        ensures counted { IsCounted self.old.faults self.new.faults result }
+        ensures same { IsSameJob self.old self.new }
+    {
+        let Some(attempt) = &mut self.attempt else {
+            return Err(CoreFault::NotRunning);
+        };
+        let outcome = accept(
+            attempt,
+            &self.graph,
+            &self.operators,
+            &mut self.transactions,
+            task,
+            input,
+            worked,
+        );
+        leave(&mut self.attempt, outcome)
+    }
+}
