@@ -8,6 +8,7 @@ use snapshot_store::SnapshotStore;
 use source_log::Partitions;
 
 /// The committed rows of a core.
+#[derive(Drop)]
 pub(crate) struct Committed<
     'a,
     O: Operator,
