@@ -96,8 +96,12 @@ impl<O: Operator, S: SnapshotStore, X: Transactions, P: Partitions<Record = O::R
           attempts = 0;
         } }
         ensures claims { (result.claims ≡ []) × (result.serials ≡ 0) }
-        ensures legal { (former : List (List O.Record)) → HaveGrown former (P.records log) → AreLegal ⟦<O as Rules>⟧.lang ⟦<O as Rules>⟧.RecordFits graph operators.items former (S.state store) (X.state transactions) → IsSound ⟦<O as Rules>⟧.lang ⟦<O as Rules>⟧.RecordFits result.engine }
-        ensures fresh { IsTrue result.engine.is_fresh ↔ ((S.state store ≡ stores.blank (length graph.tasks)) × (X.state transactions ≡ ledgers.blank (count_by is_sink graph.tasks))) }
+        ensures legal { (former : List (List O.Record)) → HaveGrown former (P.records log)
+            → AreLegal ⟦<O as Rules>⟧.lang ⟦<O as Rules>⟧.RecordFits graph operators.items former
+            (S.state store) (X.state transactions)
+            → IsSound ⟦<O as Rules>⟧.lang ⟦<O as Rules>⟧.RecordFits result.engine }
+        ensures fresh { IsTrue result.engine.is_fresh ↔ ((S.state store ≡ stores.blank (length graph.tasks))
+            × (X.state transactions ≡ ledgers.blank (count_by is_sink graph.tasks))) }
     {
         let engine = Engine::open(alloc, graph, operators, log, store, transactions);
         Core {
@@ -120,7 +124,10 @@ impl<O: Operator, S: SnapshotStore, X: Transactions, P: Partitions<Record = O::R
         ensures kept { Keeps ⟦<O as Rules>⟧.lang ⟦<O as Rules>⟧.RecordFits ⟦<O as Rules>⟧.IsGood self.now.engine }
         ensures sound { IsTrue result → IsSound ⟦<O as Rules>⟧.lang ⟦<O as Rules>⟧.RecordFits self.now.engine }
         ensures exact { IsTrue result → IsExactlyOnce ⟦<O as Rules>⟧.lang self.now.engine }
-        ensures line { IsTrue result → (operator : O) → IsLine self.now.engine.graph → slice_get self.now.engine.operators 0 ≡ Some operator → CommitsABeginning ⟦<O as Rules>⟧.lang self.now.engine (λ rows. applied O.meaning operator rows) }
+        ensures line { IsTrue result → (operator : O) → IsLine self.now.engine.graph
+            → slice_get self.now.engine.operators 0 ≡ Some operator
+            → CommitsABeginning ⟦<O as Rules>⟧.lang self.now.engine
+            (λ rows. applied O.meaning operator rows) }
     {
         self.engine.is_fresh()
     }
@@ -143,10 +150,14 @@ impl<O: Operator, S: SnapshotStore, X: Transactions, P: Partitions<Record = O::R
     /// restart leaves the job down, with its claims; transactions may be settled in part, and the next
     /// one does the rest. Attempts have numbers below 2^63.
     pub fn restart(&mut self) -> Result<Option<u64>, CoreFault>
-        ensures ends { Restarts self.old.engine self.new.engine ⟦<O as Rules>⟧.lang ⟦<O as Rules>⟧.KeyFits ⟦<O as Rules>⟧.RecordFits ⟦<O as Rules>⟧.IsGood result }
+        ensures ends { Restarts self.old.engine self.new.engine ⟦<O as Rules>⟧.lang
+            ⟦<O as Rules>⟧.KeyFits ⟦<O as Rules>⟧.RecordFits ⟦<O as Rules>⟧.IsGood result }
         ensures step { IsRestart ⟦<O as Rules>⟧.lang ⟦<O as Rules>⟧.RecordFits self.old.engine self.new.engine result }
         ensures counted { IsCounted self.old.engine.faults self.new.engine.faults result }
-        ensures claims { self.new ≡ record self.old { engine = self.new.engine; claims = claims_after result self.old.claims } }
+        ensures claims { self.new ≡ record self.old {
+          engine = self.new.engine;
+          claims = claims_after result self.old.claims;
+        } }
     {
         let Core { engine, claims, .. } = self;
         let outcome = engine.restart();
@@ -210,8 +221,11 @@ impl<O: Operator, S: SnapshotStore, X: Transactions, P: Partitions<Record = O::R
     pub fn complete(&mut self) -> Result<u64, CoreFault>
         ensures ends { Completes self.old.engine self.new.engine result }
         ensures whole { IfOk result (λ number. stores.has_all_parts self.new.engine.stored number ≡ true) }
-        ensures cut { IfOk result (λ number. MatchOption self.old.engine.held ⊥ (λ h. HasTheCut ⟦<O as Rules>⟧.lang self.old.engine h self.new.engine.stored number)) }
-        ensures reached { IsSound ⟦<O as Rules>⟧.lang ⟦<O as Rules>⟧.RecordFits self.old.engine → IfOk result (IsReachedCut (job_of ⟦<O as Rules>⟧.lang self.new.engine) O.Record.spelling (devices_of ⟦<O as Rules>⟧.lang self.new.engine)) }
+        ensures cut { IfOk result (λ number. MatchOption self.old.engine.held ⊥
+            (λ h. HasTheCut ⟦<O as Rules>⟧.lang self.old.engine h self.new.engine.stored number)) }
+        ensures reached { IsSound ⟦<O as Rules>⟧.lang ⟦<O as Rules>⟧.RecordFits self.old.engine
+            → IfOk result (IsReachedCut (job_of ⟦<O as Rules>⟧.lang self.new.engine)
+            O.Record.spelling (devices_of ⟦<O as Rules>⟧.lang self.new.engine)) }
         ensures step { IsStep ⟦<O as Rules>⟧.lang ⟦<O as Rules>⟧.RecordFits self.old.engine self.new.engine }
         ensures stays { Stays ⟦<O as Rules>⟧.lang self.old.engine self.new.engine }
         ensures counted { IsCounted self.old.engine.faults self.new.engine.faults result }
@@ -225,7 +239,9 @@ impl<O: Operator, S: SnapshotStore, X: Transactions, P: Partitions<Record = O::R
     /// oldest first. It takes no memory.
     pub fn commit(&mut self, sink: u32) -> Result<(), CoreFault>
         ensures ends { Commits self.old.engine self.new.engine sink result }
-        ensures reaches { IsSound ⟦<O as Rules>⟧.lang ⟦<O as Rules>⟧.RecordFits self.old.engine → OnOk result (length (committed_of self.new.engine.ledger sink) ≡ length (complete_numbers self.new.engine.stored)) }
+        ensures reaches { IsSound ⟦<O as Rules>⟧.lang ⟦<O as Rules>⟧.RecordFits self.old.engine
+            → OnOk result (length (committed_of self.new.engine.ledger sink)
+            ≡ length (complete_numbers self.new.engine.stored)) }
         ensures step { IsStep ⟦<O as Rules>⟧.lang ⟦<O as Rules>⟧.RecordFits self.old.engine self.new.engine }
         ensures stays { Stays ⟦<O as Rules>⟧.lang self.old.engine self.new.engine }
         ensures counted { IsCounted self.old.engine.faults self.new.engine.faults result }
@@ -240,7 +256,8 @@ impl<O: Operator, S: SnapshotStore, X: Transactions, P: Partitions<Record = O::R
     pub fn append(&mut self, partition: u32, row: O::Record) -> Result<(), SourceFault>
         requires { Fits O.Record.HasSpelling O.Record.spelling row }
         ensures ends { Appends self.old.engine self.new.engine partition row result }
-        ensures sound { IsSound ⟦<O as Rules>⟧.lang ⟦<O as Rules>⟧.RecordFits self.old.engine → IsSound ⟦<O as Rules>⟧.lang ⟦<O as Rules>⟧.RecordFits self.new.engine }
+        ensures sound { IsSound ⟦<O as Rules>⟧.lang ⟦<O as Rules>⟧.RecordFits self.old.engine
+            → IsSound ⟦<O as Rules>⟧.lang ⟦<O as Rules>⟧.RecordFits self.new.engine }
         ensures stays { Stays ⟦<O as Rules>⟧.lang self.old.engine self.new.engine }
         ensures claims { self.new ≡ record self.old { engine = self.new.engine } }
     {
@@ -255,7 +272,9 @@ impl<O: Operator, S: SnapshotStore, X: Transactions, P: Partitions<Record = O::R
         ensures partitions { P.records result.0 ≡ self.engine.partitions }
         ensures stored { S.state result.1 ≡ self.engine.stored }
         ensures ledger { X.state result.2 ≡ self.engine.ledger }
-        ensures legal { IsSound ⟦<O as Rules>⟧.lang ⟦<O as Rules>⟧.RecordFits self.engine → AreLegal ⟦<O as Rules>⟧.lang ⟦<O as Rules>⟧.RecordFits self.engine.graph self.engine.operators (P.records result.0) (S.state result.1) (X.state result.2) }
+        ensures legal { IsSound ⟦<O as Rules>⟧.lang ⟦<O as Rules>⟧.RecordFits self.engine
+            → AreLegal ⟦<O as Rules>⟧.lang ⟦<O as Rules>⟧.RecordFits self.engine.graph
+            self.engine.operators (P.records result.0) (S.state result.1) (X.state result.2) }
     {
         let Core { engine, .. } = self;
         engine.into_durable()
@@ -270,8 +289,10 @@ impl<O: Operator, S: SnapshotStore, X: Transactions, P: Partitions<Record = O::R
 
     /// How many records of a sink subtask are committed.
     pub fn committed_len(&self, subtask: u32) -> Result<u64, CoreFault>
-        ensures ok { IfOk result (λ len. (subtask < count_by is_sink self.now.engine.graph.tasks) × (len ≡ length (committed_rows self.now.engine.ledger subtask))) }
-        ensures err { IfErr result (λ fault. (fault ≡ CoreFault.NoSuchTask) × (count_by is_sink self.now.engine.graph.tasks ≤ subtask)) }
+        ensures ok { IfOk result (λ len. (subtask < count_by is_sink self.now.engine.graph.tasks)
+            × (len ≡ length (committed_rows self.now.engine.ledger subtask))) }
+        ensures err { IfErr result (λ fault. (fault ≡ CoreFault.NoSuchTask)
+            × (count_by is_sink self.now.engine.graph.tasks ≤ subtask)) }
     {
         self.engine.committed_len(subtask)
     }
@@ -279,8 +300,12 @@ impl<O: Operator, S: SnapshotStore, X: Transactions, P: Partitions<Record = O::R
     /// A copy of a committed record of a sink subtask, or `None` past the last. Records are numbered
     /// from 0, in the order of commit.
     pub fn committed(&self, subtask: u32, number: u64) -> Result<Option<Vec<u8>>, CoreFault>
-        ensures ok { IfOk result (λ row. (subtask < count_by is_sink self.now.engine.graph.tasks) × (option_map (λ bytes. bytes.items) row ≡ slice_get (committed_rows self.now.engine.ledger subtask) number)) }
-        ensures err { IfErr result (λ fault. ((fault ≡ CoreFault.NoSuchTask) × (count_by is_sink self.now.engine.graph.tasks ≤ subtask)) ⊎ ((fault ≡ CoreFault.Memory) × (subtask < count_by is_sink self.now.engine.graph.tasks))) }
+        ensures ok { IfOk result (λ row. (subtask < count_by is_sink self.now.engine.graph.tasks)
+            × (option_map (λ bytes. bytes.items) row
+            ≡ slice_get (committed_rows self.now.engine.ledger subtask) number)) }
+        ensures err { IfErr result (λ fault.
+            ((fault ≡ CoreFault.NoSuchTask) × (count_by is_sink self.now.engine.graph.tasks ≤ subtask))
+            ⊎ ((fault ≡ CoreFault.Memory) × (subtask < count_by is_sink self.now.engine.graph.tasks))) }
     {
         self.engine.committed(subtask, number)
     }

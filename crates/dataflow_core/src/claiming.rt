@@ -66,7 +66,8 @@ impl<O: Operator, S: SnapshotStore, X: Transactions, P: Partitions<Record = O::R
     /// A task claims the record at the head of its input, which stays there. The job carries all that
     /// its work needs. Serials are below 2^63, and rise over all attempts.
     pub fn claim(&mut self, task: u32, input: u32) -> Result<Job<O>, CoreFault>
-        ensures ok { IfOk result (λ job. Claims self.old task input ⟦<O as Rules>⟧.lang self.new job.attempt job.serial job.work) }
+        ensures ok { IfOk result (λ job. Claims self.old task input ⟦<O as Rules>⟧.lang self.new
+            job.attempt job.serial job.work) }
         ensures err { IfErr result (λ fault. Refuses self.old task input fault × (self.new ≡ self.old)) }
     {
         let work = self.offered(task, input)?;
@@ -96,8 +97,12 @@ impl<O: Operator, S: SnapshotStore, X: Transactions, P: Partitions<Record = O::R
 
     /// The claim of which this attempt and serial are a fresh ticket, and its place.
     fn ticket(&self, attempt: u64, serial: u64) -> Result<(usize, Claim), CoreFault>
-        ensures ok { IfOk result (λ found. (self.now.engine.held ≢ None) × IsHeldAt self.now attempt serial found.0 found.1) }
-        ensures err { IfErr result (λ fault. ((fault ≡ CoreFault.NotRunning) × (self.now.engine.held ≡ None)) ⊎ ((fault ≡ CoreFault.Stale) × (self.now.engine.held ≢ None) × ¬ IsFreshTicket self.now attempt serial)) }
+        ensures ok { IfOk result (λ found. (self.now.engine.held ≢ None)
+            × IsHeldAt self.now attempt serial found.0 found.1) }
+        ensures err { IfErr result (λ fault.
+            ((fault ≡ CoreFault.NotRunning) × (self.now.engine.held ≡ None))
+            ⊎ ((fault ≡ CoreFault.Stale) × (self.now.engine.held ≢ None)
+            × ¬ IsFreshTicket self.now attempt serial)) }
     {
         if !self.engine.is_running() {
             return Err(CoreFault::NotRunning);
@@ -115,7 +120,8 @@ impl<O: Operator, S: SnapshotStore, X: Transactions, P: Partitions<Record = O::R
     /// fresh ticket is stale. One whose operator, state or record differ from the core's is wrong, and
     /// leaves the claim. Where memory was refused the claim ends, and its record is still at the head.
     pub fn finish(&mut self, done: Done<O>) -> Result<(), CoreFault>
-        ensures ends { EndsFinish self.old ⟦<O as Rules>⟧.lang self.new done.attempt done.serial done.worked result }
+        ensures ends { EndsFinish self.old ⟦<O as Rules>⟧.lang self.new
+            done.attempt done.serial done.worked result }
         ensures step { IsStep ⟦<O as Rules>⟧.lang ⟦<O as Rules>⟧.RecordFits self.old.engine self.new.engine }
         ensures plain { FinishMoves self.old ⟦<O as Rules>⟧.lang self.new done.attempt done.serial result }
         ensures counted { IsCounted self.old.engine.faults self.new.engine.faults result }
