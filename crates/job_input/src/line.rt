@@ -1,6 +1,6 @@
 //! The lines of an input.
 
-ghost use Rattle.std.specs.Prelude.{◌≡◌, ◌≢◌, ◌<◌, ◌≤◌, ◌-◌, true, Ok, All, IfOk, IfSome, OnOk, OnSome, length, nat_lt, take};
+ghost use Rattle.std.specs.Prelude.{◌≡◌, ◌≢◌, ◌<◌, ◌≤◌, ◌-◌, true, false, Ok, All, IfOk, IfSome, OnOk, OnSome, length, nat_lt, take};
 ghost use Rattle.std.specs.Io.{StartsWith, StopsAt, IsEmptyOrEndsWith, appended_bytes};
 ghost use Rattle.std.specs.Io.KnownBytes.{Consumes, IsAtEnd};
 ghost use Rattle.std.specs.Io.BufRead.{take_through, DropsThrough};
@@ -67,6 +67,7 @@ pub fn next_line<R: BufRead>(file: &mut R, line: &mut Vec<u8>) -> Result<bool, L
     // Where the reader's bytes are known, these are those up to the first end of a line.
     ensures line { OnOk result (IfSome (R.remaining file.old) (λ xs. line.new.items ≡ take_through 10 xs)) }
     ensures rest { OnOk result (DropsThrough (R.remaining file.old) (R.remaining file.new) 10) }
+    ensures end { result ≡ Ok false → length line.new.items ≡ 0 }
     ensures more { IfOk result (λ more. more ≡ nat_lt 0 (length line.new.items)) }
 {
     line.clear();
