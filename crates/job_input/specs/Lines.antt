@@ -1,6 +1,7 @@
 -- The rows of lines.
-use Rattle.std.specs.Prelude.{◌≡◌, ℕ, ◌==◌, ◌||◌, List, ◌++◌, Bool, true, false, Result, Ok, slice_set}
+use Rattle.std.specs.Prelude.{◌≡◌, ℕ, zero, suc, ◌==◌, ◌||◌, List, [], ◌++◌, Bool, true, false, Result, Ok, slice_set}
 use Rattle.std.specs.List.{list_all}
+use Rattle.std.specs.Io.BufRead.{take_through, drop_through}
 use Rattle.operators.specs.declared.row.Row.{Row}
 use Rattle.script_file.specs.declared.fault.ItemFault.{ItemFault}
 use Rattle.script_file.specs.declared.fault.ItemFault.TheVariants.{Bad}
@@ -25,6 +26,15 @@ abbrev pub PutsLine : ℕ → List ℕ → List (List Row) → List (List Row) �
 PutsLine partition line old new =
     (is_blank line ≡ true → new ≡ old)
     × (is_blank line ≡ false → (row : Row) × (row_of_line line ≡ Ok row) × (new ≡ appended old partition row))
+
+-- The rows of so many lines are put last in turn, and then the text is at its end.
+abbrev pub PutsLines : ℕ → ℕ → List ℕ → List (List Row) → List (List Row) → Type 0
+PutsLines zero partition bytes old new = (bytes ≡ []) × (new ≡ old)
+PutsLines (suc n) partition bytes old new = (mid : List (List Row)) × PutsLine partition (take_through 10 bytes) old mid × PutsLines n partition (drop_through 10 bytes) mid new
+
+-- the rows of the text's lines are put last in this partition
+abbrev pub PutsText : ℕ → List ℕ → List (List Row) → List (List Row) → Type 0
+PutsText partition bytes old new = (n : ℕ) × PutsLines n partition bytes old new
 
 -- Rows are put last in this partition, and the others stay as they are.
 abbrev pub PutsRows : ℕ → List (List Row) → List (List Row) → Type 0

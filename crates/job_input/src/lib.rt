@@ -1,8 +1,9 @@
 //! A job and the files of rows that it runs over, read and judged before the run: the job's file,
-//! the number of inputs, then the inputs in order, and the first fault ends it. Proved: a line's row
-//! is the row of its JSON, and a line that has none is a bad row; the rows of an input are put last
-//! in its own partition, and no other partition changes; there is a partition for each source task
-//! of the graph that the job expands to.
+//! the number of inputs, then the inputs in order, and the first fault ends it. Proved: a line is
+//! the bytes up to the first end of one, and a text's rows are those of its lines, each the row of
+//! the line's JSON (where the reader's bytes are known, as those in memory are); they are put last
+//! in the input's own partition, and no other partition changes; there is a partition for each
+//! source task of the graph that the job expands to.
 //!
 //! Inputs are read line by line through one buffer that is used again, so that memory is bounded
 //! whatever the lines are.

@@ -1,8 +1,9 @@
 //! The rows of an input.
 
-ghost use Rattle.std.specs.Prelude.{◌≡◌, length, OnOk, OnErr};
+ghost use Rattle.std.specs.Prelude.{◌≡◌, [], false, length, Ok, OnOk, OnErr, IfSome};
 ghost use Rattle.script_file.specs.Faults.{FindsItem};
-ghost use Rattle.job_input.specs.Lines.{is_blank, row_of_line, PutsLine, PutsRows};
+ghost use Rattle.job_input.specs.Lines.{is_blank, row_of_line, PutsLine, PutsRows, PutsText};
+ghost use Rattle.std.specs.Io.BufRead.{take_through, DropsThrough};
 
 use crate::fault::LineFault;
 use crate::line::next_line;
@@ -60,12 +61,13 @@ fn take_line<R: BufRead>(
     file: &mut R,
     line: &mut Vec<u8>,
 ) -> Result<bool, LineFault>
-    ensures { PutsRows partition (⟦<MemoryLog<Row> as Partitions>⟧.records log.old) (⟦<MemoryLog<Row> as Partitions>⟧.records log.new) }
+    ensures puts { PutsRows partition (⟦<MemoryLog<Row> as Partitions>⟧.records log.old) (⟦<MemoryLog<Row> as Partitions>⟧.records log.new) }
+    ensures line { OnOk result (IfSome (R.remaining file.old) (λ bytes. PutsLine partition (take_through 10 bytes) (⟦<MemoryLog<Row> as Partitions>⟧.records log.old) (⟦<MemoryLog<Row> as Partitions>⟧.records log.new))) }
+    ensures rest { OnOk result (DropsThrough (R.remaining file.old) (R.remaining file.new) 10) }
+    ensures end { result ≡ Ok false → IfSome (R.remaining file.old) (λ bytes. bytes ≡ []) }
 {
     let more = next_line(file, line)?;
-    if more {
-        put_line(alloc, log, partition, line)?;
-    }
+    put_line(alloc, log, partition, line)?;
     Ok(more)
 }
 
@@ -79,7 +81,9 @@ pub fn read_rows<R: BufRead>(
     file: &mut R,
     line: &mut Vec<u8>,
 ) -> Result<(), (u64, LineFault)>
-    ensures { PutsRows partition (⟦<MemoryLog<Row> as Partitions>⟧.records log.old) (⟦<MemoryLog<Row> as Partitions>⟧.records log.new) }
+    ensures puts { PutsRows partition (⟦<MemoryLog<Row> as Partitions>⟧.records log.old) (⟦<MemoryLog<Row> as Partitions>⟧.records log.new) }
+    // Where the reader's bytes are known, these are the rows of their lines, each in its turn.
+    ensures text { OnOk result (IfSome (R.remaining file.old) (λ bytes. PutsText partition bytes (⟦<MemoryLog<Row> as Partitions>⟧.records log.old) (⟦<MemoryLog<Row> as Partitions>⟧.records log.new))) }
 {
     for number in 1..u64::MAX {
         match take_line(alloc, log, partition, file, line) {
