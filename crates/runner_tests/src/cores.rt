@@ -2,7 +2,7 @@
 
 use abs_codec::{Codec, Text, decode_all};
 use commit_sink::{FlakyTransactions, MemoryTransactions, Transactions};
-use engine::{CoreFault, Engine as Core};
+use dataflow_core::{Core, CoreFault};
 use job_graph::Graph;
 use job_spec::JobSpec;
 use operators::{Operator, Row, RowOp};

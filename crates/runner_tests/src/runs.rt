@@ -4,7 +4,7 @@ ghost use Rattle.std.specs.Prelude.{◌≡◌};
 
 use crate::cores::{line, numbers};
 use commit_sink::Transactions;
-use engine::Engine as Core;
+use dataflow_core::Core;
 use operators::Operator;
 use snapshot_store::SnapshotStore;
 use source_log::Partitions;
@@ -15,7 +15,7 @@ use std::sync::{Mutex, Wait};
 use std::test::Fail;
 use std::thread::Threads;
 use std::time::Clock;
-use thread_runner::{Report, RunFault, Schedule, Station, run};
+use thread_runner::{NoPause, Report, RunFault, Schedule, Station, run};
 
 /// How a run is made.
 #[derive(Clone, Copy)]
@@ -58,7 +58,7 @@ where
         restarts,
     } = plan;
     let report = run(
-        rt, alloc, &station, &mut share, workers, every, turns, restarts,
+        rt, alloc, &station, &mut share, workers, every, turns, restarts, &NoPause,
     );
     let core = station.into_inner().into_core();
     let numbers = numbers(alloc, &core)?;
