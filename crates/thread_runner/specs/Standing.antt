@@ -1,9 +1,22 @@
 -- What a station keeps.
-use Rattle.std.specs.Prelude.{ℕ}
-use Rattle.core_model.specs.State.{State}
+use Rattle.std.specs.Prelude.{◌≡◌, ℕ, ◌+◌, ◌≤◌, Result, MatchResult, length}
+use Rattle.core_model.specs.declared.fault.CoreFault.{CoreFault}
+use Rattle.dataflow_core.specs.CoreState.{CoreState}
 
--- the core, the total of the accepted calls, and how often a task was asked to work
+-- the core, and the total of the finishes that were accepted
 pub record Standing (O R K S : Type 0) : Type 0 where
-  pub core : State O R K S
+  pub core : CoreState O R K S
   pub total : ℕ
-  pub calls : ℕ
+
+-- each claim adds one at most, and once it has ended
+abbrev pub Within : {O R K S : Type 0} → ℕ → CoreState O R K S → Type 0
+Within total core = total + length core.claims ≤ core.serials
+
+-- one claim is made at most
+abbrev pub ClaimsOnce : {O R K S : Type 0} → CoreState O R K S → CoreState O R K S → Type 0
+ClaimsOnce old new = length new.claims + old.serials ≤ length old.claims + new.serials
+
+-- a claim ends where a result is taken, and none is made
+abbrev pub EndsAClaim : {O R K S : Type 0} → CoreState O R K S → CoreState O R K S → Result Unit CoreFault → Type 0
+EndsAClaim old new result =
+    MatchResult result (λ _. length new.claims + 1 ≡ length old.claims) (λ _. length new.claims ≤ length old.claims) × (new.serials ≡ old.serials)

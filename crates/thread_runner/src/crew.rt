@@ -3,11 +3,11 @@
 ghost use Rattle.std.specs.Prelude.{◌≡◌, ◌+◌, ◌≤◌, ◌<◌, ◌^◌, IfOk, vec_len};
 
 use crate::fault::RunFault;
-use crate::inputs::Place;
 use crate::patience::Patience;
+use crate::pause::Pause;
 use crate::station::{Next, Station};
 use commit_sink::Transactions;
-use engine::CoreFault;
+use dataflow_core::Job;
 use operators::Operator;
 use snapshot_store::SnapshotStore;
 use source_log::Partitions;
@@ -21,7 +21,7 @@ use std::time::Clock;
 /// What a run did.
 #[derive(Clone, Copy, PartialEq, Eq, Debug)]
 pub struct Report {
-    /// How often a task's work was accepted.
+    /// How many jobs were finished.
     pub finished: u128,
 }
 
@@ -47,54 +47,71 @@ impl<L: Ledger> Worker<L> {
         S: SnapshotStore + Drop,
         X: Transactions + Drop,
         P: Partitions<Record = O::Record> + Drop,
+        H: Pause,
         R: Wait + Clock,
-    >(&mut self, rt: &R, station: &Mutex<Station<O, S, X, P, L>>, turns: u64) {
+    >(&mut self, rt: &R, station: &Mutex<Station<O, S, X, P, L>>, turns: u64, pause: &H) {
         let mut patience = Patience::new();
         for _ in 0..turns {
-            match self.turn(rt, station) {
+            let next = station.lock(rt).choose();
+            match next {
                 Next::Over => return,
                 Next::Idle => patience.wait(rt),
-                Next::Again | Next::Work(_) => patience = Patience::new(),
+                Next::Again => patience = Patience::new(),
+                Next::Run(task, job) => {
+                    patience = Patience::new();
+                    self.run_job(rt, station, turns, pause, task, job);
+                }
             }
         }
     }
 
-    /// One turn, under the lock.
-    fn turn<
+    /// Runs a task's job with no lock held, and hands in what was done of it.
+    fn run_job<
         O: Operator,
         S: SnapshotStore + Drop,
         X: Transactions + Drop,
         P: Partitions<Record = O::Record> + Drop,
+        H: Pause,
         R: Wait,
-    >(&mut self, rt: &R, station: &Mutex<Station<O, S, X, P, L>>) -> Next {
+    >(
+        &mut self,
+        rt: &R,
+        station: &Mutex<Station<O, S, X, P, L>>,
+        turns: u64,
+        pause: &H,
+        task: u32,
+        job: Job<O>,
+    ) {
+        let (attempt, serial) = (job.attempt(), job.serial());
+        for _ in 0..turns {
+            if pause.before_run(attempt, serial) {
+                break;
+            }
+            if !station.lock(rt).wait() {
+                return;
+            }
+        }
+        let done = job.run();
+        pause.after_run(attempt, serial);
         let Worker { share, finished } = self;
         let mut station = station.lock(rt);
-        let next = station.choose();
-        let Next::Work(Place { task, input }) = next else {
-            return next;
-        };
-        if station.is_spent() {
-            station.stop(RunFault::Core(CoreFault::NumbersSpent));
-            return Next::Over;
-        }
-        let worked = station.work_with(share, task, input);
-        if worked.is_ok() {
+        let outcome = station.finish_with(share, done);
+        if outcome.is_ok() {
             *finished += 1;
         }
-        station.worked(Place { task, input }, worked);
-        next
+        station.finished(task, outcome);
     }
 }
 
-/// Takes the job to rest, by so many workers, and says how often a task's work was accepted. A job that is
-/// down is restarted first. A checkpoint is triggered after every so many accepted works (0: none but the
-/// last), and a last one is committed. Where it is refused otherwise than for its workers, the job is down.
+/// Takes the job to rest, by so many workers, and says how many jobs were finished. A job that is down is
+/// restarted first. A checkpoint is triggered after every so many finishes (0: none but the last), and a last one is committed. Where it is refused otherwise than for its workers, the job is down.
 pub fn run<
     O: Operator + Send,
     S: SnapshotStore + Drop + Send,
     X: Transactions + Drop + Send,
     P: Partitions<Record = O::Record> + Drop + Send,
     L: Ledger + Send + Sync,
+    H: Pause + Sync,
     R: Threads + Wait + Clock + Sync,
 >(
     rt: &R,
@@ -105,6 +122,7 @@ pub fn run<
     every: u64,
     turns: u64,
     restarts: u64,
+    pause: &H,
 ) -> Result<Report, RunFault>
 where
     O::Record: Send,
@@ -129,14 +147,14 @@ where
         rt,
         crew.as_mut_slice(),
         workers,
-        &|_: usize, worker: &mut Worker<L>| worker.work(rt, station, turns),
+        &|_: usize, worker: &mut Worker<L>| worker.work(rt, station, turns, pause),
     );
     let finished = gather(rt, station, all, crew);
     station.lock(rt).end()?;
     Ok(Report { finished })
 }
 
-/// Merges the workers' shares, and says how often their tasks' work was accepted.
+/// Merges the workers' shares, and says how many jobs they have finished.
 fn gather<
     O: Operator,
     S: SnapshotStore + Drop,

@@ -1,6 +1,6 @@
 //! Why a run is refused.
 
-use engine::CoreFault;
+use dataflow_core::CoreFault;
 use thiserror::Error;
 
 /// Why a run is refused.

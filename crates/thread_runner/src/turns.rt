@@ -4,7 +4,7 @@ use crate::fault::RunFault;
 use crate::inputs::Place;
 use crate::schedule::{Schedule, Step};
 use alignment::Effect;
-use engine::CoreFault;
+use dataflow_core::CoreFault;
 
 /// The turns of the present run.
 #[derive(Drop)]
@@ -67,7 +67,7 @@ impl Turns {
     }
 
     /// The run ends by a refusal.
-    pub(crate) fn stop(&mut self, fault: RunFault) {
+    fn stop(&mut self, fault: RunFault) {
         self.end = Some(Err(fault));
     }
 
@@ -84,12 +84,36 @@ impl Turns {
         }
     }
 
-    /// What came of a task's work.
-    pub(crate) fn worked(&mut self, place: Place, outcome: Result<(), CoreFault>) {
+    /// A task holds a claim.
+    pub(crate) fn claimed(&mut self, task: u32) {
+        self.schedule.claimed(task);
+    }
+
+    /// What came of a task's job. A result that comes too late is dropped.
+    pub(crate) fn finished(&mut self, task: u32, outcome: Result<(), CoreFault>) {
         match outcome {
-            Ok(()) => self.schedule.worked(place.task),
-            Err(fault) => self.refused(Step::Work(place), fault),
+            Ok(()) => {
+                self.schedule.unclaimed(task);
+                self.schedule.worked(task);
+            }
+            Err(CoreFault::Stale | CoreFault::NotRunning) => {}
+            Err(CoreFault::Memory) => self.stop(RunFault::Memory),
+            Err(CoreFault::Device) => self.went_down(),
+            Err(fault) => self.stop(RunFault::Core(fault)),
         }
+    }
+
+    /// Counts the turn of a worker that waits with its job. False where the run is over, or no turn is left.
+    pub(crate) fn wait(&mut self) -> bool {
+        if self.end.is_some() {
+            return false;
+        }
+        if self.left == 0 {
+            self.stop(RunFault::TurnsSpent);
+            return false;
+        }
+        self.left -= 1;
+        true
     }
 
     /// What came of a task's taking of a barrier.
@@ -117,7 +141,8 @@ impl Turns {
         }
     }
 
-    fn refused(&mut self, step: Step, fault: CoreFault) {
+    /// A step was refused.
+    pub(crate) fn refused(&mut self, step: Step, fault: CoreFault) {
         match fault {
             CoreFault::Memory => self.stop(RunFault::Memory),
             CoreFault::NumbersSpent | CoreFault::BadSnapshot => self.stop(RunFault::Core(fault)),

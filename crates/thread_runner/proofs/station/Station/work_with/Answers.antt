@@ -1,4 +1,0 @@
-use Rattle.thread_runner.proofs.station.Station.work_with.Goals as goal
-
-pub returns-clause-ends : goal.returns-clause-ends
-returns-clause-ends g c = rw (← c.self.view_is) c.work-worked.ensures.ends
