@@ -1,6 +1,6 @@
 //! Runs a job.
 
-ghost use Rattle.std.specs.Prelude.{◌≡◌, ◌≤◌};
+ghost use Rattle.std.specs.Prelude.{◌≡◌, ◌≤◌, length};
 ghost use Rattle.job_input.specs.Judged.{IsJudged};
 
 use crate::committed::Committed;
@@ -48,6 +48,7 @@ where
     O::Record: Send,
     O::Key: Send,
     O::State: Send,
+    requires claims { length core.claims ≤ core.serials }
     requires name { blank.name ≡ L.name }
     requires parts { (blank.parts ≡ L.parts) × (L.parts ≡ 65) }
 {
