@@ -25,7 +25,7 @@ served="stage08"
 most_bytes=16777216
 
 if [ $# -eq 0 ]; then
-  programs=(crates/absflow/out/absflow crates/absflow/out/absflow.by-rattle)
+  programs=("$PWD/crates/absflow/out/absflow" "$PWD/crates/absflow/out/absflow.by-rattle")
   if [ ! -e "${programs[1]}" ]; then
     echo "${programs[1]} is not there (Rattle's own compiler may not compile a program): running ${programs[0]} alone"
     programs=("${programs[0]}")
