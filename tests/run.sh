@@ -38,6 +38,18 @@ passed=0 failed=0
 # differ WANTED GOT: the first line in which these files differ.
 differ() { diff --side-by-side --suppress-common-lines --expand-tabs --width=100 "$1" "$2" | head -n 1; }
 
+# judge NAME OUT GOT ERR STATUS ENDED: the output that was got is OUT, standard error is ERR, and the program ended with the status that is wanted.
+judge() {
+  if cmp -s "$2" "$3" && cmp -s "$4" "$work/err" && [ "$6" -eq "$5" ]; then
+    passed=$((passed + 1))
+  else
+    failed=$((failed + 1))
+    echo "FAILED $1: status $6, $5 is wanted"
+    differ "$2" "$3"
+    differ "$4" "$work/err"
+  fi
+}
+
 # expect NAME WANTED WORD..: with these words the program comes to WANTED.out or WANTED.err.
 expect() {
   local name=$1 wanted=$2 status=0 out=/dev/null err=/dev/null
@@ -45,14 +57,7 @@ expect() {
   "$program" "$@" > "$work/out" 2> "$work/err"
   local ended=$?
   if [ -e "$wanted.err" ]; then status=1 err=$wanted.err; else out=$wanted.out; fi
-  if cmp -s "$out" "$work/out" && cmp -s "$err" "$work/err" && [ $ended -eq $status ]; then
-    passed=$((passed + 1))
-  else
-    failed=$((failed + 1))
-    echo "FAILED $name: status $ended, $status is wanted"
-    differ "$out" "$work/out"
-    differ "$err" "$work/err"
-  fi
+  judge "$name" "$out" "$work/out" "$err" $status $ended
 }
 
 # expect_all COMMAND FILE..: the command, with each of these files.
@@ -82,14 +87,7 @@ expect_run() {
   [ ! -e "$wanted/err" ] || err=$wanted/err
   [ "$status" -ne 2 ] || err=$work/err
   $order "$work/out" > "$work/ordered"
-  if cmp -s "$out" "$work/ordered" && cmp -s "$err" "$work/err" && [ $ended -eq "$status" ]; then
-    passed=$((passed + 1))
-  else
-    failed=$((failed + 1))
-    echo "FAILED $wanted, run $*: status $ended, $status is wanted"
-    differ "$out" "$work/ordered"
-    differ "$err" "$work/err"
-  fi
+  judge "$wanted, run $*" "$out" "$work/ordered" "$err" "$status" $ended
 }
 
 # expect_runs FOLDER..: each line of its args.
