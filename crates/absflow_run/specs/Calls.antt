@@ -1,50 +1,80 @@
 -- What a step of a script asks for.
-use Rattle.std.specs.Prelude.{◌≡◌, ℕ, ◌-◌, ◌^◌, List, Result, Ok, Err, IfOk, IfErr}
+use Rattle.std.specs.Prelude.{◌≡◌, ◌⊎◌, ℕ, ◌-◌, ◌^◌, List}
 use Rattle.abs_codec.specs.Spelling.{Fits, IsTextWithin, bytes_spelling}
-use Rattle.core_model.specs.State.{State}
+use Rattle.absflow_run.specs.declared.answer.Asked.{Asked}
+use Rattle.absflow_run.specs.declared.answer.Asked.TheVariants as asked
+use Rattle.claims.specs.Carried.{given_of}
+use Rattle.claims.specs.declared.parts.Made.{Made}
+use Rattle.core_model.specs.Language.{Language}
+use Rattle.core_model.specs.declared.fault.CoreFault.{CoreFault}
+use Rattle.dataflow_core.specs.Claims.{Refuses, Claims, EndsFinish}
+use Rattle.dataflow_core.specs.CoreState.{CoreState}
+use Rattle.dataflow_core.specs.Desks.{ClaimedJob, DeskJobs}
+use Rattle.dataflow_core.specs.Replies.{accepted_as}
+use Rattle.dataflow_core.specs.Runs.{StepFits, Tells, EndsStep}
+use Rattle.dataflow_core.specs.declared.replies.Reply.{Reply}
+use Rattle.dataflow_core.specs.declared.replies.Reply.TheVariants.{Accepted, Refused}
+use Rattle.dataflow_core.specs.declared.runs.Step as core
+use Rattle.dataflow_core.specs.declared.runs.Step.TheVariants as call
 use Rattle.engine.specs.Rows.{row_language}
-use Rattle.engine.specs.Steps.{EndsStep}
-use Rattle.engine.specs.declared.steps.Reply.{Reply}
-use Rattle.engine.specs.declared.steps.Reply.TheVariants.{Accepted}
-use Rattle.engine.specs.declared.steps.Step as core
-use Rattle.engine.specs.declared.steps.Step.TheVariants as call
-use Rattle.fault_plan.specs.declared.plan.When.{When}
 use Rattle.operators.specs.Operator.{IsGoodState}
 use Rattle.operators.specs.RowMeaning.{RowSuits}
 use Rattle.operators.specs.RowSpelling.{RowIsSpelled, row_spelling, StateIsSpelled, state_spelling}
 use Rattle.operators.specs.declared.row.Row.{Row}
 use Rattle.operators.specs.declared.row_op.RowOp.{RowOp}
 use Rattle.operators.specs.declared.row_state.RowState.{RowState}
-use Rattle.script_file.specs.declared.faulty.FaultCall.{FaultCall}
 use Rattle.script_file.specs.declared.step.Step.{Step}
-use Rattle.script_file.specs.declared.step.Step.TheVariants.{Read, Work, Barrier, Trigger, Inject, Persist, Complete, Commit, Fail, Restart, Append, Fault}
+use Rattle.script_file.specs.declared.step.Step.TheVariants.{Read, Work, Claim, Finish, Barrier, Trigger, Inject, Persist, Complete, Commit, Fail, Restart, Append, Fault}
 use Rattle.task_part.specs.Spelling.{part_spelling}
 
--- the core's call that the step names; a fault names none, but the device's call that is to fail
-abbrev pub call_named : Step → Result (core.Step Row) (FaultCall × When)
-call_named (Read task) = Ok (call.Read task)
-call_named (Work task input) = Ok (call.Work task input)
-call_named (Barrier task input) = Ok (call.Barrier task input)
-call_named Trigger = Ok call.Trigger
-call_named (Inject task) = Ok (call.Inject task)
-call_named (Persist task) = Ok (call.Persist task)
-call_named Complete = Ok call.Complete
-call_named (Commit sink) = Ok (call.Commit sink)
-call_named Fail = Ok call.Fail
-call_named Restart = Ok call.Restart
-call_named (Append partition row) = Ok (call.Append partition row)
-call_named (Fault device when) = Err (device, when)
+-- The core's call that the step names; `work` names the three that make up a task's work, and a fault none, but the device's call that is to fail.
+abbrev pub asked_by : Step → Asked
+asked_by (Read task) = asked.Call (call.Read task)
+asked_by (Work task input) = asked.Work task input
+asked_by (Claim task input) = asked.Call (call.Claim task input)
+asked_by (Finish number) = asked.Call (call.Finish number)
+asked_by (Barrier task input) = asked.Call (call.Barrier task input)
+asked_by Trigger = asked.Call call.Trigger
+asked_by (Inject task) = asked.Call (call.Inject task)
+asked_by (Persist task) = asked.Call (call.Persist task)
+asked_by Complete = asked.Call call.Complete
+asked_by (Commit sink) = asked.Call (call.Commit sink)
+asked_by Fail = asked.Call call.Fail
+asked_by Restart = asked.Call call.Restart
+asked_by (Append partition row) = asked.Call (call.Append partition row)
+asked_by (Fault device when) = asked.Fault device when
 
--- what a core of row operators holds
+-- what is appended fits
+abbrev pub AskedFits : (Row → Type 0) → Asked → Type 0
+AskedFits RowFits (asked.Call made) = StepFits RowFits made
+AskedFits RowFits other = Unit {0}
+
+-- The record at the head of the input is claimed, what was made of it is handed in at once, and the reply tells how that ended; or the claim is refused.
+abbrev pub Works : {R K S O : Type 0} → Language R K S O → (task input : ℕ) → CoreState O R K S → CoreState O R K S → Reply → Type 0
+Works {R} {K} {S} {O} lang task input old new reply =
+    ((middle : CoreState O R K S) × (job : ClaimedJob O K S R) × (made : Made O K S R)
+    × Claims old task input lang middle job.attempt job.serial job.work × (given_of made ≡ job.work)
+    × Tells accepted_as reply (EndsFinish middle lang new job.attempt job.serial made))
+    ⊎ ((fault : CoreFault) × (reply ≡ Refused fault) × Refuses old task input fault × (new ≡ old))
+
+-- what a core of row operators holds, and its desk
 abbrev pub Rows : Type 0
-Rows = State RowOp Row (List ℕ) RowState
+Rows = CoreState RowOp Row (List ℕ) RowState
 
--- the core's call may lead from old to new, with this reply
-abbrev pub EndsCall : core.Step Row → Rows → Rows → Reply → Type 0
+abbrev pub RowJobs : Type 0
+RowJobs = DeskJobs RowOp (List ℕ) RowState Row
+
+-- the core's call may lead from the core and the desk to these, with this reply
+abbrev pub EndsCall : core.Step Row → Rows → RowJobs → Rows → RowJobs → Reply → Type 0
 EndsCall =
     EndsStep row_language (Fits (IsTextWithin (2 ^ 32 - 1)) bytes_spelling) (Fits RowIsSpelled row_spelling) (IsGoodState (Fits StateIsSpelled state_spelling) RowSuits)
     (part_spelling row_spelling bytes_spelling state_spelling)
 
--- A step ends as the core's call that it names does. A fault is accepted, and the core stays as it is.
-abbrev pub MakesStep : Step → Rows → Rows → Reply → Type 0
-MakesStep step old new reply = IfOk (call_named step) (λ made. EndsCall made old new reply) × IfErr (call_named step) (λ fault. (new ≡ old) × (reply ≡ Accepted))
+-- what was asked for is done; a fault is accepted, and the core stays as it is
+abbrev pub Does : Asked → Rows → RowJobs → Rows → RowJobs → Reply → Type 0
+Does (asked.Call made) old desk new left reply = EndsCall made old desk new left reply
+Does (asked.Work task input) old desk new left reply = Works row_language task input old new reply × (left ≡ desk)
+Does (asked.Fault device when) old desk new left reply = (new ≡ old) × (left ≡ desk) × (reply ≡ Accepted)
+
+abbrev pub MakesStep : Step → Rows → RowJobs → Rows → RowJobs → Reply → Type 0
+MakesStep step = Does (asked_by step)

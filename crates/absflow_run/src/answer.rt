@@ -1,20 +1,17 @@
 //! What a step came to, as its answer line says it.
 
-ghost use Rattle.std.specs.Prelude.{◌≡◌, IfOk};
+ghost use Rattle.std.specs.Prelude.{◌≡◌};
 ghost use Rattle.abs_codec.specs.Spelling.{Fits};
-ghost use Rattle.absflow_run.specs.Calls.{call_named, MakesStep};
-ghost use Rattle.core_model.specs.Language.{language};
-ghost use Rattle.engine.specs.Steps.{StepFits, EndsStep};
-ghost use Rattle.operators.specs.Operator.{IsGoodState};
-ghost use Rattle.task_part.specs.Spelling.{part_spelling};
+ghost use Rattle.absflow_run.specs.Calls.{asked_by, AskedFits, Works, MakesStep};
+ghost use Rattle.dataflow_core.specs.Runs.{StepFits, EndsStep};
 
 use crate::opening::RowCore;
 use abs_codec::Codec;
 use alignment::Effect;
 use commit_sink::Transactions;
-use engine::{DeviceCall, Engine as Core, Reply, Step as CoreStep};
+use dataflow_core::{Core, Desk, DeviceCall, Reply, Rules, Step as CoreStep};
 use fault_plan::When;
-use operators::{Operator, Row};
+use operators::{Operator, Row, RowOp};
 use script_file::{FaultCall, Step};
 use snapshot_store::SnapshotStore;
 use source_log::Partitions;
@@ -43,6 +40,7 @@ impl fmt::Display for Answer {
                 let word = word_of(effect);
                 write!(f, "ok {word}")
             }
+            Reply::NoJob => write!(f, "no job"),
             Reply::Refused(fault) => write!(f, "{fault}"),
             Reply::Source(fault) => write!(f, "{fault}"),
         }
@@ -57,45 +55,79 @@ fn device_call(call: FaultCall) -> DeviceCall {
     }
 }
 
-/// The core's call of a step's name, or the device's call that is to fail.
-fn call_of(step: Step) -> Result<CoreStep<Row>, (FaultCall, When)>
-    ensures named { result ≡ call_named step }
-    ensures fits { IfOk result (StepFits (Fits ⟦<Row as Codec>⟧.HasSpelling ⟦<Row as Codec>⟧.spelling)) }
+/// What a step asks for.
+#[derive(Drop)]
+enum Asked {
+    /// A call on the core.
+    Call(CoreStep<Row>),
+    /// A task's work, at one of its inputs.
+    Work(u32, u32),
+    /// The device's call is to fail.
+    Fault(FaultCall, When),
+}
+
+/// What a step's name asks for.
+fn asked_by(step: Step) -> Asked
+    ensures named { result ≡ asked_by step }
+    ensures fits { AskedFits (Fits ⟦<Row as Codec>⟧.HasSpelling ⟦<Row as Codec>⟧.spelling) result }
 {
-    Ok(match step {
-        Step::Read(task) => CoreStep::Read(task),
-        Step::Work(task, input) => CoreStep::Work(task, input),
-        Step::Barrier(task, input) => CoreStep::Barrier(task, input),
-        Step::Trigger => CoreStep::Trigger,
-        Step::Inject(task) => CoreStep::Inject(task),
-        Step::Persist(task) => CoreStep::Persist(task),
-        Step::Complete => CoreStep::Complete,
-        Step::Commit(sink) => CoreStep::Commit(sink),
-        Step::Fail => CoreStep::Fail,
-        Step::Restart => CoreStep::Restart,
-        Step::Append(partition, row) => CoreStep::Append(partition, row.into_row()),
-        Step::Fault(call, when) => return Err((call, when)),
-    })
+    match step {
+        Step::Read(task) => Asked::Call(CoreStep::Read(task)),
+        Step::Work(task, input) => Asked::Work(task, input),
+        Step::Claim(task, input) => Asked::Call(CoreStep::Claim(task, input)),
+        Step::Finish(number) => Asked::Call(CoreStep::Finish(number)),
+        Step::Barrier(task, input) => Asked::Call(CoreStep::Barrier(task, input)),
+        Step::Trigger => Asked::Call(CoreStep::Trigger),
+        Step::Inject(task) => Asked::Call(CoreStep::Inject(task)),
+        Step::Persist(task) => Asked::Call(CoreStep::Persist(task)),
+        Step::Complete => Asked::Call(CoreStep::Complete),
+        Step::Commit(sink) => Asked::Call(CoreStep::Commit(sink)),
+        Step::Fail => Asked::Call(CoreStep::Fail),
+        Step::Restart => Asked::Call(CoreStep::Restart),
+        Step::Append(partition, row) => Asked::Call(CoreStep::Append(partition, row.into_row())),
+        Step::Fault(call, when) => Asked::Fault(call, when),
+    }
 }
 
 /// What the core answers to a call.
 fn reply_to<O: Operator, S: SnapshotStore, X: Transactions, P: Partitions<Record = O::Record>>(
     core: &mut Core<O, S, X, P>,
+    desk: &mut Desk<O>,
     call: &CoreStep<O::Record>,
-) -> Answer
-    requires { StepFits (Fits O.Record.HasSpelling O.Record.spelling) call.now }
-    ensures { EndsStep (language O.meaning O.Key.cmp O.Record.spelling O.Record.reading O.Key.reading O.State.reading) (Fits O.Key.HasSpelling O.Key.spelling) (Fits O.Record.HasSpelling O.Record.spelling) (IsGoodState (Fits O.State.HasSpelling O.State.spelling) O.Suits) (part_spelling O.Record.spelling O.Key.spelling O.State.spelling) call.now core.old core.new result.0 }
+) -> Reply
+    requires { StepFits ⟦<O as Rules>⟧.RecordFits call.now }
+    ensures { EndsStep ⟦<O as Rules>⟧.lang ⟦<O as Rules>⟧.KeyFits ⟦<O as Rules>⟧.RecordFits
+        ⟦<O as Rules>⟧.IsGood ⟦<O as Rules>⟧.spelling call.now core.old desk.old core.new desk.new result }
 {
-    Answer(core.step(call))
+    core.step(desk, call)
 }
 
-/// Makes a step: the core's call of its name, or a device's call is made to fail.
-pub fn make_step(core: &mut RowCore, step: Step) -> Answer
-    ensures { MakesStep step core.old core.new result.0 }
+/// A task claims the record at the head of its input, works it, and hands in what was made of it.
+fn work<O: Operator, S: SnapshotStore, X: Transactions, P: Partitions<Record = O::Record>>(
+    core: &mut Core<O, S, X, P>,
+    task: u32,
+    input: u32,
+) -> Reply
+    ensures { Works ⟦<O as Rules>⟧.lang task input core.old core.new result }
 {
-    match call_of(step) {
-        Ok(call) => reply_to(core, &call),
-        Err((call, when)) => {
+    let job = match core.claim(task, input) {
+        Ok(job) => job,
+        Err(fault) => return Reply::Refused(fault),
+    };
+    match core.finish(job.run()) {
+        Ok(()) => Reply::Accepted,
+        Err(fault) => Reply::Refused(fault),
+    }
+}
+
+/// Makes a step: what its name asks for is done.
+pub fn make_step(core: &mut RowCore, desk: &mut Desk<RowOp>, step: Step) -> Answer
+    ensures { MakesStep step core.old desk.old core.new desk.new result.0 }
+{
+    match asked_by(step) {
+        Asked::Call(call) => Answer(reply_to(core, desk, &call)),
+        Asked::Work(task, input) => Answer(work(core, task, input)),
+        Asked::Fault(call, when) => {
             core.arm(device_call(call), when);
             Answer(Reply::Accepted)
         }

@@ -4,7 +4,7 @@ use crate::refusal::Refusal;
 use crate::row_text::row_line;
 use abs_codec::decode_all;
 use commit_sink::Transactions;
-use engine::{CoreFault, Engine as Core};
+use dataflow_core::{Core, CoreFault};
 use operators::{Operator, Row};
 use snapshot_store::SnapshotStore;
 use source_log::Partitions;

@@ -7,7 +7,7 @@ ghost use Rattle.job_spec.specs.Job.{operators_of};
 
 use crate::refusal::Refusal;
 use commit_sink::{FlakyTransactions, MemoryTransactions};
-use engine::Engine as Core;
+use dataflow_core::Core;
 use job_graph::Graph;
 use job_spec::JobSpec;
 use operators::{Row, RowOp};

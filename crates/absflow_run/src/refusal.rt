@@ -8,7 +8,7 @@ ghost use Rattle.core_model.specs.declared.fault.CoreFault.TheVariants as CoreFa
 ghost use Rattle.source_log.specs.declared.partitions.SourceFault.TheVariants as SourceFault;
 
 use abs_codec::{CodecFault, NoMemory};
-use engine::CoreFault;
+use dataflow_core::CoreFault;
 use job_spec::JobFault;
 use script_file::ScriptFault;
 use source_log::SourceFault;

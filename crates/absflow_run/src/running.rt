@@ -8,14 +8,21 @@ use crate::opening::{RowCore, open};
 use crate::refusal::{Refusal, finish};
 use crate::rows_log::rows_log;
 use crate::text::read_bytes;
+use dataflow_core::Desk;
+use operators::RowOp;
 use script_file::{Contents, Script, Step};
 use std::alloc::Global;
 use std::io::{Read, Write};
 
 /// Makes the steps, with an answer line for each.
-fn make_steps<W: Write>(core: &mut RowCore, steps: Vec<Step>, out: &mut W) -> Result<(), Refusal> {
+fn make_steps<W: Write>(
+    core: &mut RowCore,
+    desk: &mut Desk<RowOp>,
+    steps: Vec<Step>,
+    out: &mut W,
+) -> Result<(), Refusal> {
     for (number, step) in steps.into_iter().enumerate() {
-        let answer = make_step(core, step);
+        let answer = make_step(core, desk, step);
         writeln!(out, "{number} {answer}").map_err(|_| Refusal::Output)?;
     }
     Ok(())
@@ -29,7 +36,8 @@ fn serve<W: Write>(
     out: &mut W,
 ) -> Result<(), Refusal> {
     core.restart()?;
-    make_steps(core, steps, out)?;
+    let mut desk = Desk::new(alloc);
+    make_steps(core, &mut desk, steps, out)?;
     print_committed(alloc, core, out)
 }
 

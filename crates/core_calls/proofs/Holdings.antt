@@ -1,5 +1,5 @@
 -- What a task holds, and the head of its input.
-use Rattle.std.proofs.Common.{◌≡◌, ◌≤◌, ℕ, zero, suc, Option, Some, None, Err, List, [], ◌∷◌, slice_get, length, unwrap_or, All, sym, ap, ◌∙◌, subst, arith}
+use Rattle.std.proofs.Common.{◌≡◌, ◌≤◌, ℕ, zero, suc, Option, Some, None, Err, List, [], ◌∷◌, slice_get, length, unwrap_or, All, ap, subst, arith}
 use Rattle.std.specs.declared.cmp.Ordering.{Ordering}
 use Rattle.commit_sink.specs.Ledger.{Ledger, Ends}
 use Rattle.commit_sink.specs.declared.transactions.TransactionFault.{TransactionFault}
@@ -7,7 +7,6 @@ use Rattle.commit_sink.specs.declared.transactions.TransactionFault.TheVariants.
 use Rattle.abs_codec.specs.Entries.{value_at}
 use Rattle.core_model.specs.Calls.{state_of}
 use Rattle.dataflow_model.specs.Graph.{Meaning}
-use Rattle.dataflow_model.specs.Machine.{state_under}
 use Rattle.job_graph.specs.Expanded.{Expanded}
 use Rattle.job_state.specs.Held.{Held, Operates}
 
@@ -23,22 +22,6 @@ head_is P [] x all e = absurd cc
 head_is P (y ∷ ys) x all e = subst P (ap (λ o. unwrap_or o y) e) (all 0 y (omega arith))
 
 module _ {K S : Type 0} (cmp : K → K → Ordering) (entries : List (K × S)) where
-  -- a state that is found stands under the key
-  pub found_under : (key is : Option K) (fresh state : S) → key ≡ is → state_of cmp entries key ≡ Some state → state ≡ state_under is fresh (value_at cmp entries)
-  found_under key is fresh state k e = under is (ap (state_of cmp entries) (sym k) ∙ e)
-    where
-      under : (is : Option K) → state_of cmp entries is ≡ Some state → state ≡ state_under is fresh (value_at cmp entries)
-      under None e = absurd cc
-      under (Some at) e = sym (ap (λ o. unwrap_or o fresh) e)
-
-  -- where none is found, it is the fresh one
-  pub fresh_under : (key is : Option K) (fresh first : S) → key ≡ is → first ≡ fresh → state_of cmp entries key ≡ None → first ≡ state_under is fresh (value_at cmp entries)
-  fresh_under key is fresh first k f e = under is (ap (state_of cmp entries) (sym k) ∙ e)
-    where
-      under : (is : Option K) → state_of cmp entries is ≡ None → first ≡ state_under is fresh (value_at cmp entries)
-      under None e = f
-      under (Some at) e = f ∙ sym (ap (λ o. unwrap_or o fresh) e)
-
   -- what holds of every state that is kept holds of one that is found
   pub found_is : (P : S → Type 0) (key : Option K) (state : S) → ((k : K) (s : S) → value_at cmp entries k ≡ Some s → P s) → state_of cmp entries key ≡ Some state → P state
   found_is P None state all e = absurd cc

@@ -1,30 +1,24 @@
-//! Records move: sources read, operators and sinks work.
+//! Sources read records, and the others look at what they are to work.
 
-ghost use Rattle.std.specs.Prelude.{◌≡◌, ◌≢◌, ◌<◌, ◌≤◌, ◌+◌, ◌^◌, ℕ, List, Err, Some, None, length, slice_get, OnOk, OnErr, IfOk, IfErr, IfSome, IfNone};
+ghost use Rattle.std.specs.Prelude.{◌≡◌, ◌≢◌, ◌<◌, ℕ, List, Err, Some, None, length, slice_get, OnOk, OnErr, IfOk, IfErr, IfSome, IfNone};
 ghost use Rattle.std.specs.Option.{option_copied};
-ghost use Rattle.abs_codec.specs.Entries.{value_at};
 ghost use Rattle.abs_codec.specs.Spelling.{Fits};
-ghost use Rattle.dataflow_model.specs.Machine.{state_under};
-ghost use Rattle.operators.specs.Operator.{IsGoodState};
-ghost use Rattle.commit_sink.specs.Ledger.{open_refusal};
-ghost use Rattle.commit_sink.specs.Sink.{Sinking};
 ghost use Rattle.job_state.specs.Held.{gate_at};
 ghost use Rattle.job_state.specs.declared.holding.Holding.TheVariants as Holding;
 ghost use Rattle.job_graph.specs.declared.role.Role.TheVariants as Role;
 ghost use Rattle.core_model.specs.declared.fault.CoreFault.TheVariants as CoreFault;
 ghost use Rattle.core_model.specs.Language.{language};
-ghost use Rattle.core_model.specs.Calls.{input_at, state_of, IsRecordDue, EndsRead, EndsOperate, EndsPutOut};
-ghost use Rattle.core_model.specs.Keeps.{AreHeld, AllFit, GateFits};
+ghost use Rattle.core_model.specs.Calls.{input_at, state_of, IsRecordDue, EndsRead};
+ghost use Rattle.core_model.specs.Keeps.{AreHeld};
 ghost use Rattle.core_calls.specs.Taking.{RefusesRecord};
 ghost use Rattle.source_log.specs.Partitions.{records_at};
 
-use abs_codec::{Codec, NoMemory};
+use abs_codec::Codec;
 use channels::Item;
-use commit_sink::{TransactionFault, Transactions};
 use core_model::CoreFault;
 use job_graph::{Graph, Role};
 use job_state::{Attempt, Holding};
-use operators::{Operator, Outcome};
+use operators::Operator;
 use source_log::{Partitions, SourceFault};
 use std::alloc::Global;
 
@@ -98,33 +92,6 @@ pub fn state_at<'a, O: Operator>(
     states.get(key.as_ref()?)
 }
 
-/// A record's key, and what the operator makes of the record in the state under that key.
-fn outcome_of<O: Operator>(
-    alloc: Global,
-    attempt: &Attempt<O>,
-    operator: &O,
-    task: u32,
-    row: &O::Record,
-) -> Result<(Option<O::Key>, Outcome<O::State, O::Record>), NoMemory>
-    requires holds { (entries : List (O.Key × O.State)) × (slice_get attempt.now.tasks task ≡ Some (Holding.Operator entries)) }
-    requires fits { Fits O.Record.HasSpelling O.Record.spelling row.now }
-    requires good { (entries : List (O.Key × O.State)) (key : O.Key) (state : O.State) → slice_get attempt.now.tasks task ≡ Some (Holding.Operator entries) → value_at O.Key.cmp entries key ≡ Some state → IsGoodState (Fits O.State.HasSpelling O.State.spelling) O.Suits operator.now state }
-    ensures key { IfOk result (λ made. made.0 ≡ O.meaning.key operator.now row.now) }
-    ensures state { (entries : List (O.Key × O.State)) → slice_get attempt.now.tasks task ≡ Some (Holding.Operator entries)
-        → IfOk result (λ made. made.1.state ≡ (O.meaning.apply operator.now (state_under (O.meaning.key operator.now row.now) (O.meaning.fresh operator.now) (value_at O.Key.cmp entries)) row.now).state) }
-    ensures sent { (entries : List (O.Key × O.State)) → slice_get attempt.now.tasks task ≡ Some (Holding.Operator entries)
-        → IfOk result (λ made. made.1.sent.items ≡ (O.meaning.apply operator.now (state_under (O.meaning.key operator.now row.now) (O.meaning.fresh operator.now) (value_at O.Key.cmp entries)) row.now).sent) }
-{
-    let key = operator.key(alloc, row)?;
-    let Some(state) = state_at(attempt, task, &key) else {
-        let fresh = operator.fresh(alloc)?;
-        let outcome = operator.apply(alloc, &fresh, row)?;
-        return Ok((key, outcome));
-    };
-    let outcome = operator.apply(alloc, state, row)?;
-    Ok((key, outcome))
-}
-
 /// The record at the head of an input, which is this channel, where it may be taken.
 pub fn first_record<O: Operator>(
     attempt: &Attempt<O>,
@@ -146,39 +113,6 @@ pub fn first_record<O: Operator>(
     }
 }
 
-/// An operator works the record at the head of an input, which is this channel.
-pub fn operate<O: Operator>(
-    alloc: Global,
-    attempt: &mut Attempt<O>,
-    graph: &Graph,
-    operator: &O,
-    task: u32,
-    input: u32,
-    channel: u32,
-) -> Result<(), CoreFault>
-    requires gate { GateFits graph.now attempt.old task }
-    requires leads { input_at graph.now task input ≡ Some channel }
-    requires holds { (entries : List (O.Key × O.State)) × (slice_get attempt.old.tasks task ≡ Some (Holding.Operator entries)) }
-    requires channels { length attempt.old.channels ≡ length graph.now.channels }
-    requires logs { length attempt.old.logs ≡ length graph.now.channels }
-    requires fit { AllFit (Fits O.Record.HasSpelling O.Record.spelling) attempt.old }
-    requires good { (entries : List (O.Key × O.State)) (key : O.Key) (state : O.State) → slice_get attempt.old.tasks task ≡ Some (Holding.Operator entries) → value_at O.Key.cmp entries key ≡ Some state → IsGoodState (Fits O.State.HasSpelling O.State.spelling) O.Suits operator.now state }
-    ensures { EndsOperate graph.now task attempt.old attempt.new input channel (language O.meaning O.Key.cmp O.Record.spelling O.Record.reading O.Key.reading O.State.reading) operator.now result }
-{
-    let row = first_record(attempt, task, input, channel)?;
-    let (key, outcome) = outcome_of(alloc, attempt, operator, task, row)?;
-    attempt.operate(
-        graph,
-        task,
-        input,
-        channel,
-        key,
-        outcome.state,
-        outcome.sent,
-    )?;
-    Ok(())
-}
-
 /// The spelling of a record.
 pub fn row_spelling<R: Codec>(alloc: Global, row: &R) -> Result<Vec<u8>, CoreFault>
     ensures ok { IfOk result (λ bytes. bytes.items ≡ R.spelling row.now) }
@@ -188,43 +122,5 @@ pub fn row_spelling<R: Codec>(alloc: Global, row: &R) -> Result<Vec<u8>, CoreFau
     match row.encode(&mut bytes) {
         Ok(()) => Ok(bytes),
         Err(_) => Err(CoreFault::Memory),
-    }
-}
-
-/// A sink puts the record at the head of an input, which is this channel, last in its open transaction.
-pub fn put_out<O: Operator, X: Transactions>(
-    alloc: Global,
-    attempt: &mut Attempt<O>,
-    graph: &Graph,
-    transactions: &mut X,
-    task: u32,
-    input: u32,
-    channel: u32,
-) -> Result<(), CoreFault>
-    requires gate { GateFits graph.now attempt.old task }
-    requires leads { input_at graph.now task input ≡ Some channel }
-    requires holds { (sink : Sinking) × (slice_get attempt.old.tasks task ≡ Some (Holding.Sink sink)) × (open_refusal (X.state transactions.old) sink.open_one ≡ None) }
-    requires logs { length attempt.old.logs ≡ length graph.now.channels }
-    requires fit { AllFit (Fits O.Record.HasSpelling O.Record.spelling) attempt.old }
-    ensures ends { EndsPutOut task input attempt.old attempt.new channel (X.state transactions.old) (X.state transactions.new) O.Record.spelling result }
-    ensures counted { result ≡ Err CoreFault.Device → X.fault_count transactions.old < X.fault_count transactions.new }
-    ensures told { result ≢ Err CoreFault.Device → X.fault_count transactions.new ≡ X.fault_count transactions.old }
-{
-    let bytes = row_spelling(alloc, first_record(attempt, task, input, channel)?)?;
-    let Some(Holding::Sink(sink)) = attempt.holding(task) else {
-        return Err(CoreFault::NotReady);
-    };
-    let open = sink.open();
-    attempt.log_head(task, input, channel)?;
-    match transactions.append(open, &bytes) {
-        Ok(()) => {
-            attempt.take(channel);
-            Ok(())
-        }
-        Err(TransactionFault::Memory) => {
-            attempt.unlog(task, input, channel);
-            Err(CoreFault::Memory)
-        }
-        Err(_) => Err(CoreFault::Device),
     }
 }

@@ -16,4 +16,4 @@ mod dataflow;
 pub use barriers::{inject, operator_barrier, sink_barrier};
 pub use checkpoints::{complete, persist, trigger};
 pub use commits::commit;
-pub use dataflow::{first_record, input_of, operate, put_out, read_next, row_spelling, state_at};
+pub use dataflow::{first_record, input_of, read_next, row_spelling, state_at};

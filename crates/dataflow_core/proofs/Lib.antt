@@ -1,2 +1,4 @@
 pub mod Finishing
 pub mod Offering
+pub mod Preserving
+pub mod Running

@@ -1,4 +1,7 @@
 pub mod Calls
 pub mod Claims
 pub mod CoreState
+pub mod Desks
+pub mod Replies
+pub mod Runs
 pub mod Steps

@@ -28,3 +28,9 @@ module _ {R K S O : Type 0} (lang : Language R K S O) (RecordFits : R → Type 0
     pub begins : (subtask : ℕ) → Begins (committed_rows old.ledger subtask) (committed_rows new.ledger subtask)
     pub cut : IsSound lang RecordFits old → IfOk result (λ last. MatchOption new.held ⊥ (λ k. GoesOnFromCut lang new last k))
     pub good : IsSound lang RecordFits old → result ≢ Err BadSnapshot
+
+  -- Whatever calls are made: the job stays, a sound engine stays sound, and no committed row is withdrawn.
+  pub record Preserves : Type 0 where
+    pub same : IsSameJob old new
+    pub sound : IsSound lang RecordFits old → IsSound lang RecordFits new
+    pub begins : (task subtask : ℕ) → slice_get old.graph.tasks task ≡ Some (role.Sink subtask) → Begins (committed_rows old.ledger subtask) (committed_rows new.ledger subtask)

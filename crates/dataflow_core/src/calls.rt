@@ -48,7 +48,7 @@ pub struct Core<O: Operator, S: SnapshotStore, X: Transactions, P: Partitions<Re
 
 impl<O: Operator, S: SnapshotStore, X: Transactions, P: Partitions<Record = O::Record>> Model
     for Core<O, S, X, P> {
-    ghost use Rattle.std.specs.Prelude.{◌≤◌, ◌<◌, ◌^◌};
+    ghost use Rattle.std.specs.Prelude.{◌≤◌, ◌<◌, ◌^◌, length};
     ghost use Rattle.std.specs.Coded.{codes};
     ghost use Rattle.std.specs.List.{All};
     ghost use Rattle.snapshot_store.specs.Store.{stored_code};
@@ -60,7 +60,7 @@ impl<O: Operator, S: SnapshotStore, X: Transactions, P: Partitions<Record = O::R
 
     ghost view = { λ c. record { engine = c.engine; claims = c.claims.items; serials = c.serials } };
 
-    ghost invariant = { λ c. (c.serials ≤ 2 ^ 63) × All (λ claim. claim.serial < c.serials) c.claims.items };
+    ghost invariant = { λ c. (c.serials ≤ 2 ^ 63) × (length c.claims.items ≤ c.serials) × All (λ claim. claim.serial < c.serials) c.claims.items };
 }
 
 impl<O: Operator, S: SnapshotStore, X: Transactions, P: Partitions<Record = O::Record>> Core<

@@ -1,6 +1,6 @@
 //! Claims are made and finished.
 
-ghost use Rattle.std.specs.Prelude.{◌≡◌, ◌≢◌, ◌⊎◌, ◌+◌, ◌↔◌, ◌≤◌, ◌<◌, ◌^◌, ℕ, None, IsTrue, IfOk, IfErr};
+ghost use Rattle.std.specs.Prelude.{◌≡◌, ◌≢◌, ◌⊎◌, ◌+◌, ◌↔◌, ◌≤◌, ◌<◌, ◌^◌, ℕ, None, length, IsTrue, IfOk, IfErr};
 ghost use Rattle.claims.specs.declared.parts.Given.{Given};
 ghost use Rattle.core_model.specs.declared.fault.CoreFault.TheVariants as CoreFault;
 ghost use Rattle.core_plain.specs.Plain.{Stays};
@@ -40,15 +40,16 @@ impl<O: Operator, S: SnapshotStore, X: Transactions, P: Partitions<Record = O::R
     X,
     P,
 > {
-    /// At most 2^63 claims were made.
+    /// At most 2^63 claims were made, and no more are out than were made.
     pub fn serials_bound(&self)
-        ensures { self.now.serials ≤ 2 ^ 63 }
+        ensures made { self.now.serials ≤ 2 ^ 63 }
+        ensures out { length self.now.claims ≤ self.now.serials }
     {
         let _ = &self.serials;
     }
 
     /// The work that a task may claim now.
-    fn offered(&self, task: u32, input: u32) -> Result<Work<O>, CoreFault>
+    pub(crate) fn offered(&self, task: u32, input: u32) -> Result<Work<O>, CoreFault>
         ensures ok { IfOk result (MayClaim self.now task input ⟦<O as Rules>⟧.lang) }
         ensures err { IfErr result (Refuses self.now task input) }
     {

@@ -1,6 +1,6 @@
 //! Claims.
 
-ghost use Rattle.std.specs.Prelude.{◌≡◌, ◌<◌, ◌↔◌, ◌++◌, ◌∷◌, [], ℕ, List, length, IsTrue, OnOk, IfSome, IfNone, IfErr};
+ghost use Rattle.std.specs.Prelude.{◌≡◌, ◌<◌, ◌≤◌, ◌↔◌, ◌++◌, ◌∷◌, [], ℕ, List, length, IsTrue, OnOk, IfSome, IfNone, IfErr};
 ghost use Rattle.std.specs.List.{All};
 ghost use Rattle.core_model.specs.declared.fault.CoreFault.TheVariants as CoreFault;
 ghost use Rattle.dataflow_core.specs.Claims.{IsBusy, IsClaimAt, claims_left};
@@ -46,6 +46,7 @@ pub(crate) fn claim_of(claims: &[Claim], serial: u64) -> Option<(usize, Claim)>
 /// Drops all claims where an attempt was made.
 pub(crate) fn drop_claims<T>(claims: &mut Vec<Claim>, outcome: &Result<T, CoreFault>)
     ensures claims { claims.new.items ≡ claims_after outcome.now claims.old.items }
+    ensures fewer { length claims.new.items ≤ length claims.old.items }
     ensures below { (bound : ℕ) → All (λ claim. claim.serial < bound) claims.old.items → All (λ claim. claim.serial < bound) claims.new.items }
 {
     if outcome.is_ok() {
@@ -68,6 +69,7 @@ pub(crate) fn keep_claim(claims: &mut Vec<Claim>, claim: Claim) -> Result<(), Co
 pub(crate) fn end_claim(claims: &mut Vec<Claim>, at: usize, outcome: &Result<(), CoreFault>)
     requires { at < length claims.old.items }
     ensures claims { claims.new.items ≡ claims_left at outcome.now claims.old.items }
+    ensures fewer { length claims.new.items ≤ length claims.old.items }
     ensures below { (bound : ℕ) → All (λ claim. claim.serial < bound) claims.old.items → All (λ claim. claim.serial < bound) claims.new.items }
 {
     match outcome {

@@ -6,6 +6,7 @@ ghost use Rattle.claims.specs.Carried.{given_of};
 use claims::{Work, Worked};
 use operators::Operator;
 use std::alloc::Global;
+use std::marker::Model;
 
 /// A claim's work, to be done anywhere.
 #[derive(Drop)]
@@ -14,6 +15,14 @@ pub struct Job<O: Operator> {
     pub(crate) serial: u64,
     pub(crate) alloc: Global,
     pub(crate) work: Work<O>,
+}
+
+impl<O: Operator> Model for Job<O> {
+    ghost use Rattle.dataflow_core.specs.Desks.{ClaimedJob};
+
+    ghost Value = { ClaimedJob O O.Key O.State O.Record };
+
+    ghost view = { λ j. record { attempt = j.attempt; serial = j.serial; work = j.work } };
 }
 
 /// A claim's work that was done, or for which memory was refused.

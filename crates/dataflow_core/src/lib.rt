@@ -11,14 +11,20 @@
 
 mod calls;
 mod claiming;
+mod desks;
 mod faults;
 mod held;
 mod jobs;
+mod replies;
 mod rows;
 mod rules;
+mod runs;
 
 pub use calls::Core;
+pub use desks::Desk;
 pub use engine::{CoreFault, DeviceCall};
 pub use held::Claim;
 pub use jobs::{Done, Job};
+pub use replies::Reply;
 pub use rules::Rules;
+pub use runs::Step;

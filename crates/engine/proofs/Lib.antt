@@ -5,5 +5,4 @@ pub mod Opening
 pub mod Plain
 pub mod Raising
 pub mod Serving
-pub mod StepRuns
 pub mod TaskCalls

@@ -1,4 +1,2 @@
-pub mod Replies
 pub mod Running
 pub mod Rows
-pub mod Steps

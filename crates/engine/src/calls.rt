@@ -1,6 +1,6 @@
 //! The engine.
 
-ghost use Rattle.std.specs.Prelude.{◌≡◌, ◌≢◌, ◌⊎◌, ◌↔◌, ◌<◌, ◌≤◌, ◌+◌, ◌^◌, ℕ, List, None, Some, Ok, Err, [], length, count_by, slice_get, true, OnOk, OnErr, IfOk, IfErr, MatchOption, IsTrue};
+ghost use Rattle.std.specs.Prelude.{◌≡◌, ◌≢◌, ◌⊎◌, ◌↔◌, ◌<◌, ◌≤◌, ◌+◌, ◌^◌, ℕ, List, None, Some, Ok, Err, length, count_by, slice_get, true, OnOk, IfOk, IfErr, MatchOption, IsTrue};
 ghost use Rattle.std.specs.Option.{option_map};
 ghost use Rattle.abs_codec.specs.Spelling.{Fits};
 ghost use Rattle.operators.specs.Operator.{IsGoodState};
@@ -14,7 +14,7 @@ ghost use Rattle.source_log.specs.Partitions as partitions;
 ghost use Rattle.source_log.specs.declared.partitions.SourceFault.TheVariants as SourceFault;
 ghost use Rattle.task_part.specs.Spelling.{part_spelling};
 ghost use Rattle.core_model.specs.declared.fault.CoreFault.TheVariants as CoreFault;
-ghost use Rattle.core_model.specs.Calls.{input_at, left_by, EndsRead, EndsInject, EndsPersist, EndsTrigger, EndsComplete};
+ghost use Rattle.core_model.specs.Calls.{left_by, EndsRead, EndsInject, EndsPersist, EndsTrigger, EndsComplete};
 ghost use Rattle.core_model.specs.Commits.{EndsCommit};
 ghost use Rattle.core_model.specs.CompleteCut.{HasTheCut};
 ghost use Rattle.core_model.specs.Goes.{Goes};
@@ -32,10 +32,10 @@ ghost use Rattle.core_model.specs.RestartLaws.{GoesOnFromCut};
 ghost use Rattle.checkpoint_model.specs.Cuts.{IsReachedCut};
 ghost use Rattle.dataflow_model.specs.Graph.{Begins};
 ghost use Rattle.dataflow_model.specs.Machine as machine;
-ghost use Rattle.claims.specs.Tasks.{EndsWork, EndsBarrier};
+ghost use Rattle.claims.specs.Tasks.{EndsBarrier};
 ghost use Rattle.engine.specs.Running.{IsCounted, IsSameJob, number_of, raised, attempts_after, OnDown, OnAttempt, OnStore, OnTransactions};
 
-use crate::tasks::{take_barrier, work_task};
+use crate::tasks::take_barrier;
 use alignment::Effect;
 use commit_sink::Transactions;
 use core_calls::{commit, complete, inject, persist, read_next, trigger};
@@ -285,31 +285,6 @@ impl<O: Operator, S: SnapshotStore, X: Transactions, P: Partitions<Record = O::R
             return Err(CoreFault::NotRunning);
         };
         let outcome = read_next(attempt, &self.graph, &mut self.log, task);
-        leave(&mut self.attempt, outcome)
-    }
-
-    /// An operator works the record at the head of its input, or a sink appends it to its open transaction.
-    pub fn work(&mut self, task: u32, input: u32) -> Result<(), CoreFault>
-        ensures ends { OnTransactions self.old self.new (λ h k. EndsWork (language O.meaning O.Key.cmp O.Record.spelling O.Record.reading O.Key.reading O.State.reading) self.old.graph self.old.operators task input h k self.old.ledger self.new.ledger) result }
-        ensures goes { Goes (language O.meaning O.Key.cmp O.Record.spelling O.Record.reading O.Key.reading O.State.reading) self.old self.new }
-        ensures sound { IsSound (language O.meaning O.Key.cmp O.Record.spelling O.Record.reading O.Key.reading O.State.reading) (Fits O.Record.HasSpelling O.Record.spelling) self.old → IsSound (language O.meaning O.Key.cmp O.Record.spelling O.Record.reading O.Key.reading O.State.reading) (Fits O.Record.HasSpelling O.Record.spelling) self.new }
-        ensures begins { (task subtask : ℕ) → slice_get self.old.graph.tasks task ≡ Some (Role.Sink subtask) → Begins (committed_rows self.old.ledger subtask) (committed_rows self.new.ledger subtask) }
-        ensures plain { MatchOption (input_at self.old.graph task input) (Stays (language O.meaning O.Key.cmp O.Record.spelling O.Record.reading O.Key.reading O.State.reading) self.old self.new) (λ channel. StepsIfOk result (language O.meaning O.Key.cmp O.Record.spelling O.Record.reading O.Key.reading O.State.reading) (machine.Work task channel) self.old self.new) }
-        ensures counted { IsCounted self.old.faults self.new.faults result }
-        ensures same { IsSameJob self.old self.new }
-    {
-        let Some(attempt) = &mut self.attempt else {
-            return Err(CoreFault::NotRunning);
-        };
-        let outcome = work_task(
-            self.alloc,
-            attempt,
-            &self.graph,
-            &self.operators,
-            &mut self.transactions,
-            task,
-            input,
-        );
         leave(&mut self.attempt, outcome)
     }
 

@@ -15,10 +15,8 @@ mod calls;
 mod claimed;
 mod faults;
 mod rows;
-mod steps;
 mod tasks;
 
 pub use calls::Engine;
 pub use core_model::CoreFault;
 pub use faults::DeviceCall;
-pub use steps::{Reply, Step};

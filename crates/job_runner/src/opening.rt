@@ -1,6 +1,6 @@
 //! The core that a run is made on.
 
-ghost use Rattle.std.specs.Prelude.{◌≡◌, ◌≤◌, IfOk, count_by, length};
+ghost use Rattle.std.specs.Prelude.{◌≡◌, ◌≤◌, count_by, length};
 ghost use Rattle.job_graph.specs.Expanded.{is_source};
 ghost use Rattle.job_graph.specs.PlainGraph.{HaveOperators};
 ghost use Rattle.job_spec.specs.Job.{operators_of};
@@ -29,7 +29,6 @@ pub(crate) fn open(
     requires tasks { 1 ≤ length graph.tasks }
     requires operators { HaveOperators graph (operators_of job.now) }
     requires partitions { length (⟦<MemoryLog<Row> as Partitions>⟧.records log) ≡ count_by is_source graph.tasks }
-    ensures claims { IfOk result (λ opened. length opened.0.claims ≤ opened.0.serials) }
 {
     let tasks = graph.tasks();
     let sinks = graph.sinks();

@@ -1,9 +1,8 @@
 //! Runs a job.
 
-ghost use Rattle.std.specs.Prelude.{◌≡◌, ◌≤◌, length};
+ghost use Rattle.std.specs.Prelude.{◌≡◌, ◌≤◌};
 ghost use Rattle.job_input.specs.Judged.{IsJudged};
 
-use crate::committed::Committed;
 use crate::opening::open;
 use crate::options::Options;
 use crate::refusal::{RunRefusal, finish_run};
@@ -48,7 +47,6 @@ where
     O::Record: Send,
     O::Key: Send,
     O::State: Send,
-    requires claims { length core.claims ≤ core.serials }
     requires name { blank.name ≡ L.name }
     requires parts { (blank.parts ≡ L.parts) × (L.parts ≡ 65) }
 {
@@ -71,7 +69,7 @@ where
         &NoPause,
     );
     let core = station.into_inner().into_core();
-    let printed = print_committed(alloc, &Committed(&core), out);
+    let printed = print_committed(alloc, &core, out);
     report?;
     Ok(printed?)
 }

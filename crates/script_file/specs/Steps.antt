@@ -4,7 +4,7 @@ use Rattle.std.specs.Str.{bytes_eq}
 use Rattle.serde_json.specs.Data.{Data}
 use Rattle.serde_json.specs.Find.{as_str}
 use Rattle.script_file.specs.declared.step.Step.{Step}
-use Rattle.script_file.specs.declared.step.Step.TheVariants.{Read, Work, Barrier, Trigger, Inject, Persist, Complete, Commit, Fail, Restart, Append, Fault}
+use Rattle.script_file.specs.declared.step.Step.TheVariants.{Read, Work, Claim, Finish, Barrier, Trigger, Inject, Persist, Complete, Commit, Fail, Restart, Append, Fault}
 use Rattle.script_file.specs.declared.fault.ItemFault.{ItemFault}
 use Rattle.script_file.specs.declared.fault.ItemFault.TheVariants as one
 use Rattle.script_file.specs.declared.fault.ScriptFault.{ScriptFault}
@@ -54,13 +54,15 @@ unfoldable pub step_with : List ℕ → List ℕ → Result Step ItemFault
 step_with word rest =
     if bytes_eq word (codes "read") then one_number Read rest
     else (if bytes_eq word (codes "work") then of_two Work rest
+    else (if bytes_eq word (codes "claim") then of_two Claim rest
+    else (if bytes_eq word (codes "finish") then one_number Finish rest
     else (if bytes_eq word (codes "barrier") then of_two Barrier rest
     else (if bytes_eq word (codes "inject") then one_number Inject rest
     else (if bytes_eq word (codes "persist") then one_number Persist rest
     else (if bytes_eq word (codes "commit") then one_number Commit rest
     else (if bytes_eq word (codes "append") then (appended rest >>= λ a. Ok (Append a.0 a.1))
     else (if bytes_eq word (codes "fault") then (fault_of rest >>= λ f. Ok (Fault f.0 f.1))
-    else Err one.Bad)))))))
+    else Err one.Bad)))))))))
 
 -- the step that a text is
 unfoldable pub step_of : List ℕ → Result Step ItemFault

@@ -15,13 +15,18 @@ use fault_plan::When;
 use serde_json::Value;
 use std::alloc::Global;
 
-/// A call on the engine: a task's number `T`, the number `I` of one of its inputs, a sink's number `S`, a partition's `P`.
+/// A call on the core: a task's number `T`, the number `I` of one of its inputs, a sink's number `S`,
+/// a partition's `P`, and the number `J` of a claimed job.
 #[derive(Debug, Drop)]
 pub enum Step {
     /// `read T`: the source sends its next record.
     Read(u32),
-    /// `work T I`: the task takes the record at the head of its input, applies its operator and sends.
+    /// `work T I`: the task claims the record at the head of its input, works it, and finishes.
     Work(u32, u32),
+    /// `claim T I`: the task claims the record at the head of its input, and the job is kept.
+    Claim(u32, u32),
+    /// `finish J`: the job of this number is done and finished.
+    Finish(u32),
     /// `barrier T I`: the task takes the barrier at the head of its input.
     Barrier(u32, u32),
     /// `trigger`: a checkpoint begins.
@@ -91,6 +96,11 @@ fn step_with(alloc: Global, word: &str, rest: &str) -> Result<Step, ItemFault>
             let (task, input) = two_numbers(rest)?;
             Ok(Step::Work(task, input))
         }
+        "claim" => {
+            let (task, input) = two_numbers(rest)?;
+            Ok(Step::Claim(task, input))
+        }
+        "finish" => Ok(Step::Finish(number_of(rest)?)),
         "barrier" => {
             let (task, input) = two_numbers(rest)?;
             Ok(Step::Barrier(task, input))

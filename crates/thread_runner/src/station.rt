@@ -1,8 +1,8 @@
 //! What stands behind the lock: the core, the book of totals and the turns of the present run.
 
-ghost use Rattle.std.specs.Prelude.{◌≡◌, ◌+◌, ◌<◌, ◌≤◌, ◌^◌, length, MatchResult};
+ghost use Rattle.std.specs.Prelude.{◌≡◌, ◌+◌, ◌<◌, ◌^◌, None, IfErr, MatchResult};
 ghost use Rattle.dataflow_core.specs.Claims.{EndsFinish, FinishMoves};
-ghost use Rattle.dataflow_core.specs.Steps.{IsStep};
+ghost use Rattle.dataflow_core.specs.Steps.{IsStep, Preserves};
 ghost use Rattle.thread_runner.specs.Standing.{ClaimsOnce, EndsAClaim};
 
 use crate::fault::RunFault;
@@ -79,10 +79,10 @@ impl<
     ) -> (Station<O, S, X, P, L>, Share<L>)
         requires name { blank.name ≡ L.name }
         requires parts { (blank.parts ≡ L.parts) × (L.parts ≡ 65) }
-        requires claims { length core.claims ≤ core.serials }
         ensures station { result.0 ≡ record { core = core; total = 0 } }
         ensures share { (result.1.parts ≡ L.parts) × (result.1.amount ≡ 0) }
     {
+        core.serials_bound();
         let (book, share) = blank.open::<L>();
         let turns = Turns::new(schedule);
         (Station { core, book, turns }, share)
@@ -90,8 +90,7 @@ impl<
 
     /// Hands the core out.
     pub fn into_core(self) -> Core<O, S, X, P>
-        ensures core { result ≡ self.core }
-        ensures claims { length result.claims ≤ result.serials }
+        ensures { result ≡ self.core }
     {
         let Station {
             core,
@@ -152,7 +151,8 @@ impl<
 
     /// One turn: what a worker does next. Every step but a task's work is made here.
     pub(crate) fn choose(&mut self) -> Next<O>
-        ensures { self.new.total ≡ self.old.total }
+        ensures total { self.new.total ≡ self.old.total }
+        ensures step { Preserves ⟦<O as Rules>⟧.lang ⟦<O as Rules>⟧.RecordFits self.old.core.engine self.new.core.engine }
     {
         let Station { core, turns, .. } = self;
         match turns.choose() {
@@ -176,7 +176,8 @@ impl<
 
     /// The job is down: a run was refused before it began.
     pub(crate) fn give_up(&mut self)
-        ensures { self.new.total ≡ self.old.total }
+        ensures total { self.new.total ≡ self.old.total }
+        ensures down { self.new.core.engine.held ≡ None }
     {
         let Station { core, .. } = self;
         let _ = core.fail();
@@ -184,7 +185,8 @@ impl<
 
     /// Ends a run: the job is down where it is refused.
     pub(crate) fn end(&mut self) -> Result<(), RunFault>
-        ensures { self.new.total ≡ self.old.total }
+        ensures total { self.new.total ≡ self.old.total }
+        ensures down { IfErr result (λ _. self.new.core.engine.held ≡ None) }
     {
         let Station { core, turns, .. } = self;
         let end = turns.end();
@@ -214,7 +216,8 @@ fn claim<O: Operator, S: SnapshotStore, X: Transactions, P: Partitions<Record = 
     turns: &mut Turns,
     place: Place,
 ) -> Next<O>
-    ensures { ClaimsOnce core.old core.new }
+    ensures once { ClaimsOnce core.old core.new }
+    ensures step { Preserves ⟦<O as Rules>⟧.lang ⟦<O as Rules>⟧.RecordFits core.old.engine core.new.engine }
 {
     match core.claim(place.task, place.input) {
         Ok(job) => {
@@ -238,7 +241,8 @@ fn make<O: Operator, S: SnapshotStore, X: Transactions, P: Partitions<Record = O
     core: &mut Core<O, S, X, P>,
     step: Step,
 ) -> Result<(), CoreFault>
-    ensures { ClaimsOnce core.old core.new }
+    ensures once { ClaimsOnce core.old core.new }
+    ensures step { Preserves ⟦<O as Rules>⟧.lang ⟦<O as Rules>⟧.RecordFits core.old.engine core.new.engine }
 {
     match step {
         Step::Restart => restart(core),
@@ -256,7 +260,8 @@ fn make<O: Operator, S: SnapshotStore, X: Transactions, P: Partitions<Record = O
 fn restart<O: Operator, S: SnapshotStore, X: Transactions, P: Partitions<Record = O::Record>>(
     core: &mut Core<O, S, X, P>,
 ) -> Result<(), CoreFault>
-    ensures { ClaimsOnce core.old core.new }
+    ensures once { ClaimsOnce core.old core.new }
+    ensures step { Preserves ⟦<O as Rules>⟧.lang ⟦<O as Rules>⟧.RecordFits core.old.engine core.new.engine }
 {
     core.restart()?;
     Ok(())

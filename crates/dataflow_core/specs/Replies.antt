@@ -3,8 +3,8 @@ use Rattle.std.specs.Prelude.{ℕ, Option, Some, None, Result, Ok, Err}
 use Rattle.alignment.specs.declared.input.Effect.{Effect}
 use Rattle.source_log.specs.declared.partitions.SourceFault.{SourceFault}
 use Rattle.core_model.specs.declared.fault.CoreFault.{CoreFault}
-use Rattle.engine.specs.declared.steps.Reply.{Reply}
-use Rattle.engine.specs.declared.steps.Reply.TheVariants.{Accepted, Number, Barrier, Refused, Source}
+use Rattle.dataflow_core.specs.declared.replies.Reply.{Reply}
+use Rattle.dataflow_core.specs.declared.replies.Reply.TheVariants.{Accepted, Number, Barrier, Refused, Source}
 
 abbrev pub accepted_as : Result Unit CoreFault → Reply
 accepted_as (Ok u) = Accepted

@@ -1,0 +1,163 @@
+//! Steps, one and many.
+
+ghost use Rattle.std.specs.Prelude.{◌≡◌, IfOk, IfErr};
+ghost use Rattle.std.specs.List.{AllByRecursion};
+ghost use Rattle.core_model.specs.declared.fault.CoreFault.TheVariants as CoreFault;
+ghost use Rattle.core_model.specs.ExactlyOnce.{IsExactlyOnce};
+ghost use Rattle.core_model.specs.Sound.{IsSound};
+ghost use Rattle.dataflow_core.specs.Claims.{Refuses};
+ghost use Rattle.dataflow_core.specs.Runs.{StepFits, EndsClaim, EndsFinishing, EndsAppend, EndsStep, IsRun};
+ghost use Rattle.dataflow_core.specs.Steps.{Preserves};
+
+use crate::calls::Core;
+use crate::desks::Desk;
+use crate::replies::{Reply, accepted, appended, copied, numbered, restarted};
+use crate::rules::Rules;
+use abs_codec::Codec;
+use commit_sink::Transactions;
+use engine::CoreFault;
+use operators::Operator;
+use snapshot_store::SnapshotStore;
+use source_log::{Partitions, SourceFault};
+
+/// A call on the core, with its arguments.
+#[derive(Drop)]
+pub enum Step<R> {
+    /// A source sends its next record.
+    Read(u32),
+    /// A task claims the record at the head of an input, and the job is put at the desk.
+    Claim(u32, u32),
+    /// The job of this number leaves the desk, is done, and what was done is handed in.
+    Finish(u32),
+    /// A task takes the barrier at the head of an input.
+    Barrier(u32, u32),
+    Trigger,
+    /// A source copies its offset and sends the barrier.
+    Inject(u32),
+    /// A task's part is put in the store.
+    Persist(u32),
+    Complete,
+    /// A sink subtask commits.
+    Commit(u32),
+    Fail,
+    Restart,
+    /// A record is put last in a partition.
+    Append(u32, R),
+}
+
+impl<O: Operator, S: SnapshotStore, X: Transactions, P: Partitions<Record = O::Record>> Core<
+    O,
+    S,
+    X,
+    P,
+> {
+    /// Why a claim is refused for which the desk has no room: want of memory, if for nothing else.
+    fn claim_refusal(&self, task: u32, input: u32) -> CoreFault
+        ensures { Refuses self.now task input result }
+    {
+        match self.offered(task, input) {
+            Ok(_) => CoreFault::Memory,
+            Err(fault) => fault,
+        }
+    }
+
+    /// A task claims, and the job is put last at the desk. The desk's room is taken first.
+    fn claim_at(&mut self, desk: &mut Desk<O>, task: u32, input: u32) -> Reply
+        ensures ends { EndsClaim self.old desk.old self.new desk.new result ⟦<O as Rules>⟧.lang task input }
+        ensures stays { self.new.engine ≡ self.old.engine }
+    {
+        let Desk { jobs } = desk;
+        if jobs.reserve(1).is_err() {
+            return Reply::Refused(self.claim_refusal(task, input));
+        }
+        match self.claim(task, input) {
+            Ok(job) => {
+                let number = jobs.len() as u64;
+                jobs.push_reserved(Some(job));
+                Reply::Number(number)
+            }
+            Err(fault) => Reply::Refused(fault),
+        }
+    }
+
+    /// A job leaves the desk, is done, and what was done is handed in.
+    fn finish_at(&mut self, desk: &mut Desk<O>, number: u32) -> Reply
+        ensures ends { EndsFinishing self.old desk.old self.new desk.new result ⟦<O as Rules>⟧.lang number }
+        ensures step { Preserves ⟦<O as Rules>⟧.lang ⟦<O as Rules>⟧.RecordFits self.old.engine self.new.engine }
+    {
+        let Some(job) = desk.take(number) else {
+            return Reply::NoJob;
+        };
+        accepted(self.finish(job.run()))
+    }
+
+    /// A copy of the record is put last in a partition.
+    fn append_copy(&mut self, partition: u32, row: &O::Record) -> Reply
+        requires { ⟦<O as Rules>⟧.RecordFits row.now }
+        ensures ends { EndsAppend self.old [] self.new [] result partition row.now }
+        ensures step { Preserves ⟦<O as Rules>⟧.lang ⟦<O as Rules>⟧.RecordFits self.old.engine self.new.engine }
+    {
+        match row.copied() {
+            Ok(row) => appended(self.append(partition, row)),
+            Err(_) => Reply::Source(SourceFault::Memory),
+        }
+    }
+
+    /// Makes one call. What is appended has to fit, as `append` asks. A record that finds no memory for
+    /// its copy is answered as `append` would, and a claim for which the desk finds none as `claim`
+    /// would; then nothing has changed.
+    pub fn step(&mut self, desk: &mut Desk<O>, step: &Step<O::Record>) -> Reply
+        requires { StepFits ⟦<O as Rules>⟧.RecordFits step.now }
+        ensures ends { EndsStep ⟦<O as Rules>⟧.lang ⟦<O as Rules>⟧.KeyFits ⟦<O as Rules>⟧.RecordFits
+            ⟦<O as Rules>⟧.IsGood ⟦<O as Rules>⟧.spelling
+            step.now self.old desk.old self.new desk.new result }
+        ensures step { Preserves ⟦<O as Rules>⟧.lang ⟦<O as Rules>⟧.RecordFits self.old.engine self.new.engine }
+    {
+        match step {
+            Step::Read(task) => accepted(self.read(*task)),
+            Step::Claim(task, input) => self.claim_at(desk, *task, *input),
+            Step::Finish(number) => self.finish_at(desk, *number),
+            Step::Barrier(task, input) => copied(self.take_barrier(*task, *input)),
+            Step::Trigger => numbered(self.trigger()),
+            Step::Inject(task) => accepted(self.inject(*task)),
+            Step::Persist(task) => accepted(self.persist(*task)),
+            Step::Complete => numbered(self.complete()),
+            Step::Commit(sink) => accepted(self.commit(*sink)),
+            Step::Fail => accepted(self.fail()),
+            Step::Restart => restarted(self.restart()),
+            Step::Append(partition, row) => self.append_copy(*partition, row),
+        }
+    }
+
+    /// Makes the calls in order, refused or not, with a reply for each. The replies' room is taken
+    /// first; where that is refused, `K11 Memory`, no call is made. Of a sound core, and one over new
+    /// devices is sound, what each sink has committed is exactly what one run of the plain machine has
+    /// put out at the moment of that sink's own last committed checkpoint.
+    pub fn run_steps(
+        &mut self,
+        desk: &mut Desk<O>,
+        steps: &[Step<O::Record>],
+    ) -> Result<Vec<Reply>, CoreFault>
+        requires { AllByRecursion (StepFits ⟦<O as Rules>⟧.RecordFits) steps.now }
+        ensures run { IfOk result (λ replies. IsRun ⟦<O as Rules>⟧.lang ⟦<O as Rules>⟧.KeyFits
+            ⟦<O as Rules>⟧.RecordFits ⟦<O as Rules>⟧.IsGood ⟦<O as Rules>⟧.spelling
+            self.old desk.old steps.now replies.items self.new desk.new) }
+        ensures exact { IsSound ⟦<O as Rules>⟧.lang ⟦<O as Rules>⟧.RecordFits self.old.engine
+            → IsExactlyOnce ⟦<O as Rules>⟧.lang self.new.engine }
+        ensures step { Preserves ⟦<O as Rules>⟧.lang ⟦<O as Rules>⟧.RecordFits self.old.engine self.new.engine }
+        ensures err { IfErr result (λ fault.
+            (fault ≡ CoreFault.Memory) × (self.new ≡ self.old) × (desk.new ≡ desk.old)) }
+    {
+        let mut replies = Vec::new(self.alloc);
+        if replies.reserve(steps.len()).is_err() {
+            self.is_fresh();
+            return Err(CoreFault::Memory);
+        }
+        for step in steps {
+            let reply = self.step(desk, step);
+            replies.push_reserved(reply);
+        }
+        self.is_fresh();
+        Ok(replies)
+    }
+}
