@@ -3,7 +3,7 @@
 ghost use Rattle.std.specs.Prelude.{◌≡◌, ◌+◌, ◌≤◌, ◌<◌, ◌^◌, IfOk, vec_len};
 
 use crate::fault::RunFault;
-use crate::patience::Patience;
+use crate::patience::{Patience, was_short};
 use crate::pause::Pause;
 use crate::station::{Next, Station};
 use commit_sink::Transactions;
@@ -30,6 +30,7 @@ pub struct Report {
 struct Worker<L: Ledger> {
     share: Share<L>,
     finished: u128,
+    patience: Patience,
     ghost one_part: { share.parts ≡ 1 },
     ghost counted: { share.amount ≡ finished },
 }
@@ -38,7 +39,11 @@ impl<L: Ledger> Worker<L> {
     fn new(share: Share<L>) -> Worker<L>
         requires { (share.parts ≡ 1) × (share.amount ≡ 0) }
     {
-        Worker { share, finished: 0 }
+        Worker {
+            share,
+            finished: 0,
+            patience: Patience::new(),
+        }
     }
 
     /// Takes turns until the run is over.
@@ -49,30 +54,36 @@ impl<L: Ledger> Worker<L> {
         P: Partitions<Record = O::Record> + Drop,
         H: Pause,
         R: Wait + Clock,
-    >(&mut self, rt: &R, station: &Mutex<Station<O, S, X, P, L>>, turns: u64, pause: &H) {
-        let mut patience = Patience::new();
+    >(
+        &mut self,
+        rt: &R,
+        station: &Mutex<Station<O, S, X, P, L>>,
+        turns: u64,
+        pause: &H,
+    ) {
         for _ in 0..turns {
-            let next = station.lock(rt).choose();
+            let (next, left) = station.lock(rt).choose();
+            self.patience.took_turn(left);
             match next {
                 Next::Over => return,
-                Next::Idle => patience.wait(rt),
-                Next::Again => patience = Patience::new(),
+                Next::Idle => self.patience.wait(rt),
+                Next::Again => self.patience.made(rt, true),
                 Next::Run(task, job) => {
-                    patience = Patience::new();
-                    self.run_job(rt, station, turns, pause, task, job);
+                    let is_short = self.run_job(rt, station, turns, pause, task, job);
+                    self.patience.made(rt, is_short);
                 }
             }
         }
     }
 
-    /// Runs a task's job with no lock held, and hands in what was done of it.
+    /// Runs a task's job with no lock held, and hands in what was done of it. Whether the job was short.
     fn run_job<
         O: Operator,
         S: SnapshotStore + Drop,
         X: Transactions + Drop,
         P: Partitions<Record = O::Record> + Drop,
         H: Pause,
-        R: Wait,
+        R: Wait + Clock,
     >(
         &mut self,
         rt: &R,
@@ -81,25 +92,28 @@ impl<L: Ledger> Worker<L> {
         pause: &H,
         task: u32,
         job: Job<O>,
-    ) {
+    ) -> bool {
         let (attempt, serial) = (job.attempt(), job.serial());
+        let begun = self.patience.begin(rt);
         for _ in 0..turns {
             if pause.before_run(attempt, serial) {
                 break;
             }
             if !station.lock(rt).wait() {
-                return;
+                return false;
             }
         }
         let done = job.run();
         pause.after_run(attempt, serial);
-        let Worker { share, finished } = self;
+        let is_short = was_short(rt, begun);
+        let Worker { share, finished, .. } = self;
         let mut station = station.lock(rt);
         let outcome = station.finish_with(share, done);
         if outcome.is_ok() {
             *finished += 1;
         }
         station.finished(task, outcome);
+        is_short
     }
 }
 
@@ -172,7 +186,7 @@ fn gather<
     ensures finished { all.new.amount ≡ all.old.amount + result }
 {
     let mut sum: u128 = 0;
-    while let Some(Worker { share, finished }) = crew.pop() {
+    while let Some(Worker { share, finished, .. }) = crew.pop() {
         all.merge(share);
         station.lock(rt).audit(all);
         sum += finished;

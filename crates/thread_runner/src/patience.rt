@@ -1,7 +1,7 @@
-//! How long a worker waits that has nothing to do.
+//! When a worker waits: where it has nothing to do, and where what it does is not worth a worker.
 
 use std::thread;
-use std::time::{Clock, Duration};
+use std::time::{Clock, Duration, Instant};
 
 /// How often a worker lets others go first before it sleeps.
 const YIELDS: u32 = 16;
@@ -9,15 +9,43 @@ const YIELDS: u32 = 16;
 /// No sleep is longer than 1 microsecond, doubled so often: about a millisecond.
 const LONGEST: u32 = 10;
 
-/// How often a worker has had nothing to do since its last step.
+/// A job that takes so many nanoseconds is worth a worker of its own. The rest of a step is done under
+/// the lock, so a second worker with shorter jobs takes from the first what it does itself.
+const WORTH: u128 = 2_000;
+
+/// After so many short steps in a row a worker rests.
+const SHORT_STEPS: u32 = 32;
+
+/// Between two rests it makes so many.
+const STEPS_BETWEEN: u32 = 4;
+
+/// How a worker has fared.
 #[derive(Clone, Copy)]
 pub(crate) struct Patience {
+    /// How many turns of the run were left at its last one.
+    seen: u64,
+    /// Whether no other worker has taken a turn since the one before.
+    is_alone: bool,
+    /// How often it has had nothing to do, halved at each step.
     waits: u32,
+    /// How many short steps it has made in a row.
+    short: u32,
 }
 
 impl Patience {
     pub(crate) fn new() -> Patience {
-        Patience { waits: 0 }
+        Patience {
+            seen: 0,
+            is_alone: false,
+            waits: 0,
+            short: 0,
+        }
+    }
+
+    /// The worker has taken a turn, after which so many are left.
+    pub(crate) fn took_turn(&mut self, left: u64) {
+        self.is_alone = self.seen == left.saturating_add(1);
+        self.seen = left;
     }
 
     /// Lets others go first; a worker that has waited often sleeps, longer each time up to a bound.
@@ -28,6 +56,36 @@ impl Patience {
             let doubled = (self.waits - YIELDS).min(LONGEST);
             thread::sleep(rt, Duration::from_micros(1 << doubled));
         }
-        self.waits = self.waits.saturating_add(1);
+        self.waits = self.waits.saturating_add(1).min(YIELDS + LONGEST);
     }
+
+    /// A step was made, which was short or not. Where all are short, and others make steps too, the
+    /// worker rests.
+    pub(crate) fn made<R: Clock>(&mut self, rt: &R, is_short: bool) {
+        self.waits /= 2;
+        if self.is_alone || !is_short {
+            self.short = 0;
+        } else if self.short < SHORT_STEPS {
+            self.short += 1;
+        } else {
+            thread::sleep(rt, Duration::from_micros(1 << LONGEST));
+            self.short = SHORT_STEPS - STEPS_BETWEEN;
+        }
+    }
+
+    /// When a job begins: a worker that is alone, and so does not rest, need not ask.
+    pub(crate) fn begin<R: Clock>(&self, rt: &R) -> Option<Instant> {
+        if self.is_alone {
+            return None;
+        }
+        Instant::now(rt).ok()
+    }
+}
+
+/// Whether what began then was short. Without a clock nothing is.
+pub(crate) fn was_short<R: Clock>(rt: &R, begun: Option<Instant>) -> bool {
+    let Some(begun) = begun else {
+        return false;
+    };
+    begun.elapsed(rt).is_ok_and(|taken| taken.as_nanos() < WORTH)
 }

@@ -37,7 +37,13 @@ pub(crate) struct Node {
     pub(crate) sent: usize,
     /// Whether it holds a claim.
     pub(crate) is_busy: bool,
+    /// Whether a source sends to it.
+    pub(crate) is_fed: bool,
 }
+
+/// So many records are read ahead of the claims that are held, until a task that sources send to has
+/// been found without a record.
+const MOST_AHEAD: u32 = 64;
 
 /// What may have something, so that the next step is found in the same time whatever the number of
 /// tasks and channels. The task that stands furthest downstream comes first, so channels stay short.
@@ -57,6 +63,8 @@ pub struct Schedule {
     round: Round,
     /// How many claims are held.
     claims: u64,
+    /// How many records were read while claims were held, since a task that sources send to had none.
+    ahead: u32,
     /// How many finishes come between triggers: 0 for any number.
     every: u64,
     /// How many came since the last one.
@@ -87,6 +95,7 @@ impl Schedule {
             sources,
             round,
             claims: 0,
+            ahead: 0,
             every: 0,
             finishes: 0,
             is_down: true,
@@ -131,6 +140,9 @@ impl Schedule {
         if let Some(place) = self.next_input() {
             return Step::Work(place);
         }
+        if self.claims > 0 && self.ahead >= MOST_AHEAD {
+            return Step::Idle;
+        }
         if let Some(task) = self.sources.front() {
             return Step::Read(*task);
         }
@@ -171,6 +183,7 @@ impl Schedule {
     pub(crate) fn restarted(&mut self) {
         self.is_down = false;
         self.claims = 0;
+        self.ahead = 0;
         self.finishes = 0;
         self.round.clear();
         for node in self.nodes.iter_mut() {
@@ -284,6 +297,9 @@ impl Schedule {
     pub(crate) fn had_nothing(&mut self, task: u32) {
         if let Some(node) = self.nodes.get_mut(task as usize) {
             node.inputs.drop_first();
+            if node.is_fed {
+                self.ahead = 0;
+            }
         }
         self.judge(task);
     }
@@ -299,6 +315,9 @@ impl Schedule {
     /// The next source has sent a record.
     pub(crate) fn read(&mut self) {
         self.moved();
+        if self.claims > 0 {
+            self.ahead = self.ahead.saturating_add(1);
+        }
         if let Some(task) = self.sources.pop_front() {
             let _ = self.sources.push_back(task);
             self.sent(task);

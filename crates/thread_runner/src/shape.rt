@@ -17,10 +17,15 @@ impl Schedule {
             graph.tasks(),
             graph.sinks(),
         );
+        let sources = sources_of(alloc, graph)?;
+        let mut nodes = nodes_of(alloc, graph)?;
+        for source in sources.iter() {
+            feed(&mut nodes, *source);
+        }
         Ok(Schedule::over(
-            nodes_of(alloc, graph)?,
+            nodes,
             order_of(alloc, graph)?,
-            sources_of(alloc, graph)?,
+            sources,
             VecDeque::with_capacity(alloc, room)?,
             round,
         ))
@@ -39,6 +44,7 @@ fn nodes_of(alloc: Global, graph: &Graph) -> Result<Vec<Node>, AllocError> {
             ends: ends_of(alloc, graph, &places, task)?,
             sent: 0,
             is_busy: false,
+            is_fed: false,
         })?;
     }
     Ok(nodes)
@@ -93,6 +99,22 @@ fn ends_of(
         }
     }
     Ok(ends)
+}
+
+/// Says of the tasks that a source sends to that they are fed.
+fn feed(nodes: &mut [Node], source: u32) {
+    let ends = nodes.get(source as usize).map_or(0, |node| node.ends.len());
+    for number in 0..ends {
+        let fed = end_of(nodes, source, number);
+        if let Some(node) = fed.and_then(|place| nodes.get_mut(place.task as usize)) {
+            node.is_fed = true;
+        }
+    }
+}
+
+/// The end of a task's channel of this number.
+fn end_of(nodes: &[Node], task: u32, number: usize) -> Option<Place> {
+    nodes.get(task as usize)?.ends.get(number).copied()
 }
 
 /// The order.

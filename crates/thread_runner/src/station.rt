@@ -149,13 +149,14 @@ impl<
         self.turns.wait()
     }
 
-    /// One turn: what a worker does next. Every step but a task's work is made here.
-    pub(crate) fn choose(&mut self) -> Next<O>
+    /// One turn: what a worker does next, and how many turns are left. Every step but a task's work is
+    /// made here.
+    pub(crate) fn choose(&mut self) -> (Next<O>, u64)
         ensures total { self.new.total ≡ self.old.total }
         ensures step { Preserves ⟦<O as Rules>⟧.lang ⟦<O as Rules>⟧.RecordFits self.old.core.engine self.new.core.engine }
     {
         let Station { core, turns, .. } = self;
-        match turns.choose() {
+        let next = match turns.choose() {
             Step::Over => Next::Over,
             Step::Idle => Next::Idle,
             Step::Look => Next::Again,
@@ -164,7 +165,8 @@ impl<
                 turns.made(step, make(core, step));
                 Next::Again
             }
-        }
+        };
+        (next, turns.left())
     }
 
     /// What came of a task's job.

@@ -54,6 +54,11 @@ impl Turns {
         step
     }
 
+    /// How many turns are left.
+    pub(crate) fn left(&self) -> u64 {
+        self.left
+    }
+
     /// How the run has ended. Where its workers have left before it was over, its turns are spent.
     pub(crate) fn end(&mut self) -> Result<(), RunFault> {
         if let Some(end) = self.end {
