@@ -1,19 +1,18 @@
 //! Cores over devices that were used before.
 
-use crate::core_reader::CoreReader;
-use crate::cores::{Log, Sinks, Store, expect_answers, open_over, opened};
+use crate::cores::{expect_answers, opened};
+use crate::devices::Devices;
 use crate::jobs::LINE;
 use crate::lists::{almost_spent, store_of_lists};
+use crate::test_core::TestCore;
 use abs_codec::{Bytes, Map};
-use absflow_run::RowCore;
-use commit_sink::{FlakyTransactions, MemoryTransactions, Progress, Transactions};
+use commit_sink::{MemoryTransactions, Progress};
 use core_model::Start;
 use job_graph::Graph;
 use job_spec::JobSpec;
-use operators::{Operator, RowOp};
-use recovery::{RecoveryFault, Restored, restore};
-use snapshot_store::{FlakyStore, MemoryStore, SnapshotStore};
-use source_log::{FlakyLog, MemoryLog, Partitions};
+use operators::RowOp;
+use recovery::Restored;
+use snapshot_store::MemoryStore;
 use std::alloc::Global;
 use std::process::Abort;
 use std::test::Fail;
@@ -36,98 +35,65 @@ const FIRST_CHECKPOINT: [(&str, &str); 13] = [
 ];
 
 /// The devices of a line that has worked one row and completed checkpoint 1, and has not committed.
-fn used(rt: &impl Abort, alloc: Global) -> Result<(Log, Store, Sinks), Fail> {
+fn used(rt: &impl Abort, alloc: Global) -> Result<Devices, Fail> {
     let mut core = opened(alloc, LINE)?;
     expect_answers(rt, alloc, &mut core, &FIRST_CHECKPOINT)?;
-    Ok(core.into_durable())
+    Ok(core.into_devices())
 }
 
 /// A core that is opened over such devices goes on from them.
 #[test]
 fn a_core_goes_on_from_the_devices_of_another(rt: HostRuntime) -> Result<(), Fail> {
-    let alloc = rt.alloc();
-    let (log, store, sinks) = used(&rt, alloc)?;
-    let mut core = open_over(alloc, LINE, log, store, sinks)?;
-    expect_commit(&rt, alloc, &mut core)
+    let devices = used(&rt, rt.alloc())?;
+    let mut core = TestCore::open(rt.alloc(), LINE, devices)?;
+    expect_commit(&rt, rt.alloc(), &mut core)
 }
 
 /// Whether the core is fresh, and how many rows it has committed.
-fn told(core: &impl CoreReader) -> Result<(bool, u64), Fail> {
+fn told(core: &TestCore) -> Result<(bool, u64), Fail> {
     Ok((core.is_fresh(), core.committed_len(0)?))
 }
 
 /// The restart commits the row of checkpoint 1, and there is none behind it.
-fn expect_commit(rt: &impl Abort, alloc: Global, core: &mut RowCore) -> Result<(), Fail> {
+fn expect_commit(rt: &impl Abort, alloc: Global, core: &mut TestCore) -> Result<(), Fail> {
     assert_eq!(rt; told(core)?, (false, 0));
     expect_answers(rt, alloc, core, &[("restart", "ok 1")])?;
     assert_eq!(rt; told(core)?, (false, 1));
     expect_answers(rt, alloc, core, &[("read 0", "K3 NotReady")])
 }
 
-/// Gives out a number, puts the other store's parts of checkpoint 1, but for that of one task, and completes the number.
-fn fill(
-    copy: &mut impl SnapshotStore,
-    store: &mut impl SnapshotStore,
-    other: u32,
-    part: &[u8],
-) -> Result<(), Fail> {
-    copy.reserve()?;
-    for task in 0..3 {
-        if task == other {
-            copy.put(1, task, part)?;
-        } else {
-            copy.put(1, task, &store.get(1, task)?)?;
-        }
-    }
-    copy.complete(1)?;
-    Ok(())
-}
-
-/// A store with the same parts of checkpoint 1, but for that of one task.
-fn with_part(alloc: Global, store: &mut Store, other: u32, part: &[u8]) -> Result<Store, Fail> {
-    let mut copy = FlakyStore::new(MemoryStore::new(alloc, 3));
-    fill(&mut copy, store, other, part)?;
-    Ok(copy)
-}
-
-/// The part of a task in checkpoint 1, but for its first byte.
-fn damaged(store: &mut impl SnapshotStore, task: u32, byte: u8) -> Result<Vec<u8>, Fail> {
-    let mut part = store.get(1, task)?;
+/// The part of a task in checkpoint 1 begins with another byte.
+fn damage(alloc: Global, devices: &mut Devices, task: u32, byte: u8) -> Result<(), Fail> {
+    let mut part = devices.part(1, task)?;
     if let Some(first) = part.first_mut() {
         *first = byte;
     }
-    Ok(part)
+    Ok(devices.set_part(alloc, task, &part)?)
 }
 
-/// A store whose part of a task begins with another byte.
-fn with_byte(alloc: Global, store: &mut Store, task: u32, byte: u8) -> Result<Store, Fail> {
-    let part = damaged(store, task, byte)?;
-    with_part(alloc, store, task, &part)
-}
-
-/// A store whose checkpoint 1 has lost the part of task 1.
-fn without_part(alloc: Global, store: &mut Store) -> Result<Store, Fail> {
+/// Checkpoint 1 has lost the part of task 1.
+fn lose_a_part(alloc: Global, devices: &mut Devices) -> Result<(), Fail> {
     let mut parts = Map::new(alloc);
-    parts.insert((1, 0), Bytes::from_vec(store.get(1, 0)?))?;
-    parts.insert((1, 2), Bytes::from_vec(store.get(1, 2)?))?;
-    Ok(FlakyStore::new(store_of_lists(alloc, parts)?))
+    parts.insert((1, 0), Bytes::from_vec(devices.part(1, 0)?))?;
+    parts.insert((1, 2), Bytes::from_vec(devices.part(1, 2)?))?;
+    devices.set_store(store_of_lists(alloc, parts)?);
+    Ok(())
+}
+
+/// The devices after a restart that was refused.
+fn refused(rt: &impl Abort, alloc: Global, devices: Devices) -> Result<Devices, Fail> {
+    let mut core = TestCore::open(alloc, LINE, devices)?;
+    expect_answers(rt, alloc, &mut core, &[("restart", "K15 BadSnapshot")])?;
+    Ok(core.into_devices())
 }
 
 /// A restart over these devices is refused, and the transactions are as they were.
-fn expect_refusal(
-    rt: &impl Abort,
-    alloc: Global,
-    log: Log,
-    store: Store,
-    mut sinks: Sinks,
-) -> Result<(), Fail> {
-    let before = sinks.unsettled(0)?;
-    let mut core = open_over(alloc, LINE, log, store, sinks)?;
-    expect_answers(rt, alloc, &mut core, &[("restart", "K15 BadSnapshot")])?;
-    let (_, _, mut sinks) = core.into_durable();
-    let after = sinks.unsettled(0)?;
+fn expect_refusal(rt: &impl Abort, alloc: Global, mut devices: Devices) -> Result<(), Fail> {
+    let before = devices.unsettled()?;
+    let mut devices = refused(rt, alloc, devices)?;
+    let after = devices.unsettled()?;
     assert_eq!(rt; after.as_slice(), before.as_slice());
-    assert_eq!(rt; sinks.committed_len(0), 0);
+    assert_eq!(rt; devices.committed_len(), 0);
     Ok(())
 }
 
@@ -146,9 +112,9 @@ fn a_damaged_part_is_refused_before_any_transaction(rt: HostRuntime) -> Result<(
         (2, 1),
         (2, 3),
     ] {
-        let (log, mut store, sinks) = used(&rt, alloc)?;
-        let store = with_byte(alloc, &mut store, task, byte)?;
-        expect_refusal(&rt, alloc, log, store, sinks)?;
+        let mut devices = used(&rt, alloc)?;
+        damage(alloc, &mut devices, task, byte)?;
+        expect_refusal(&rt, alloc, devices)?;
     }
     Ok(())
 }
@@ -156,10 +122,9 @@ fn a_damaged_part_is_refused_before_any_transaction(rt: HostRuntime) -> Result<(
 /// A part has to be there for each task.
 #[test]
 fn a_missing_part_is_refused_before_any_transaction(rt: HostRuntime) -> Result<(), Fail> {
-    let alloc = rt.alloc();
-    let (log, mut store, sinks) = used(&rt, alloc)?;
-    let store = without_part(alloc, &mut store)?;
-    expect_refusal(&rt, alloc, log, store, sinks)
+    let mut devices = used(&rt, rt.alloc())?;
+    lose_a_part(rt.alloc(), &mut devices)?;
+    expect_refusal(&rt, rt.alloc(), devices)
 }
 
 /// The part of a sink that names one transaction.
@@ -172,33 +137,22 @@ fn naming(transaction: u8) -> [u8; 17] {
 fn a_name_of_no_pre_committed_transaction_is_refused(rt: HostRuntime) -> Result<(), Fail> {
     let alloc = rt.alloc();
     for name in [0, 2, 9] {
-        let (log, mut store, sinks) = used(&rt, alloc)?;
-        let store = with_part(alloc, &mut store, 2, &naming(name))?;
-        expect_refusal(&rt, alloc, log, store, sinks)?;
+        let mut devices = used(&rt, alloc)?;
+        devices.set_part(alloc, 2, &naming(name))?;
+        expect_refusal(&rt, alloc, devices)?;
     }
-    let (log, store, mut sinks) = used(&rt, alloc)?;
-    sinks.abort(1)?;
-    expect_refusal(&rt, alloc, log, store, sinks)
-}
-
-/// What a restart reads of such devices.
-fn read_back<O: Operator, S: SnapshotStore, P: Partitions<Record = O::Record>>(
-    alloc: Global,
-    graph: &Graph,
-    operators: &[O],
-    store: &mut S,
-    log: &P,
-) -> Result<Restored<O>, RecoveryFault> {
-    restore(alloc, graph, operators, store, log)
+    let mut devices = used(&rt, alloc)?;
+    devices.abort(1)?;
+    expect_refusal(&rt, alloc, devices)
 }
 
 /// What the restart of a line reads.
 fn restored_line(rt: &impl Abort, alloc: Global) -> Result<Restored<RowOp>, Fail> {
-    let (log, mut store, _) = used(rt, alloc)?;
+    let mut devices = used(rt, alloc)?;
     let job = JobSpec::read(alloc, LINE.as_bytes())?;
     let graph = Graph::expand(alloc, &job)?;
     let operators = job.operators(alloc)?;
-    Ok(read_back(alloc, &graph, &operators, &mut store, &log)?)
+    Ok(devices.restored(alloc, &graph, &operators)?)
 }
 
 /// The source goes on behind its row, the operator has no states, and the sink is to commit its transaction.
@@ -242,20 +196,23 @@ fn expect_sink_lists(rt: &impl Abort, sinks: &MemoryTransactions) {
 /// What used devices hold is told in lists.
 #[test]
 fn used_devices_are_told_in_lists(rt: HostRuntime) -> Result<(), Fail> {
-    let (_, store, sinks) = used(&rt, rt.alloc())?;
-    expect_store_lists(&rt, &store.into_inner());
-    expect_sink_lists(&rt, &sinks.into_inner());
+    let (store, sinks) = used(&rt, rt.alloc())?.into_faultless();
+    expect_store_lists(&rt, &store);
+    expect_sink_lists(&rt, &sinks);
     Ok(())
+}
+
+/// The line over a store that has the last number left.
+fn almost_spent_line(alloc: Global) -> Result<TestCore, Fail> {
+    let mut devices = Devices::new(alloc, LINE)?;
+    devices.set_store(almost_spent(alloc)?);
+    TestCore::open(alloc, LINE, devices)
 }
 
 /// The last number is given out once, and lost with the failure. The job runs on without checkpoints.
 #[test]
 fn no_checkpoint_begins_without_a_number(rt: HostRuntime) -> Result<(), Fail> {
-    let alloc = rt.alloc();
-    let log = FlakyLog::new(MemoryLog::new(alloc, 1)?);
-    let store = FlakyStore::new(almost_spent(alloc)?);
-    let sinks = FlakyTransactions::new(MemoryTransactions::new(alloc, 1));
-    let mut core = open_over(alloc, LINE, log, store, sinks)?;
+    let mut core = almost_spent_line(rt.alloc())?;
     let steps = [
         ("restart", "ok 0"),
         ("trigger", "ok 9223372036854775807"),
@@ -264,5 +221,5 @@ fn no_checkpoint_begins_without_a_number(rt: HostRuntime) -> Result<(), Fail> {
         ("trigger", "K14 NumbersSpent"),
         ("read 0", "K3 NotReady"),
     ];
-    expect_answers(&rt, alloc, &mut core, &steps)
+    expect_answers(&rt, rt.alloc(), &mut core, &steps)
 }

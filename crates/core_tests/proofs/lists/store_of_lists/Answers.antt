@@ -1,6 +1,6 @@
 use Rattle.std.proofs.Common.{ℕ, [], ◌∷◌, nat_cmp}
 use Rattle.std.specs.List.Sorted.{IsStrictlySortedBy}
-use Rattle.engine_tests.proofs.lists.store_of_lists.Goals as goal
+use Rattle.core_tests.proofs.lists.store_of_lists.Goals as goal
 
 one_rises : (n : ℕ) → IsStrictlySortedBy nat_cmp (n ∷ [])
 unfolding IsStrictlySortedBy

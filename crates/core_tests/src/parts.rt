@@ -1,8 +1,9 @@
 //! The parts of a checkpoint, as they stand in the store.
 
-use crate::cores::{Store, expect_answers, opened};
+use crate::cores::{expect_answers, opened};
+use crate::devices::Devices;
 use crate::jobs::{COUNT, EARLY, LINE, LONG_LOOP};
-use snapshot_store::{SnapshotStore, StoreFault};
+use snapshot_store::StoreFault;
 use std::alloc::Global;
 use std::process::Abort;
 use std::test::Fail;
@@ -36,41 +37,40 @@ const CHECKPOINTS: [(&str, &str); 18] = [
     ("trigger", "ok 3"),
 ];
 
-/// The store of a job after these steps.
-fn store_after(
+/// The devices of a job after these steps.
+fn devices_after(
     rt: &impl Abort,
     alloc: Global,
     job: &str,
     steps: &[(&str, &str)],
-) -> Result<Store, Fail> {
+) -> Result<Devices, Fail> {
     let mut core = opened(alloc, job)?;
     expect_answers(rt, alloc, &mut core, steps)?;
-    let (_, store, _) = core.into_durable();
-    Ok(store)
+    Ok(core.into_devices())
 }
 
 fn expect_part(
     rt: &impl Abort,
-    store: &mut impl SnapshotStore,
+    devices: &mut Devices,
     task: u32,
     part: &[u8],
 ) -> Result<(), Fail> {
-    assert_eq!(rt; store.get(1, task)?.as_slice(), part);
+    assert_eq!(rt; devices.part(1, task)?.as_slice(), part);
     Ok(())
 }
 
 /// The parts of checkpoint 1 stand as they are spelled.
-fn expect_parts(rt: &impl Abort, store: &mut impl SnapshotStore) -> Result<(), Fail> {
+fn expect_parts(rt: &impl Abort, devices: &mut Devices) -> Result<(), Fail> {
     for (task, part) in (0..3).zip(PARTS) {
-        expect_part(rt, store, task, part)?;
+        expect_part(rt, devices, task, part)?;
     }
     Ok(())
 }
 
 /// So they do after these steps of the line.
 fn expect_parts_after(rt: &impl Abort, alloc: Global, steps: &[(&str, &str)]) -> Result<(), Fail> {
-    let mut store = store_after(rt, alloc, LINE, steps)?;
-    expect_parts(rt, &mut store)
+    let mut devices = devices_after(rt, alloc, LINE, steps)?;
+    expect_parts(rt, &mut devices)
 }
 
 #[test]
@@ -85,18 +85,18 @@ fn the_last_complete_checkpoint_is_kept(rt: HostRuntime) -> Result<(), Fail> {
 }
 
 /// Checkpoint 2 has its parts, and checkpoint 1 has none.
-fn expect_discarded(rt: &impl Abort, store: &mut impl SnapshotStore) -> Result<(), Fail> {
+fn expect_discarded(rt: &impl Abort, devices: &mut Devices) -> Result<(), Fail> {
     for task in 0..3 {
-        assert_eq!(rt; store.get(1, task).err(), Some(StoreFault::MissingPart));
-        assert!(rt; store.get(2, task).is_ok());
+        assert_eq!(rt; devices.part(1, task).err(), Some(StoreFault::MissingPart));
+        assert!(rt; devices.part(2, task).is_ok());
     }
     Ok(())
 }
 
 #[test]
 fn parts_before_the_last_complete_checkpoint_are_discarded(rt: HostRuntime) -> Result<(), Fail> {
-    let mut store = store_after(&rt, rt.alloc(), LINE, &CHECKPOINTS)?;
-    expect_discarded(&rt, &mut store)
+    let mut devices = devices_after(&rt, rt.alloc(), LINE, &CHECKPOINTS)?;
+    expect_discarded(&rt, &mut devices)
 }
 
 /// The part of a task in checkpoint 1, after these steps of the job.
@@ -108,8 +108,8 @@ fn expect_part_after(
     task: u32,
     part: &[u8],
 ) -> Result<(), Fail> {
-    let mut store = store_after(rt, alloc, job, steps)?;
-    expect_part(rt, &mut store, task, part)
+    let mut devices = devices_after(rt, alloc, job, steps)?;
+    expect_part(rt, &mut devices, task, part)
 }
 
 /// The operator that counts has counted one row of each input, and not the one behind the barrier.

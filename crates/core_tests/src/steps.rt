@@ -1,45 +1,36 @@
 //! Lists of calls, as a core makes them.
 
 ghost use Rattle.std.specs.List.{AllByRecursion};
-ghost use Rattle.abs_codec.specs.Spelling.{Fits};
-ghost use Rattle.engine.specs.Steps.{StepFits};
+ghost use Rattle.dataflow_core.specs.Runs.{StepFits};
 
-use crate::core_reader::CoreReader;
 use crate::cores::{committed, expect_answers, opened};
 use crate::jobs::LINE;
+use crate::test_core::TestCore;
 use abs_codec::{Codec, Text};
-use absflow_run::RowCore;
 use alignment::Effect;
-use commit_sink::Transactions;
-use engine::{CoreFault, Engine as Core, Reply, Step};
-use operators::{Operator, Row};
-use snapshot_store::SnapshotStore;
-use source_log::{Partitions, SourceFault};
+use dataflow_core::{CoreFault, Reply, Rules, Step};
+use operators::{Row, RowOp};
+use source_log::SourceFault;
 use std::alloc::Global;
 use std::process::Abort;
 use std::test::Fail;
 
 /// A core's replies to a list of calls are these, whichever of them are refusals.
-fn expect_replies<
-    O: Operator,
-    S: SnapshotStore,
-    X: Transactions,
-    P: Partitions<Record = O::Record>,
->(
+fn expect_replies(
     rt: &impl Abort,
-    core: &mut Core<O, S, X, P>,
-    steps: &[Step<O::Record>],
+    core: &mut TestCore,
+    steps: &[Step<Row>],
     wanted: &[Reply],
 ) -> Result<(), Fail>
-    requires { AllByRecursion (StepFits (Fits O.Record.HasSpelling O.Record.spelling)) steps.now }
+    requires { AllByRecursion (StepFits ⟦<RowOp as Rules>⟧.RecordFits) steps.now }
 {
-    let replies = core.run_steps(steps)?;
+    let replies = core.make_calls(steps)?;
     assert_eq!(rt; replies.as_slice(), wanted);
     Ok(())
 }
 
 /// There is no partition 1.
-fn append_elsewhere(rt: &impl Abort, alloc: Global, core: &mut RowCore) -> Result<(), Fail> {
+fn append_elsewhere(rt: &impl Abort, alloc: Global, core: &mut TestCore) -> Result<(), Fail> {
     let k = Text::from_str(alloc, "a")?;
     let row = Row { k, v: 1 };
     assert!(rt; row.fits());
@@ -48,7 +39,7 @@ fn append_elsewhere(rt: &impl Abort, alloc: Global, core: &mut RowCore) -> Resul
 }
 
 /// A row goes from the source to the sink; task 1 is no source.
-fn append_and_work(rt: &impl Abort, alloc: Global, core: &mut RowCore) -> Result<(), Fail> {
+fn append_and_work(rt: &impl Abort, alloc: Global, core: &mut TestCore) -> Result<(), Fail> {
     let k = Text::from_str(alloc, "a")?;
     let row = Row { k, v: 1 };
     assert!(rt; row.fits());
@@ -57,21 +48,25 @@ fn append_and_work(rt: &impl Abort, alloc: Global, core: &mut RowCore) -> Result
         Step::Read(1),
         Step::Read(0),
         Step::Read(0),
-        Step::Work(1, 0),
-        Step::Work(2, 0),
+        Step::Claim(1, 0),
+        Step::Finish(0),
+        Step::Claim(2, 0),
+        Step::Finish(1),
     ];
     let wanted = [
         Reply::Refused(CoreFault::NoSuchTask),
         Reply::Accepted,
         Reply::Refused(CoreFault::NotReady),
+        Reply::Number(0),
         Reply::Accepted,
+        Reply::Number(1),
         Reply::Accepted,
     ];
     expect_replies(rt, core, &steps, &wanted)
 }
 
 /// A checkpoint behind it.
-fn take_a_checkpoint(rt: &impl Abort, core: &mut RowCore) -> Result<(), Fail> {
+fn take_a_checkpoint(rt: &impl Abort, core: &mut TestCore) -> Result<(), Fail> {
     let steps = [
         Step::Trigger,
         Step::Trigger,
@@ -90,7 +85,7 @@ fn take_a_checkpoint(rt: &impl Abort, core: &mut RowCore) -> Result<(), Fail> {
 }
 
 /// It becomes complete.
-fn complete_it(rt: &impl Abort, core: &mut RowCore) -> Result<(), Fail> {
+fn complete_it(rt: &impl Abort, core: &mut TestCore) -> Result<(), Fail> {
     let steps = [
         Step::Persist(0),
         Step::Persist(1),
@@ -107,7 +102,7 @@ fn complete_it(rt: &impl Abort, core: &mut RowCore) -> Result<(), Fail> {
 }
 
 /// A failure and a restart, which commits.
-fn fail_and_restart(rt: &impl Abort, core: &mut RowCore) -> Result<(), Fail> {
+fn fail_and_restart(rt: &impl Abort, core: &mut TestCore) -> Result<(), Fail> {
     let steps = [
         Step::Fail,
         Step::Commit(0),
@@ -125,7 +120,7 @@ fn fail_and_restart(rt: &impl Abort, core: &mut RowCore) -> Result<(), Fail> {
     expect_replies(rt, core, &steps, &wanted)
 }
 
-fn make_lists(rt: &impl Abort, alloc: Global, core: &mut RowCore) -> Result<(), Fail> {
+fn make_lists(rt: &impl Abort, alloc: Global, core: &mut TestCore) -> Result<(), Fail> {
     append_elsewhere(rt, alloc, core)?;
     append_and_work(rt, alloc, core)?;
     take_a_checkpoint(rt, core)?;
@@ -134,7 +129,7 @@ fn make_lists(rt: &impl Abort, alloc: Global, core: &mut RowCore) -> Result<(), 
 }
 
 /// The row is committed once.
-fn expect_the_row(rt: &impl Abort, alloc: Global, core: &impl CoreReader) -> Result<(), Fail> {
+fn expect_the_row(rt: &impl Abort, alloc: Global, core: &TestCore) -> Result<(), Fail> {
     let rows = committed(alloc, core, 0)?;
     assert_eq!(rt; rows.len(), 1);
     assert_eq!(rt; rows[0].as_str(), "{\"k\":\"a\",\"v\":11}");
@@ -148,4 +143,35 @@ fn lists_of_calls_are_made_in_order(rt: HostRuntime) -> Result<(), Fail> {
     expect_answers(&rt, rt.alloc(), &mut core, &[("restart", "ok 0")])?;
     make_lists(&rt, rt.alloc(), &mut core)?;
     expect_the_row(&rt, rt.alloc(), &core)
+}
+
+/// A claim is stale once the job has started again. A job that was finished has left the desk.
+#[test]
+fn a_claim_does_not_outlive_its_attempt(rt: HostRuntime) -> Result<(), Fail> {
+    let mut core = opened(rt.alloc(), LINE)?;
+    let before = [("restart", "ok 0"), ("append 0 1 a", "ok")];
+    expect_answers(&rt, rt.alloc(), &mut core, &before)?;
+    let steps = [
+        Step::Read(0),
+        Step::Claim(1, 0),
+        Step::Fail,
+        Step::Restart,
+        Step::Read(0),
+        Step::Claim(1, 0),
+        Step::Finish(0),
+        Step::Finish(1),
+        Step::Finish(1),
+    ];
+    let wanted = [
+        Reply::Accepted,
+        Reply::Number(0),
+        Reply::Accepted,
+        Reply::Number(0),
+        Reply::Accepted,
+        Reply::Number(1),
+        Reply::Refused(CoreFault::Stale),
+        Reply::Accepted,
+        Reply::NoJob,
+    ];
+    expect_replies(&rt, &mut core, &steps, &wanted)
 }

@@ -1,7 +1,7 @@
 //! The texts of faults: each is the fault's number and its name.
 
 use abs_codec::CodecFault;
-use engine::CoreFault;
+use dataflow_core::CoreFault;
 use recovery::RecoveryFault;
 use std::alloc::Global;
 use std::fmt::Display;

@@ -3,9 +3,9 @@
 #![tactic(auto)]
 
 #[cfg(test)]
-mod core_reader;
-#[cfg(test)]
 mod cores;
+#[cfg(test)]
+mod devices;
 #[cfg(test)]
 mod failed_copies;
 #[cfg(test)]
@@ -20,5 +20,7 @@ mod messages;
 mod parts;
 #[cfg(test)]
 mod steps;
+#[cfg(test)]
+mod test_core;
 #[cfg(test)]
 mod writers;

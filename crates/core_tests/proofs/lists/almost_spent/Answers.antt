@@ -1,6 +1,6 @@
 use Rattle.std.proofs.Common.{[], nat_cmp}
 use Rattle.std.specs.List.Sorted.{IsStrictlySortedBy}
-use Rattle.engine_tests.proofs.lists.almost_spent.Goals as goal
+use Rattle.core_tests.proofs.lists.almost_spent.Goals as goal
 
 none_rises : IsStrictlySortedBy nat_cmp []
 unfolding IsStrictlySortedBy
