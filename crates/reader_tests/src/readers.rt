@@ -1,0 +1,190 @@
+ghost use Rattle.std.specs.Prelude.{◌≡◌};
+
+use output_readers::{OutputFault, OutputReader, OutputWriter, Told};
+use std::alloc::{AllocError, Global};
+use std::sync::Wait;
+use std::test::*;
+use std::thread;
+use std::thread::{Threads, join};
+
+// Hands in a row of this byte, and publishes it. It is `None` where a call is refused.
+fn show<R: Wait>(rt: &R, alloc: Global, writer: &mut OutputWriter, byte: u8) -> Option<Told> {
+    if writer.subtasks() < 2 {
+        return None;
+    }
+    let row = Vec::from_slice(alloc, &[byte]).ok()?;
+    writer.append(1, row).ok()?;
+    writer.publish(rt).ok()
+}
+
+// How many rows there are in the second subtask, and the last of them.
+fn look(reader: &mut OutputReader) -> Result<(usize, Option<u8>), OutputFault> {
+    let rows = reader.read(1)?;
+    let last = rows.last().and_then(|row| row.first());
+    Ok((rows.len(), last.copied()))
+}
+
+// The same by another thread.
+fn look_there<R: Threads + Wait + Sync>(
+    rt: &R,
+    mut reader: OutputReader,
+) -> Result<(usize, Option<u8>), OutputFault> {
+    join(rt, move || look(&mut reader), || ()).0
+}
+
+// A reader takes in what is published.
+fn told_by<R: Wait>(
+    rt: &R,
+    alloc: Global,
+    writer: &mut OutputWriter,
+    reader: &mut OutputReader,
+) -> Option<()>
+    requires { reader.old.history ≡ writer.old.history }
+{
+    if writer.subtasks() == 2 {
+        writer.append(1, Vec::from_slice(alloc, &[2]).ok()?).ok()?;
+    }
+    reader.learn(writer.publish(rt).ok()?);
+    Some(())
+}
+
+#[test]
+fn a_told_row_is_read_on_another_thread(rt: HostRuntime) -> Result<(), Fail> {
+    let alloc = rt.alloc();
+    let mut writer = OutputWriter::new(&rt, alloc, 2).map_err(|_| AllocError)?;
+    let read = match writer.reader() {
+        Ok(mut reader) => match told_by(&rt, alloc, &mut writer, &mut reader) {
+            Some(()) => look_there(&rt, reader),
+            None => Err(OutputFault::Memory),
+        },
+        Err(fault) => Err(fault),
+    };
+    writer.close(&rt);
+    assert_eq!(rt; read, Ok((1, Some(2))));
+    Ok(())
+}
+
+// What a reader that is told nothing sees: before anything is published, and once two rows are.
+fn seen<R: Wait>(
+    rt: &R,
+    alloc: Global,
+    writer: &mut OutputWriter,
+) -> Option<(usize, usize, Option<u8>)> {
+    let mut reader = writer.reader().ok()?;
+    let before = look(&mut reader).ok()?.0;
+    drop(show(rt, alloc, writer, 3)?);
+    drop(show(rt, alloc, writer, 4)?);
+    let (after, last) = look(&mut reader).ok()?;
+    Some((before, after, last))
+}
+
+#[test]
+fn a_reader_that_was_told_nothing_sees_what_is_published(rt: HostRuntime) -> Result<(), Fail> {
+    let alloc = rt.alloc();
+    let mut writer = OutputWriter::new(&rt, alloc, 2).map_err(|_| AllocError)?;
+    let seen = seen(&rt, alloc, &mut writer);
+    writer.close(&rt);
+    assert_eq!(rt; seen, Some((0, 2, Some(4))));
+    Ok(())
+}
+
+#[test]
+fn no_read_without_a_writer(rt: HostRuntime) -> Result<(), Fail> {
+    let mut writer = OutputWriter::new(&rt, rt.alloc(), 2).map_err(|_| AllocError)?;
+    let reader = writer.reader();
+    writer.close(&rt);
+    let read = match reader {
+        Ok(mut reader) => look(&mut reader),
+        Err(fault) => Err(fault),
+    };
+    assert_eq!(rt; read, Err(OutputFault::Closed));
+    Ok(())
+}
+
+// Keeps so many tolds, and counts how often there was one.
+fn kept<R: Wait>(rt: &R, alloc: Global, writer: &mut OutputWriter, tolds: usize) -> Option<usize> {
+    let mut all = Vec::new(alloc);
+    for _ in 0..tolds {
+        if let Ok(told) = writer.publish(rt) {
+            all.push(told).ok()?;
+        }
+    }
+    Some(all.len())
+}
+
+#[test]
+fn what_is_told_takes_a_place(rt: HostRuntime) -> Result<(), Fail> {
+    let alloc = rt.alloc();
+    let mut writer = OutputWriter::new(&rt, alloc, 2).map_err(|_| AllocError)?;
+    let kept = kept(&rt, alloc, &mut writer, 50);
+    let seen = seen(&rt, alloc, &mut writer);
+    writer.close(&rt);
+    assert_eq!(rt; (kept, seen), (Some(48), Some((0, 2, Some(4)))));
+    Ok(())
+}
+
+// How many readers were handed out in so many calls.
+fn handed_out(writer: &mut OutputWriter, calls: usize) -> usize {
+    let mut count = 0usize;
+    for _ in 0..calls {
+        if writer.reader().is_ok() {
+            count = count.saturating_add(1);
+        }
+    }
+    count
+}
+
+#[test]
+fn there_are_sixteen_readers(rt: HostRuntime) -> Result<(), Fail> {
+    let mut writer = OutputWriter::new(&rt, rt.alloc(), 2).map_err(|_| AllocError)?;
+    let count = handed_out(&mut writer, 17);
+    let refused = writer.reader().err();
+    writer.close(&rt);
+    assert_eq!(rt; (count, refused), (16, Some(OutputFault::ReadersFull)));
+    Ok(())
+}
+
+// Looks until so many rows are there, at most so often, and says whether no list was shorter than
+// the one before.
+fn counts_up(mut reader: OutputReader, rows: usize, looks: u64) -> bool {
+    let mut last = 0;
+    for _ in 0..looks {
+        let now = look(&mut reader).unwrap_or((0, None)).0;
+        if now < last {
+            return false;
+        }
+        last = now;
+        if last == rows {
+            return true;
+        }
+        thread::yield_now();
+    }
+    false
+}
+
+// Shows so many rows, one by one.
+fn show_all<R: Wait>(rt: &R, alloc: Global, writer: &mut OutputWriter, rows: usize) -> bool {
+    for _ in 0..rows {
+        if show(rt, alloc, writer, 1).is_none() {
+            return false;
+        }
+    }
+    true
+}
+
+#[test]
+fn a_reader_reads_beside_the_writer(rt: HostRuntime) -> Result<(), Fail> {
+    let alloc = rt.alloc();
+    let mut writer = OutputWriter::new(&rt, alloc, 2).map_err(|_| AllocError)?;
+    let ends = match writer.reader() {
+        Ok(reader) => join(
+            &rt,
+            move || counts_up(reader, 300, 10_000_000),
+            || show_all(&rt, alloc, &mut writer, 300),
+        ),
+        Err(_) => (false, false),
+    };
+    writer.close(&rt);
+    assert_eq!(rt; ends, (true, true));
+    Ok(())
+}
