@@ -7,7 +7,7 @@ ghost use Rattle.alignment.specs.Table.{effect_of, is_blocked};
 ghost use Rattle.alignment.specs.declared.input.Phase.TheVariants.{AtRest};
 ghost use Rattle.coordinator.specs.Coordinator.{has_acked, IsReady, ack_refusal, complete_refusal};
 
-use crate::deliveries::first;
+use crate::sending::first;
 use crate::gates::fresh_gates;
 use crate::holding::Holding;
 use crate::logs::{open_logs, reopen};

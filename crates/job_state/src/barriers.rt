@@ -5,7 +5,7 @@ ghost use Rattle.alignment.specs.Inputs as gates;
 ghost use Rattle.alignment.specs.Table.{IsFor};
 
 use crate::attempt::Attempt;
-use crate::deliveries::{forward_barriers, send_barriers, take_head};
+use crate::sending::{forward_barriers, send_barriers, take_head};
 use crate::gates::note_barrier;
 use crate::holding::Holding;
 use crate::logs::close;
