@@ -1,9 +1,9 @@
-//! The channels of a job.
+//! The channels of edges.
 
 ghost use Rattle.std.specs.Prelude.{◌≡◌, ◌+◌, ◌<◌, ◌≤◌, ◌^◌, ◌++◌, ℕ, All, OnOk, IfOk, length, map, sum, slice_index};
 ghost use Rattle.std.specs.List.{flat_map};
-ghost use Rattle.job_graph.specs.Channel.{channel_view, route_view};
-ghost use Rattle.job_graph.specs.Expansion.{channel_on, route_to, forward_channels, channels_to, crossed_channels, edge_channels, first_task};
+ghost use Rattle.job_channels.specs.Channel.{channel_view, route_view};
+ghost use Rattle.job_channels.specs.Edges.{channel_on, route_to, forward_channels, channels_to, crossed_channels, edge_channels, first_task};
 
 use crate::channel::{Channel, Route};
 use job_spec::{EdgeRoute, EdgeSpec};
@@ -88,22 +88,6 @@ fn push_crossed(
     Ok(())
 }
 
-/// The number of each vertex's subtask 0.
-pub(crate) fn first_tasks(alloc: Global, parallelisms: &[u32]) -> Result<Vec<u32>, AllocError>
-    requires small { sum parallelisms.now < 2 ^ 31 }
-    ensures len { IfOk result (λ v. length v.items ≡ length parallelisms.now) }
-    ensures each { IfOk result (λ v. (i : ℕ) → i < length parallelisms.now
-        → slice_index v.items i ≡ first_task parallelisms.now i) }
-{
-    let mut firsts = Vec::new(alloc);
-    let mut total = 0u32;
-    for count in parallelisms {
-        firsts.push(total)?;
-        total += *count;
-    }
-    Ok(firsts)
-}
-
 fn push_edge(
     channels: &mut Vec<Channel>,
     parallelisms: &[u32],
@@ -130,7 +114,7 @@ fn push_edge(
 }
 
 /// The channels of the edges, in file order.
-pub(crate) fn channels(
+pub fn channels(
     alloc: Global,
     parallelisms: &[u32],
     firsts: &[u32],

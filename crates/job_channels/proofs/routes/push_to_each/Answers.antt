@@ -1,8 +1,8 @@
 use Rattle.std.proofs.Common.{◌+◌, ◌∙◌, ap}
-use Rattle.job_graph.specs.Channel.{channel_view}
-use Rattle.job_graph.specs.Expansion.{channel_on, route_to}
-use Rattle.job_graph.proofs.Growing.{grown}
-use Rattle.job_graph.proofs.routes.push_to_each.Goals as goal
+use Rattle.job_channels.specs.Channel.{channel_view}
+use Rattle.job_channels.specs.Edges.{channel_on, route_to}
+use Rattle.job_channels.proofs.Growing.{grown}
+use Rattle.job_channels.proofs.routes.push_to_each.Goals as goal
 
 pub loop-i-preserved : goal.loop-i-preserved
 loop-i-preserved c =

@@ -1,9 +1,9 @@
 -- The channels of the program, as those of the plain machine.
 use Rattle.std.specs.Prelude.{◌<◌}
 use Rattle.dataflow_model.specs.Graph as model
-use Rattle.job_graph.specs.declared.channel.Route.{Route}
-use Rattle.job_graph.specs.declared.channel.Route.TheVariants.{Every, Lanes}
-use Rattle.job_graph.specs.declared.channel.Channel.{Channel}
+use Rattle.job_channels.specs.declared.channel.Route.{Route}
+use Rattle.job_channels.specs.declared.channel.Route.TheVariants.{Every, Lanes}
+use Rattle.job_channels.specs.declared.channel.Channel.{Channel}
 
 abbrev pub route_view : Route → model.Route
 route_view Every = model.Every

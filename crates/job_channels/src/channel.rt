@@ -12,10 +12,10 @@ pub enum Route {
 impl Route {
     ghost use Rattle.std.specs.Prelude.{◌≡◌};
     ghost use Rattle.dataflow_model.specs.Graph.{takes_lane};
-    ghost use Rattle.job_graph.specs.Channel.{route_view, HasSubtask};
+    ghost use Rattle.job_channels.specs.Channel.{route_view, HasSubtask};
 
     /// Whether a record of this lane goes into the channel.
-    pub(crate) fn takes(self, lane: u64) -> bool
+    pub fn takes(self, lane: u64) -> bool
         requires { HasSubtask (route_view self) }
         ensures { result ≡ takes_lane (route_view self) lane }
     {

@@ -1,6 +1,6 @@
 use Rattle.std.proofs.Common.{◌≡◌, ℕ, ◌<◌, length, get_or, sum, take}
 use Rattle.job_graph.specs.Expansion.{first_task}
-use Rattle.job_graph.proofs.routes.first_tasks.Given as goal
+use Rattle.job_graph.proofs.blocks.first_tasks.Given as goal
 
 abbrev pub invariant-loop-count : goal.invariant-loop-count
 invariant-loop-count l = record {
