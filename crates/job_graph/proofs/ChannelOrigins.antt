@@ -7,7 +7,7 @@ use Rattle.dataflow_model.specs.Graph.{Channel, Every}
 use Rattle.job_spec.specs.declared.edge.EdgeRoute.{EdgeRoute}
 use Rattle.job_spec.specs.declared.edge.EdgeRoute.TheVariants.{Forward, Hash, Broadcast}
 use Rattle.job_spec.specs.declared.edge.EdgeSpec.{EdgeSpec}
-use Rattle.job_graph.specs.Channel.{HasSubtask}
+use Rattle.job_channels.specs.Channel.{HasSubtask}
 use Rattle.job_graph.specs.Expansion.{is_forward, channel_on, route_to, forward_channels, channels_to, crossed_channels, edge_channels, first_task}
 use Rattle.job_graph.proofs.FlatMaps.{has_at, origin_at, range_at, range_from, mapped_at, mapped_from}
 

@@ -1,7 +1,7 @@
 -- Channels that are looked up.
 use Rattle.std.proofs.Common.{◌≡◌, ℕ, Option, Some, None, IfSome, option_map, slice_get, sym}
-use Rattle.job_graph.specs.declared.channel.Channel.{Channel}
-use Rattle.job_graph.specs.Channel.{channel_view}
+use Rattle.job_channels.specs.declared.channel.Channel.{Channel}
+use Rattle.job_channels.specs.Channel.{channel_view}
 use Rattle.job_graph.specs.Expanded.{Expanded, IsExpanded, IsChannel}
 
 -- a channel that was found joins tasks

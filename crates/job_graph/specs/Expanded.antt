@@ -7,7 +7,7 @@ use Rattle.job_graph.specs.declared.role.Role.{Role}
 use Rattle.job_graph.specs.declared.role.Role.TheVariants.{Source, Operator, Sink}
 use Rattle.job_graph.specs.declared.role.TaskKind.{TaskKind}
 use Rattle.job_graph.specs.declared.role.TaskKind.TheVariants as task
-use Rattle.job_graph.specs.Channel.{HasSubtask}
+use Rattle.job_channels.specs.Channel.{HasSubtask}
 
 pub record Expanded : Type 0 where
   pub tasks : List Role

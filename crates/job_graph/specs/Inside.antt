@@ -1,7 +1,7 @@
 -- What a graph keeps.
 use Rattle.std.specs.Prelude.{◌≡◌, map, length}
 use Rattle.job_graph.specs.declared.graph.Graph.TheInside.{Inside}
-use Rattle.job_graph.specs.Channel.{channel_view}
+use Rattle.job_channels.specs.Channel.{channel_view}
 use Rattle.job_graph.specs.Expanded.{Expanded, IsExpanded}
 use Rattle.job_graph.specs.Tables.{IsTable}
 

@@ -1,4 +1,4 @@
-pub mod Channel
+pub use Rattle.job_channels.specs.Channel
 pub mod Expanded
 pub mod Tables
 pub mod Inside

@@ -6,6 +6,22 @@ ghost use Rattle.job_graph.specs.Expansion.{block, blocks, first_task};
 
 use std::alloc::{AllocError, Global};
 
+/// The number of each vertex's subtask 0.
+pub(crate) fn first_tasks(alloc: Global, parallelisms: &[u32]) -> Result<Vec<u32>, AllocError>
+    requires small { sum parallelisms.now < 2 ^ 31 }
+    ensures len { IfOk result (λ v. length v.items ≡ length parallelisms.now) }
+    ensures each { IfOk result (λ v. (i : ℕ) → i < length parallelisms.now
+        → slice_index v.items i ≡ first_task parallelisms.now i) }
+{
+    let mut firsts = Vec::new(alloc);
+    let mut total = 0u32;
+    for count in parallelisms {
+        firsts.push(total)?;
+        total += *count;
+    }
+    Ok(firsts)
+}
+
 fn push_from(order: &mut Vec<u32>, first: u32, count: u32) -> Result<(), AllocError>
     requires { first + count < 2 ^ 32 }
     ensures { OnOk result (order.new.items ≡ order.old.items ++ map (λ i. first + i) (range_with_len 0 count)) }

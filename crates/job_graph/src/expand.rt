@@ -6,17 +6,16 @@ ghost use Rattle.std.specs.List.{flat_map, range_with_len};
 ghost use Rattle.job_spec.specs.Job.{IsJob};
 ghost use Rattle.job_graph.specs.Order.{at, IsAcyclic};
 ghost use Rattle.job_graph.specs.Expanded.{IsNumbered, task_kind};
-ghost use Rattle.job_graph.specs.Channel.{channel_view};
+ghost use Rattle.job_channels.specs.Channel.{channel_view};
 ghost use Rattle.job_graph.specs.Expansion.{IsSmall, IsVertexOrder, Refuses, channels_of, first_task, has_plain_input, is_fed, names_at, parallelisms_of, task_kinds_of};
 
-use crate::blocks::blocks;
-use crate::channel::Channel;
+use crate::blocks::{blocks, first_tasks};
 use crate::graph::Graph;
 use crate::order::{in_order, is_left};
 use crate::role::Role;
-use crate::routes::{channels, first_tasks};
 use crate::spelling::spelling_of;
 use crate::tasks::{parallelisms, roles, task_kinds};
+use job_channels::{Channel, channels};
 use job_spec::{EdgeSpec, JobFault, JobSpec};
 use std::alloc::{AllocError, Global};
 

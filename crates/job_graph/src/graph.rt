@@ -2,9 +2,9 @@
 
 ghost use Rattle.std.specs.Prelude.{◌≡◌, map, length, IfOk};
 
-use crate::channel::Channel;
 use crate::links::{Links, table};
 use crate::role::Role;
+use job_channels::Channel;
 use std::alloc::{AllocError, Global};
 use std::marker::Model;
 
@@ -22,7 +22,7 @@ pub struct Graph {
 impl Model for Graph {
     ghost use Rattle.std.specs.Prelude.{◌≡◌, map, length};
     ghost use Rattle.job_graph.specs.Expanded.{Expanded, IsExpanded};
-    ghost use Rattle.job_graph.specs.Channel.{channel_view};
+    ghost use Rattle.job_channels.specs.Channel.{channel_view};
     ghost use Rattle.job_graph.specs.Tables.{IsTable};
 
     ghost Value = { Expanded };
@@ -38,7 +38,7 @@ impl Graph {
     ghost use Rattle.std.specs.Prelude.{◌≡◌, ◌≤◌, IfOk, IfSome, IfNone, length, count_by, slice_get, option_map, map};
     ghost use Rattle.std.specs.List.{find, range_with_len};
     ghost use Rattle.job_graph.specs.declared.role.Role.TheVariants as Role;
-    ghost use Rattle.job_graph.specs.Channel.{channel_view};
+    ghost use Rattle.job_channels.specs.Channel.{channel_view};
     ghost use Rattle.job_graph.specs.Expanded.{IsExpanded, IsChannel, inputs_of, outputs_of, outlets_of, targets_of, meets, is_marked, takes, is_source, is_operator, is_sink, is_subtask_at};
     ghost use Rattle.job_graph.specs.Tables.{AreLinks};
 

@@ -3,17 +3,15 @@
 #![tactic(auto)]
 
 mod blocks;
-mod channel;
 mod expand;
 mod graph;
 mod links;
 mod order;
 mod role;
-mod routes;
 mod spelling;
 mod tasks;
 
-pub use channel::{Channel, Route};
 pub use graph::Graph;
+pub use job_channels::{Channel, Route};
 pub use job_spec::{EdgeRoute, EdgeSpec, JobFault, JobSpec, Kind, VertexSpec};
 pub use role::Role;

@@ -1,11 +1,11 @@
 //! The channels of a task.
 
 ghost use Rattle.std.specs.Prelude.{◌≡◌, ◌<◌, ◌^◌, ◌&&◌, ◌==◌, IfOk, length, map};
-ghost use Rattle.job_graph.specs.Channel.{channel_view};
+ghost use Rattle.job_channels.specs.Channel.{channel_view};
 ghost use Rattle.job_graph.specs.Expanded.{meets, numbers_of, is_input, is_output, is_outlet};
 ghost use Rattle.job_graph.specs.Tables.{AreLinks, IsTable};
 
-use crate::channel::Channel;
+use job_channels::Channel;
 use std::alloc::{AllocError, Global};
 
 /// The channels of a task, by their numbers: those that lead into it, those that it sends on, and

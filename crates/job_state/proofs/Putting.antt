@@ -1,5 +1,5 @@
 -- Channels, as items are put into them.
-use Rattle.std.proofs.Common.{◌≡◌, ◌<◌, ◌≤◌, ◌+◌, ◌-◌, ◌==◌, ℕ, List, [], ◌∷◌, ◌++◌, length, map, filter, take, drop, get_or, Option, Some, slice_get, slice_set, unwrap_or, All, subst, sym, ap, ◌∙◌, arith, inl, inr}
+use Rattle.std.proofs.Common.{◌≡◌, ◌<◌, ◌≤◌, ◌+◌, ◌-◌, ◌==◌, ℕ, List, [], ◌∷◌, ◌++◌, length, map, filter, take, drop, get_or, Some, slice_get, slice_set, unwrap_or, All, subst, sym, ap, ◌∙◌, arith, inl, inr}
 use Rattle.std.specs.Option.{option_map, option_map_or}
 use Rattle.std.proofs.lemmas.Bool.Decides.{eqb_tells}
 use Rattle.std.proofs.lemmas.List.{map-set, map-append, append-nil, take_all, set_past, length-map}
@@ -7,11 +7,7 @@ use Rattle.std.proofs.lemmas.List.Elements.{filter-append}
 use Rattle.std.proofs.lemmas.Option.{slice_get-map}
 use Rattle.channels.specs.Channel.{Contents}
 use Rattle.channels.specs.declared.item.Item.{Item}
-use Rattle.channels.specs.declared.item.Item.TheVariants.{Record}
-use Rattle.dataflow_model.specs.Graph.{Meaning}
-use Rattle.job_graph.specs.Expanded.{Expanded, meets, takes, outlets_of}
-use Rattle.job_graph.proofs.Targets.{targets_are}
-use Rattle.job_state.specs.Sending.{items_at, put_into, contents_items, room_at, AreChannels, HasRoom, Puts, without_head, delivered_last, deliveries_of_one}
+use Rattle.job_state.specs.Sending.{items_at, put_into, contents_items, room_at, AreChannels, HasRoom, Puts, without_head}
 use Rattle.job_state.proofs.Places.{get_set_same, get_set_other, set_same}
 
 module _ {R : Type 0} where
@@ -95,13 +91,3 @@ module _ {R : Type 0} where
 
 pub all_of_take : {X : Type 0} (P : X → Type 0) (xs : List X) (i : ℕ) → length xs ≤ i → All P (take i xs) → All P xs
 all_of_take P xs i past all = subst (All P) (take_all i xs past) all
-
-module _ {R K S O : Type 0} where
-  -- the last target has the record itself, the others have copies
-  pub delivered : (meaning : Meaning R K S O) (graph : Expanded) (task port : ℕ) (row : R) (items : List ℕ) (index : ℕ) (before puts : List (ℕ × Item R)) (last : Option ℕ) →
-      items ≡ outlets_of graph task port → length items ≤ index →
-      puts ++ delivered_last row last ≡ before ++ map (λ n. (n, Record row)) (filter (meets (takes (meaning.lane row)) graph.channels) (take index items)) →
-      puts ++ delivered_last row last ≡ before ++ deliveries_of_one meaning graph task (port, row)
-  delivered meaning graph task port row items index before puts last are all e =
-      e ∙ ap (λ l. before ++ map (λ n. (n, Record row)) (filter (meets (takes (meaning.lane row)) graph.channels) l)) (take_all index items all ∙ are)
-      ∙ ap (λ l. before ++ map (λ n. (n, Record row)) l) (sym (targets_are graph task port (meaning.lane row)))

@@ -12,7 +12,8 @@ use Rattle.channels.specs.declared.item.Item.TheVariants.{Record, Barrier}
 use Rattle.dataflow_model.specs.Graph.{Meaning, Channel, takes_lane, admits}
 use Rattle.dataflow_model.specs.Machine.{received}
 use Rattle.job_graph.specs.Expanded.{Expanded, meets, numbers_of, is_output, is_target}
-use Rattle.job_state.specs.Sending.{put_into, barriers_of, barrier_into, deliveries_of_one, deliveries_of, AreChannels}
+use Rattle.deliveries.specs.Deliveries.{barriers_of, deliveries_of_one, deliveries_of}
+use Rattle.job_state.specs.Sending.{put_into, barrier_into, AreChannels}
 use Rattle.job_state.proofs.Putting.{put_into_append}
 
 not_past : {A : Type 0} (xs : List A) (i : ℕ) → i < length xs → slice_get xs i ≡ None → ⊥

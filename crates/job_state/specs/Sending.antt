@@ -1,11 +1,10 @@
--- What is put into which channels, by the graph.
-use Rattle.std.specs.Prelude.{◌≡◌, ◌≤◌, ◌<◌, ◌==◌, ℕ, List, [], ◌∷◌, ◌++◌, All, length, drop, map, filter, flat_map, slice_get, slice_set, Option, Some, None, unwrap_or, if◌then◌else◌}
+-- What stands in channels, and what is put into them.
+use Rattle.std.specs.Prelude.{◌≡◌, ◌≤◌, ◌<◌, ◌==◌, ℕ, List, [], ◌∷◌, ◌++◌, All, length, drop, map, filter, slice_get, slice_set, Option, Some, None, unwrap_or, if◌then◌else◌}
 use Rattle.std.specs.Option.{option_map_or}
 use Rattle.channels.specs.Channel.{Contents}
 use Rattle.channels.specs.declared.item.Item.{Item}
-use Rattle.channels.specs.declared.item.Item.TheVariants.{Record, Barrier}
-use Rattle.dataflow_model.specs.Graph.{Meaning, Channel}
-use Rattle.job_graph.specs.Expanded.{Expanded, targets_of, outputs_of}
+use Rattle.channels.specs.declared.item.Item.TheVariants.{Barrier}
+use Rattle.dataflow_model.specs.Graph.{Channel}
 
 module _ {R : Type 0} where
   -- what stands in a channel; nothing, if there is no such channel
@@ -39,24 +38,7 @@ module _ {R : Type 0} where
   abbrev pub AreChannels : ℕ → List (ℕ × Item R) → Type 0
   AreChannels count puts = All (λ p. p.0 < count) puts
 
-  -- the barrier that a task sends into each of its outputs
-  abbrev pub barriers_of : Expanded → ℕ → ℕ → List (ℕ × Item R)
-  barriers_of graph task checkpoint = map (λ number. (number, Barrier checkpoint)) (outputs_of graph task)
-
   -- the barrier that goes into a channel, if the channel is there and the task sends into it
   abbrev pub barrier_into : ℕ → ℕ → Option Channel → List (Item R)
   barrier_into checkpoint task None = []
   barrier_into checkpoint task (Some channel) = if channel.sender == task then Barrier checkpoint ∷ [] else []
-
-  -- the record goes into the last of its targets, if one was met
-  abbrev pub delivered_last : R → Option ℕ → List (ℕ × Item R)
-  delivered_last row None = []
-  delivered_last row (Some number) = (number, Record row) ∷ []
-
-module _ {R K S O : Type 0} where
-  -- one record, sent by a task on a port, goes into each of its targets
-  abbrev pub deliveries_of_one : Meaning R K S O → Expanded → ℕ → ℕ × R → List (ℕ × Item R)
-  deliveries_of_one meaning graph task sent = map (λ number. (number, Record sent.1)) (targets_of graph task sent.0 (meaning.lane sent.1))
-
-  abbrev pub deliveries_of : Meaning R K S O → Expanded → ℕ → List (ℕ × R) → List (ℕ × Item R)
-  deliveries_of meaning graph task sent = flat_map (deliveries_of_one meaning graph task) sent

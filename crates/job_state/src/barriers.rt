@@ -5,11 +5,11 @@ ghost use Rattle.alignment.specs.Inputs as gates;
 ghost use Rattle.alignment.specs.Table.{IsFor};
 
 use crate::attempt::Attempt;
-use crate::deliveries::{forward_barriers, send_barriers, take_head};
 use crate::gates::note_barrier;
 use crate::holding::Holding;
 use crate::logs::close;
 use crate::parts::copied_states;
+use crate::sending::{forward_barriers, send_barriers, take_head};
 use abs_codec::{Items, NoMemory};
 use commit_sink::Sink;
 use job_graph::Graph;

@@ -8,13 +8,13 @@
 
 mod attempt;
 mod barriers;
-mod deliveries;
 mod gates;
 mod holding;
 mod logs;
 mod openings;
 mod parts;
 mod records;
+mod sending;
 
 pub use attempt::Attempt;
 pub use holding::Holding;

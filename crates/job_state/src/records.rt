@@ -4,11 +4,11 @@ ghost use Rattle.std.specs.Prelude.{◌≡◌, ◌<◌, ◌+◌, ◌^◌, ℕ, L
 ghost use Rattle.channels.specs.declared.item.Item.TheVariants as Item;
 
 use crate::attempt::Attempt;
-use crate::deliveries::{first, pass_on, reserve_deliveries, send_records, take_head};
 use crate::gates::is_logged;
 use crate::holding::Holding;
 use crate::logs::{drop_last, log_copy, log_taken, reserve_log};
 use crate::parts::keep;
+use crate::sending::{first, pass_on, reserve_deliveries, send_records, take_head};
 use abs_codec::NoMemory;
 use channels::Item;
 use job_graph::Graph;

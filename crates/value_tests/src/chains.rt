@@ -27,6 +27,24 @@ fn outcome_of<O: Operator>(
     op.apply(alloc, state, item)
 }
 
+/// Works off a row of the key, adds the ports and values that the operator sends for it, and gives the key's next state.
+fn work_off<O: Operator<Record = Row>>(
+    rt: &impl Abort,
+    alloc: Global,
+    op: &O,
+    state: &O::State,
+    v: i64,
+    sent: &mut Vec<(u32, i64)>,
+) -> Result<O::State, NoMemory> {
+    let item = row(alloc, "a", v)?;
+    let outcome = outcome_of(rt, alloc, op, state, &item)?;
+    for (port, out) in &outcome.sent {
+        assert!(rt; *port < op.ports());
+        sent.push((*port, out.v))?;
+    }
+    Ok(outcome.state)
+}
+
 /// The ports and values that an operator sends for rows of one key, one after another.
 fn sent_for<O: Operator<Record = Row>>(
     rt: &impl Abort,
@@ -37,15 +55,28 @@ fn sent_for<O: Operator<Record = Row>>(
     let mut state = op.fresh(alloc)?;
     let mut sent = Vec::new(alloc);
     for v in values {
-        let item = row(alloc, "a", *v)?;
-        let outcome = outcome_of(rt, alloc, op, &state, &item)?;
-        for (port, out) in outcome.sent {
-            assert!(rt; port < op.ports());
-            sent.push((port, out.v))?;
-        }
-        state = outcome.state;
+        state = work_off(rt, alloc, op, &state, *v, &mut sent)?;
     }
     Ok(sent)
+}
+
+/// An operator sends these for rows of one key.
+fn expect_sent<O: Operator<Record = Row>>(
+    rt: &impl Abort,
+    alloc: Global,
+    op: &O,
+    values: &[i64],
+    wanted: &[(u32, i64)],
+) -> Result<(), Fail> {
+    let sent = sent_for(rt, alloc, op, values)?;
+    assert_eq!(rt; sent.as_slice(), wanted);
+    Ok(())
+}
+
+/// An operator's copy is the operator.
+fn expect_copy<O: Operator>(rt: &impl Abort, op: &O) -> Result<(), Fail> {
+    assert!(rt; op.copy()? == *op);
+    Ok(())
 }
 
 #[test]
@@ -59,57 +90,83 @@ fn lanes_follow_the_hash(rt: HostRuntime) -> Result<(), Fail> {
 
 #[test]
 fn a_chain_sends_its_first_port_through(rt: HostRuntime) -> Result<(), Fail> {
-    let alloc = rt.alloc();
     let plus = KeylessRowOp {
         op: RowOp::Add { n: 10 },
     };
     let counted = Chain::new(RowOp::Count, plus);
-    let sent = sent_for(&rt, alloc, &counted, &[7, 7])?;
-    assert_eq!(rt; sent.as_slice(), [(0, 11), (0, 12)].as_slice());
+    expect_sent(&rt, rt.alloc(), &counted, &[7, 7], &[(0, 11), (0, 12)])
+}
+
+/// Port 0 of the loop is split.
+fn expect_split_loop(
+    rt: &impl Abort,
+    alloc: Global,
+    looped: &Chain<RowOp, KeylessRowOp>,
+) -> Result<(), Fail> {
+    assert_eq!(rt; looped.ports(), 3);
+    expect_sent(rt, alloc, looped, &[2, 0, -1], &[(2, 1), (0, 0), (1, -1)])?;
+    expect_copy(rt, looped)
+}
+
+#[test]
+fn a_chain_has_the_other_ports_behind(rt: HostRuntime) -> Result<(), Fail> {
     let split = KeylessRowOp {
         op: RowOp::Split { n: 0 },
     };
     let looped = Chain::new(RowOp::LoopDown, split);
-    assert_eq!(rt; looped.ports(), 3);
-    let sent = sent_for(&rt, alloc, &looped, &[2, 0, -1])?;
-    assert_eq!(rt; sent.as_slice(), [(2, 1), (0, 0), (1, -1)].as_slice());
-    assert!(rt; looped.copy()? == looped);
-    Ok(())
+    expect_split_loop(&rt, rt.alloc(), &looped)
+}
+
+/// The first sums, and the second counts down.
+fn expect_picks(
+    rt: &impl Abort,
+    alloc: Global,
+    first: &Pick<RowOp, KeylessRowOp>,
+    second: &Pick<RowOp, KeylessRowOp>,
+) -> Result<(), Fail> {
+    expect_sent(rt, alloc, first, &[7, 8], &[(0, 7), (0, 15)])?;
+    expect_sent(rt, alloc, second, &[7], &[(1, 6)])?;
+    assert!(rt; *first != *second);
+    expect_copy(rt, first)
 }
 
 #[test]
 fn a_pick_is_the_one_that_was_picked(rt: HostRuntime) -> Result<(), Fail> {
-    let alloc = rt.alloc();
     let first: Pick<RowOp, KeylessRowOp> = Pick::First(RowOp::Sum);
-    let sent = sent_for(&rt, alloc, &first, &[7, 8])?;
-    assert_eq!(rt; sent.as_slice(), [(0, 7), (0, 15)].as_slice());
     let second: Pick<RowOp, KeylessRowOp> = Pick::Second(KeylessRowOp {
         op: RowOp::LoopDown,
     });
-    let sent = sent_for(&rt, alloc, &second, &[7])?;
-    assert_eq!(rt; sent.as_slice(), [(1, 6)].as_slice());
-    assert!(rt; first.copy()? == first);
-    assert!(rt; first != second);
+    expect_picks(&rt, rt.alloc(), &first, &second)
+}
+
+/// A state's spelling has this length, and is read as the state.
+fn expect_length(
+    rt: &impl Abort,
+    alloc: Global,
+    state: &RowState,
+    length: usize,
+) -> Result<(), Fail> {
+    let mut bytes = Vec::new(alloc);
+    state.encode(&mut bytes)?;
+    assert_eq!(rt; bytes.len(), length);
+    let (same, end) = RowState::decode(alloc, &bytes, 0)?;
+    assert_eq!(rt; end, length);
+    assert_eq!(rt; &same, state);
     Ok(())
+}
+
+/// A list of one number.
+fn numbers(alloc: Global, number: i64) -> Result<RowState, AllocError> {
+    let mut values = Vec::new(alloc);
+    values.push(number)?;
+    Ok(RowState::Numbers(Items::from_vec(values)))
 }
 
 #[test]
 fn states_are_spelled_by_their_form(rt: HostRuntime) -> Result<(), Fail> {
     let alloc = rt.alloc();
-    let mut values = Vec::new(alloc);
-    values.push(3_i64)?;
-    let states = [
-        (RowState::Plain, 1),
-        (RowState::Number(7), 9),
-        (RowState::Numbers(Items::from_vec(values)), 13),
-    ];
-    for (state, length) in &states {
-        let mut bytes = Vec::new(alloc);
-        state.encode(&mut bytes)?;
-        assert_eq!(rt; bytes.len(), *length);
-        let (same, end) = RowState::decode(alloc, &bytes, 0)?;
-        assert_eq!(rt; end, *length);
-        assert_eq!(rt; &same, state);
-    }
-    Ok(())
+    expect_length(&rt, alloc, &RowState::Plain, 1)?;
+    expect_length(&rt, alloc, &RowState::Number(7), 9)?;
+    let numbers = numbers(alloc, 3)?;
+    expect_length(&rt, alloc, &numbers, 13)
 }

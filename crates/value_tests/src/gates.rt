@@ -5,6 +5,7 @@ ghost use Rattle.alignment.specs.Table.{IsFor};
 
 use alignment::{Effect, Gate, Phase};
 use std::alloc::{AllocError, Global};
+use std::fmt::Debug;
 use std::process::Abort;
 use std::test::Fail;
 
@@ -48,12 +49,23 @@ fn phase_by_table(marks: &[bool], came: &[u32], number: u64) -> Phase {
     }
 }
 
+/// What is told is what was wanted, once these inputs' barriers came.
+fn agree<T: Copy + Debug + PartialEq>(
+    rt: &impl Abort,
+    told: T,
+    wanted: T,
+    marks: &[bool],
+    came: &[u32],
+) {
+    assert_eq!(rt; told, wanted, "marks {marks:?}, came {came:?}");
+}
+
 /// Compares all that a gate tells with the definition, once these inputs' barriers of the number came.
 fn compare(rt: &impl Abort, gate: &Gate, marks: &[bool], came: &[u32], number: u64)
     requires { length marks.now ≡ length gate.now.inputs }
 {
     let phase = phase_by_table(marks, came, number);
-    assert_eq!(rt; gate.phase(), phase, "marks {marks:?}, came {came:?}");
+    agree(rt, gate.phase(), phase, marks, came);
     let aligning = phase == Phase::Aligning(number);
     let copied = phase == Phase::Copied(number);
     for (input, &is_marked) in (0..u32::MAX).zip(marks) {
@@ -61,21 +73,9 @@ fn compare(rt: &impl Abort, gate: &Gate, marks: &[bool], came: &[u32], number: u
         let has_come = phase != Phase::AtRest && came.contains(&input);
         let blocked = aligning && has_come;
         let logged = copied && is_marked && !has_come;
-        assert_eq!(rt;
-            gate.came(input),
-            has_come,
-            "marks {marks:?}, came {came:?}"
-        );
-        assert_eq!(rt;
-            gate.may_take(input),
-            !blocked,
-            "marks {marks:?}, came {came:?}"
-        );
-        assert_eq!(rt;
-            gate.logging(input),
-            logged,
-            "marks {marks:?}, came {came:?}"
-        );
+        agree(rt, gate.came(input), has_come, marks, came);
+        agree(rt, gate.may_take(input), !blocked, marks, came);
+        agree(rt, gate.logging(input), logged, marks, came);
     }
 }
 
@@ -112,7 +112,7 @@ fn go_round(rt: &impl Abort, gate: &mut Gate, marks: &[bool], order: &[u32], num
         let (before, came) = (&order[..step], &order[..=step]);
         let wanted = effect_by_table(marks, marks[input as usize], before, came);
         let effect = feed(rt, gate, input, number);
-        assert_eq!(rt; effect, wanted, "marks {marks:?}, came {came:?}");
+        agree(rt, effect, wanted, marks, came);
         compare(rt, gate, marks, came, number);
     }
 }

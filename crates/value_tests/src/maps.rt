@@ -4,6 +4,7 @@ use abs_codec::{Codec, Map, Text};
 use keyed_state::KeyedState;
 use std::alloc::Global;
 use std::collections::BTreeMap;
+use std::process::Abort;
 use std::test::Fail;
 
 /// A state as a number of one kind, with the kind's byte before it.
@@ -22,33 +23,98 @@ fn text(alloc: Global, text: &str) -> Result<Text, Fail> {
     Ok(Text::from_string(String::from_str(alloc, text)?))
 }
 
-/// The three keys, frozen, and what is counted after that.
-fn counted(alloc: Global) -> Result<Counts, Fail> {
+/// The keys a, b and c, each counted once.
+fn counted_once(alloc: Global) -> Result<Counts, Fail> {
     let mut tree = BTreeMap::new(alloc);
     for key in ["c", "a", "b"] {
         tree.insert(text(alloc, key)?, (1, 1))?;
     }
-    let mut counts = KeyedState::from_map(Map::from_btree_map(alloc, tree));
+    Ok(KeyedState::from_map(Map::from_btree_map(alloc, tree)))
+}
+
+fn set(alloc: Global, counts: &mut Counts, key: &str, count: i64) -> Result<(), Fail> {
+    counts.set(text(alloc, key)?, (1, count))?;
+    Ok(())
+}
+
+/// The three keys, frozen, and what is counted after that.
+fn counted(alloc: Global) -> Result<Counts, Fail> {
+    let mut counts = counted_once(alloc)?;
     counts.freeze()?;
-    counts.set(text(alloc, "d")?, (1, 1))?;
-    counts.set(text(alloc, "a")?, (1, 2))?;
+    set(alloc, &mut counts, "d", 1)?;
+    set(alloc, &mut counts, "a", 2)?;
     Ok(counts)
+}
+
+/// The frozen map is spelled as it was when it was frozen.
+fn expect_frozen(rt: &impl Abort, alloc: Global, counts: &Counts) -> Result<(), Fail> {
+    let mut out = Vec::new(alloc);
+    if let Some(frozen) = counts.frozen() {
+        frozen.encode(&mut out)?;
+    }
+    assert_eq!(rt; out.as_slice(), FROZEN.as_slice());
+    Ok(())
+}
+
+fn expect_count(
+    rt: &impl Abort,
+    alloc: Global,
+    counts: &Counts,
+    key: &str,
+    count: i64,
+) -> Result<(), Fail> {
+    let key = text(alloc, key)?;
+    assert_eq!(rt; counts.get(&key), Some(&(1, count)));
+    Ok(())
+}
+
+fn expect_present(rt: &impl Abort, alloc: Global, counts: &Counts) -> Result<(), Fail> {
+    for (key, count) in PRESENT {
+        expect_count(rt, alloc, counts, key, count)?;
+    }
+    assert_eq!(rt; counts.len(), 4);
+    Ok(())
 }
 
 #[test]
 fn the_frozen_map_stays(rt: HostRuntime) -> Result<(), Fail> {
     let alloc = rt.alloc();
     let counts = counted(alloc)?;
-    let mut out = Vec::new(alloc);
-    if let Some(frozen) = counts.frozen() {
-        frozen.encode(&mut out)?;
-    }
-    assert_eq!(&rt; out.as_slice(), FROZEN.as_slice());
-    for (key, count) in PRESENT {
-        assert_eq!(&rt; counts.get(&text(alloc, key)?), Some(&(1, count)));
-    }
-    assert_eq!(&rt; counts.len(), 4);
+    expect_frozen(&rt, alloc, &counts)?;
+    expect_present(&rt, alloc, &counts)
+}
+
+/// The entry of this key, counted once; none where there is no key.
+fn expect_entry(rt: &impl Abort, entry: Option<(&Text, &(u8, i64))>, key: Option<&str>) {
+    assert_eq!(rt; entry.map(|entry| entry.0.as_str()), key);
+    assert_eq!(rt; entry.map(|entry| entry.1.1), key.map(|_key| 1));
+}
+
+/// What the frozen map has behind a key.
+fn expect_behind(
+    rt: &impl Abort,
+    alloc: Global,
+    counts: &Counts,
+    after: &str,
+    key: Option<&str>,
+) -> Result<(), Fail> {
+    let after = text(alloc, after)?;
+    expect_entry(rt, counts.frozen_next(Some(&after)), key);
     Ok(())
+}
+
+fn expect_entries(rt: &impl Abort, alloc: Global, counts: &Counts) -> Result<(), Fail> {
+    assert!(rt; counts.is_frozen());
+    expect_entry(rt, counts.frozen_next(None), Some("a"));
+    expect_behind(rt, alloc, counts, "a", Some("b"))?;
+    expect_behind(rt, alloc, counts, "b", Some("c"))?;
+    expect_behind(rt, alloc, counts, "c", None)
+}
+
+fn expect_thawed(rt: &impl Abort, counts: &Counts) {
+    assert!(rt; !counts.is_frozen());
+    assert!(rt; counts.frozen_next(None).is_none());
+    assert_eq!(rt; counts.len(), 4);
 }
 
 /// Its entries come one by one, until it is thawed.
@@ -56,19 +122,17 @@ fn the_frozen_map_stays(rt: HostRuntime) -> Result<(), Fail> {
 fn the_frozen_map_is_read_in_order(rt: HostRuntime) -> Result<(), Fail> {
     let alloc = rt.alloc();
     let mut counts = counted(alloc)?;
-    let mut after: Option<Text> = None;
-    for key in ["a", "b", "c"] {
-        let next = counts.frozen_next(after.as_ref());
-        assert_eq!(&rt; next.map(|entry| entry.0.as_str()), Some(key));
-        assert_eq!(&rt; next.map(|entry| entry.1.1), Some(1));
-        after = Some(text(alloc, key)?);
-    }
-    assert!(&rt; counts.frozen_next(after.as_ref()).is_none());
-    assert!(&rt; counts.is_frozen());
+    expect_entries(&rt, alloc, &counts)?;
     counts.thaw();
-    assert!(&rt; !counts.is_frozen());
-    assert!(&rt; counts.frozen_next(None).is_none());
-    assert_eq!(&rt; counts.len(), 4);
+    expect_thawed(&rt, &counts);
+    Ok(())
+}
+
+fn expect_spelled(rt: &impl Abort, alloc: Global, counts: &Counts) -> Result<(), Fail> {
+    let mut out = Vec::new(alloc);
+    counts.encode(&mut out)?;
+    let spelled: &[u8] = &[0, 0, 0, 1, 0, 0, 0, 1, 0x61, 1, 0, 0, 0, 0, 0, 0, 0, 2];
+    assert_eq!(rt; out.as_slice(), spelled);
     Ok(())
 }
 
@@ -78,11 +142,12 @@ fn the_present_map_is_spelled(rt: HostRuntime) -> Result<(), Fail> {
     let alloc = rt.alloc();
     let mut counts: Counts = KeyedState::new(alloc);
     assert!(&rt; counts.is_empty());
-    counts.set(text(alloc, "a")?, (1, 2))?;
-    let mut out = Vec::new(alloc);
-    counts.encode(&mut out)?;
-    let spelled: &[u8] = &[0, 0, 0, 1, 0, 0, 0, 1, 0x61, 1, 0, 0, 0, 0, 0, 0, 0, 2];
-    assert_eq!(&rt; out.as_slice(), spelled);
-    assert_eq!(&rt; text(alloc, "b")?.into_string().as_str(), "b");
+    set(alloc, &mut counts, "a", 2)?;
+    expect_spelled(&rt, alloc, &counts)
+}
+
+#[test]
+fn a_text_gives_its_string(rt: HostRuntime) -> Result<(), Fail> {
+    assert_eq!(&rt; text(rt.alloc(), "b")?.into_string().as_str(), "b");
     Ok(())
 }

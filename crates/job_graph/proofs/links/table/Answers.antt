@@ -1,5 +1,5 @@
 use Rattle.std.proofs.Common.{length, map, ap, length-append, arith}
-use Rattle.job_graph.specs.Channel.{channel_view}
+use Rattle.job_channels.specs.Channel.{channel_view}
 use Rattle.job_graph.proofs.LinkLemmas.{table_push}
 use Rattle.job_graph.proofs.links.table.Goals as goal
 

@@ -1,5 +1,5 @@
 use Rattle.std.proofs.Common.{◌≡◌, length, map}
-use Rattle.job_graph.specs.Channel.{channel_view}
+use Rattle.job_channels.specs.Channel.{channel_view}
 use Rattle.job_graph.specs.Tables.{IsTable}
 use Rattle.job_graph.proofs.links.table.Given as goal
 

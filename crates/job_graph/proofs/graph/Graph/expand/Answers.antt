@@ -1,5 +1,5 @@
 use Rattle.std.proofs.Common.{map}
-use Rattle.job_graph.specs.Channel.{channel_view}
+use Rattle.job_channels.specs.Channel.{channel_view}
 use Rattle.job_graph.specs.Expanded.{Expanded}
 use Rattle.job_graph.specs.Expansion.{Expands}
 use Rattle.job_graph.proofs.Expandings.{expanded}

@@ -1,0 +1,24 @@
+-- What a task sends, by the channels that it goes into.
+use Rattle.std.specs.Prelude.{ℕ, List, [], ◌∷◌, map, flat_map, Option, Some, None}
+use Rattle.channels.specs.declared.item.Item.{Item}
+use Rattle.channels.specs.declared.item.Item.TheVariants.{Record, Barrier}
+use Rattle.dataflow_model.specs.Graph.{Meaning}
+use Rattle.job_graph.specs.Expanded.{Expanded, targets_of, outputs_of}
+
+module _ {R : Type 0} where
+  -- the barrier that a task sends into each of its outputs
+  abbrev pub barriers_of : Expanded → ℕ → ℕ → List (ℕ × Item R)
+  barriers_of graph task checkpoint = map (λ number. (number, Barrier checkpoint)) (outputs_of graph task)
+
+  -- the record goes into the last of its targets, if one was met
+  abbrev pub delivered_last : R → Option ℕ → List (ℕ × Item R)
+  delivered_last row None = []
+  delivered_last row (Some number) = (number, Record row) ∷ []
+
+module _ {R K S O : Type 0} where
+  -- one record, sent by a task on a port, goes into each of its targets
+  abbrev pub deliveries_of_one : Meaning R K S O → Expanded → ℕ → ℕ × R → List (ℕ × Item R)
+  deliveries_of_one meaning graph task sent = map (λ number. (number, Record sent.1)) (targets_of graph task sent.0 (meaning.lane sent.1))
+
+  abbrev pub deliveries_of : Meaning R K S O → Expanded → ℕ → List (ℕ × R) → List (ℕ × Item R)
+  deliveries_of meaning graph task sent = flat_map (deliveries_of_one meaning graph task) sent

@@ -1,0 +1,7 @@
+//! What a task sends, by the channels that it goes into. Proved: each record goes into each channel
+//! that takes it, in the order in which it was sent, and a barrier into each output of the task.
+#![tactic(auto)]
+
+mod puts;
+
+pub use puts::{barriers, deliver};

@@ -1,0 +1,68 @@
+//! What a task sends, by the channels that it goes into.
+
+ghost use Rattle.std.specs.Prelude.{◌≡◌, ◌++◌, OnOk, IfOk};
+ghost use Rattle.deliveries.specs.Deliveries.{deliveries_of_one, deliveries_of, barriers_of};
+
+use abs_codec::{Codec, NoMemory};
+use channels::Item;
+use job_graph::Graph;
+use operators::Operator;
+use std::alloc::Global;
+
+/// Adds that a record goes into each channel that takes it from the task's port: the record itself into the last of them, copies into the others.
+fn deliver_one<O: Operator>(
+    graph: &Graph,
+    task: u32,
+    port: u32,
+    row: O::Record,
+    puts: &mut Vec<(u32, Item<O::Record>)>,
+) -> Result<(), NoMemory>
+    ensures { OnOk result (puts.new.items ≡ puts.old.items ++ deliveries_of_one O.meaning graph.now task (port, row)) }
+{
+    let lane = O::lane(&row);
+    let mut last = None;
+    for number in graph.outlets(task, port) {
+        if graph.takes(*number, lane) {
+            if let Some(previous) = last {
+                puts.push((previous, Item::Record(row.copied()?)))?;
+            }
+            last = Some(*number);
+        }
+    }
+    if let Some(number) = last {
+        puts.push((number, Item::Record(row)))?;
+    }
+    Ok(())
+}
+
+/// Which channel each record goes into that a task sends, each record with its port.
+pub fn deliver<O: Operator>(
+    alloc: Global,
+    graph: &Graph,
+    task: u32,
+    sent: Vec<(u32, O::Record)>,
+) -> Result<Vec<(u32, Item<O::Record>)>, NoMemory>
+    ensures { IfOk result (λ puts. puts.items ≡ deliveries_of O.meaning graph.now task sent.items) }
+{
+    let mut puts = Vec::new(alloc);
+    for (port, row) in sent {
+        deliver_one::<O>(graph, task, port, row, &mut puts)?;
+    }
+    Ok(puts)
+}
+
+/// A barrier for each output of the task.
+pub fn barriers<R: Drop>(
+    alloc: Global,
+    graph: &Graph,
+    task: u32,
+    checkpoint: u64,
+) -> Result<Vec<(u32, Item<R>)>, NoMemory>
+    ensures { IfOk result (λ puts. puts.items ≡ barriers_of graph.now task checkpoint) }
+{
+    let mut puts = Vec::new(alloc);
+    for number in graph.outputs(task) {
+        puts.push((*number, Item::Barrier(checkpoint)))?;
+    }
+    Ok(puts)
+}

@@ -1,0 +1,2 @@
+pub mod Channel
+pub mod Edges

@@ -1,7 +1,0 @@
-use Rattle.std.proofs.Common.{◌+◌}
-use Rattle.job_graph.specs.Expansion.{channels_to}
-use Rattle.job_graph.proofs.Growing.{grown_flat}
-use Rattle.job_graph.proofs.routes.push_crossed.Goals as goal
-
-pub loop-i-preserved : goal.loop-i-preserved
-loop-i-preserved c = grown_flat _ _ _ (λ i. channels_to c.args.edge.now (c.args.from + i) c.args.to c.args.receivers) c.loop-i.i c.in_ok-push_to_each.ensures c.loop-i.invariant

@@ -1,7 +1,0 @@
-use Rattle.std.proofs.Common.{◌≡◌, ◌++◌, map}
-use Rattle.job_graph.specs.Channel.{channel_view}
-use Rattle.job_graph.specs.Expansion.{crossed_channels}
-use Rattle.job_graph.proofs.routes.push_crossed.Given as goal
-
-abbrev pub invariant-loop-i : goal.invariant-loop-i
-invariant-loop-i l = map channel_view l.channels.items ≡ map channel_view l.initial.channels.items ++ crossed_channels l.edge l.from l.i l.to l.receivers

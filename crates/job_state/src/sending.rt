@@ -1,0 +1,168 @@
+//! What is put into channels, and taken from them.
+
+ghost use Rattle.std.specs.Prelude.{◌≡◌, ◌++◌, ◌∷◌, [], ◌<◌, ◌≤◌, ℕ, All, map, length, slice_get, OnOk, OnErr, IfOk};
+ghost use Rattle.std.specs.Option.{option_copied};
+ghost use Rattle.deliveries.specs.Deliveries.{deliveries_of, barriers_of};
+ghost use Rattle.job_state.specs.Sending.{contents_items, items_at, put_into, room_at, HasRoom, AreChannels, Puts, barrier_into, without_head};
+ghost use Rattle.channels.specs.declared.item.Item.TheVariants.{Record};
+ghost use Rattle.dataflow_model.specs.Machine.{received};
+
+use abs_codec::NoMemory;
+use channels::{Channel, Item};
+use deliveries::{barriers, deliver};
+use job_graph::Graph;
+use operators::Operator;
+use std::alloc::Global;
+
+/// Takes the room for all of these.
+pub(crate) fn reserve_all<R: Drop>(
+    channels: &mut [Channel<R>],
+    puts: &[(u32, Item<R>)],
+) -> Result<(), NoMemory>
+    requires { AreChannels (length channels.old) puts.now }
+    ensures room { OnOk result (HasRoom channels.new puts.now) }
+    ensures same { contents_items channels.new ≡ contents_items channels.old }
+{
+    for put in puts {
+        channels[put.0 as usize].reserve(puts.len())?;
+    }
+    Ok(())
+}
+
+/// Puts each last in its channel. It takes no memory.
+pub(crate) fn push_all<R: Drop>(channels: &mut [Channel<R>], puts: Vec<(u32, Item<R>)>)
+    requires there { AreChannels (length channels.old) puts.items }
+    requires room { HasRoom channels.old puts.items }
+    ensures { (number : ℕ) → items_at (contents_items channels.new) number ≡ items_at (contents_items channels.old) number ++ put_into number puts.items }
+{
+    for (number, item) in puts {
+        channels[number as usize].push_reserved(item);
+    }
+}
+
+/// Which channel each record goes into that a task sends, with the room for them.
+pub(crate) fn reserve_deliveries<O: Operator>(
+    alloc: Global,
+    channels: &mut [Channel<O::Record>],
+    graph: &Graph,
+    task: u32,
+    sent: Vec<(u32, O::Record)>,
+) -> Result<Vec<(u32, Item<O::Record>)>, NoMemory>
+    requires { length channels.old ≡ length graph.now.channels }
+    ensures puts { IfOk result (λ puts. puts.items ≡ deliveries_of O.meaning graph.now task sent.items) }
+    ensures there { IfOk result (λ puts. AreChannels (length channels.old) puts.items) }
+    ensures room { IfOk result (λ puts. HasRoom channels.new puts.items) }
+    ensures same { contents_items channels.new ≡ contents_items channels.old }
+{
+    let puts = deliver::<O>(alloc, graph, task, sent)?;
+    reserve_all(channels, &puts)?;
+    Ok(puts)
+}
+
+/// The barrier for each output of a task, with the room for it.
+pub(crate) fn reserve_barriers<R: Drop>(
+    alloc: Global,
+    channels: &mut [Channel<R>],
+    graph: &Graph,
+    task: u32,
+    checkpoint: u64,
+) -> Result<Vec<(u32, Item<R>)>, NoMemory>
+    requires { length channels.old ≡ length graph.now.channels }
+    ensures puts { IfOk result (λ puts. puts.items ≡ barriers_of graph.now task checkpoint) }
+    ensures there { IfOk result (λ puts. AreChannels (length channels.old) puts.items) }
+    ensures room { IfOk result (λ puts. HasRoom channels.new puts.items) }
+    ensures same { contents_items channels.new ≡ contents_items channels.old }
+{
+    let puts = barriers(alloc, graph, task, checkpoint)?;
+    reserve_all(channels, &puts)?;
+    Ok(puts)
+}
+
+/// The item that stands first in a channel.
+pub(crate) fn first<R: Drop>(channels: &[Channel<R>], channel: u32) -> Option<&Item<R>>
+    ensures { option_copied result ≡ slice_get (items_at (contents_items channels.now) channel) 0 }
+{
+    channels.get(channel as usize)?.head()
+}
+
+/// Takes the first item of a channel, if there is one. Its room is left.
+pub(crate) fn take_head<R: Drop>(channels: &mut [Channel<R>], channel: u32) -> Option<Item<R>>
+    ensures taken { result ≡ slice_get (items_at (contents_items channels.old) channel) 0 }
+    ensures rest { contents_items channels.new ≡ without_head channel (contents_items channels.old) }
+    ensures room { (number : ℕ) → room_at channels.old number ≤ room_at channels.new number }
+{
+    let place = channel as usize;
+    if place < channels.len() {
+        channels[place].pop()
+    } else {
+        None
+    }
+}
+
+/// Takes the first item of a channel, and puts each of these last in its channel. It takes no memory.
+pub(crate) fn pass_on<R: Drop>(
+    channels: &mut [Channel<R>],
+    channel: u32,
+    puts: Vec<(u32, Item<R>)>,
+) -> Option<Item<R>>
+    requires there { AreChannels (length channels.old) puts.items }
+    requires room { HasRoom channels.old puts.items }
+    ensures taken { result ≡ slice_get (items_at (contents_items channels.old) channel) 0 }
+    ensures puts { Puts (λ number. put_into number puts.items) (without_head channel (contents_items channels.old)) (contents_items channels.new) }
+{
+    let taken = take_head(channels, channel);
+    push_all(channels, puts);
+    taken
+}
+
+/// Sends what a task sends, each record with its port.
+pub(crate) fn send_records<O: Operator>(
+    alloc: Global,
+    channels: &mut [Channel<O::Record>],
+    graph: &Graph,
+    task: u32,
+    sent: Vec<(u32, O::Record)>,
+) -> Result<(), NoMemory>
+    requires { length channels.old ≡ length graph.now.channels }
+    ensures ok { OnOk result (Puts (λ number. map Record (received O.meaning task sent.items (slice_get graph.now.channels number))) (contents_items channels.old) (contents_items channels.new)) }
+    ensures err { OnErr result (contents_items channels.new ≡ contents_items channels.old) }
+{
+    let puts = reserve_deliveries::<O>(alloc, channels, graph, task, sent)?;
+    push_all(channels, puts);
+    Ok(())
+}
+
+/// Sends the barrier of a task that has no inputs.
+pub(crate) fn send_barriers<R: Drop>(
+    alloc: Global,
+    channels: &mut [Channel<R>],
+    graph: &Graph,
+    task: u32,
+    checkpoint: u64,
+) -> Result<(), NoMemory>
+    requires { length channels.old ≡ length graph.now.channels }
+    ensures ok { OnOk result (Puts (λ number. barrier_into checkpoint task (slice_get graph.now.channels number)) (contents_items channels.old) (contents_items channels.new)) }
+    ensures err { OnErr result (contents_items channels.new ≡ contents_items channels.old) }
+{
+    let puts = reserve_barriers(alloc, channels, graph, task, checkpoint)?;
+    push_all(channels, puts);
+    Ok(())
+}
+
+/// Takes the barrier from a channel and sends it on.
+pub(crate) fn forward_barriers<R: Drop>(
+    alloc: Global,
+    channels: &mut [Channel<R>],
+    graph: &Graph,
+    task: u32,
+    channel: u32,
+    checkpoint: u64,
+) -> Result<(), NoMemory>
+    requires { length channels.old ≡ length graph.now.channels }
+    ensures ok { OnOk result (Puts (λ number. barrier_into checkpoint task (slice_get graph.now.channels number)) (without_head channel (contents_items channels.old)) (contents_items channels.new)) }
+    ensures err { OnErr result (contents_items channels.new ≡ contents_items channels.old) }
+{
+    let puts = reserve_barriers(alloc, channels, graph, task, checkpoint)?;
+    pass_on(channels, channel, puts);
+    Ok(())
+}
