@@ -21,8 +21,6 @@ pub(crate) struct Devices {
 }
 
 impl Model for Devices {
-    ghost use Rattle.std.specs.Prelude.{Unit, tt};
-
     ghost Value = { Unit {0} };
 
     ghost view = { λ _. tt };

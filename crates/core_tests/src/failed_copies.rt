@@ -27,8 +27,8 @@ fn after_a_failed_copy(rt: &impl Abort, alloc: Global, fault: &str) -> Result<De
     Ok(core.into_devices())
 }
 
-/// A sink's copy begins a transaction and pre-commits the one before it. Where either fails, the restart aborts both and begins the third: that one is
-/// open, and those before it are settled.
+/// A sink's copy begins a transaction and pre-commits the one before it. Where either fails, the
+/// restart aborts both and begins the third: that one is open, and those before it are settled.
 #[test]
 fn a_restart_aborts_what_a_failed_copy_left(rt: HostRuntime) -> Result<(), Fail> {
     for fault in ["fault txn.begin after", "fault txn.pre_commit after"] {

@@ -155,7 +155,8 @@ fn restored_line(rt: &impl Abort, alloc: Global) -> Result<Restored<RowOp>, Fail
     Ok(devices.restored(alloc, &graph, &operators)?)
 }
 
-/// The source goes on behind its row, the operator has no states, and the sink is to commit its transaction.
+/// The source goes on behind its row, the operator has no states, and the sink is to commit its
+/// transaction.
 #[test]
 fn a_restart_starts_from_the_parts(rt: HostRuntime) -> Result<(), Fail> {
     let restored = restored_line(&rt, rt.alloc())?;
@@ -209,7 +210,8 @@ fn almost_spent_line(alloc: Global) -> Result<TestCore, Fail> {
     TestCore::open(alloc, LINE, devices)
 }
 
-/// The last number is given out once, and lost with the failure. The job runs on without checkpoints.
+/// The last number is given out once, and lost with the failure. The job runs on without
+/// checkpoints.
 #[test]
 fn no_checkpoint_begins_without_a_number(rt: HostRuntime) -> Result<(), Fail> {
     let mut core = almost_spent_line(rt.alloc())?;

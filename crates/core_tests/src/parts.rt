@@ -8,7 +8,8 @@ use std::alloc::Global;
 use std::process::Abort;
 use std::test::Fail;
 
-/// A source at offset 0, an operator without states, and a sink with one pre-committed transaction, of number 1.
+/// A source at offset 0, an operator without states, and a sink with one pre-committed transaction,
+/// of number 1.
 const PARTS: [&[u8]; 3] = [
     &[0, 0, 0, 0, 0, 0, 0, 0, 0],
     &[1, 0, 0, 0, 0, 0, 0, 0, 0],
@@ -49,12 +50,7 @@ fn devices_after(
     Ok(core.into_devices())
 }
 
-fn expect_part(
-    rt: &impl Abort,
-    devices: &mut Devices,
-    task: u32,
-    part: &[u8],
-) -> Result<(), Fail> {
+fn expect_part(rt: &impl Abort, devices: &mut Devices, task: u32, part: &[u8]) -> Result<(), Fail> {
     assert_eq!(rt; devices.part(1, task)?.as_slice(), part);
     Ok(())
 }

@@ -26,8 +26,6 @@ pub(crate) struct TestCore {
 }
 
 impl Model for TestCore {
-    ghost use Rattle.std.specs.Prelude.{Unit, tt};
-
     ghost Value = { Unit {0} };
 
     ghost view = { λ _. tt };
@@ -87,11 +85,7 @@ fn len_of(core: &impl CommittedRows, sink: u32) -> Result<u64, CoreFault> {
 }
 
 /// A committed row of a sink subtask.
-fn row_of(
-    core: &impl CommittedRows,
-    sink: u32,
-    number: u64,
-) -> Result<Option<Vec<u8>>, CoreFault> {
+fn row_of(core: &impl CommittedRows, sink: u32, number: u64) -> Result<Option<Vec<u8>>, CoreFault> {
     core.committed(sink, number)
 }
 
@@ -111,8 +105,9 @@ impl TestCore {
         let job = JobSpec::read(alloc, job.as_bytes())?;
         let graph = Graph::expand(alloc, &job)?;
         let operators = job.operators(alloc)?;
-        TestCore::over(alloc, graph, operators, devices)
-            .ok_or_else(|| Fail::new("other devices than the job's"))
+        TestCore::over(alloc, graph, operators, devices).ok_or_else(|| Fail::new(
+            "other devices than the job's",
+        ))
     }
 
     /// Makes a script's step.
