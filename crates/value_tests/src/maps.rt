@@ -89,6 +89,7 @@ fn the_present_map_is_spelled(rt: HostRuntime) -> Result<(), Fail> {
 }
 
 /// A map that is frozen, written and merged, beside two plain ones: what is seen, and what is frozen.
+#[derive(Drop)]
 struct Beside {
     states: KeyedState<u64, u64>,
     seen: Map<u64, u64>,
@@ -133,11 +134,19 @@ impl Beside {
     fn compare(&self, rt: &impl Abort) {
         assert_eq!(rt; self.states.len(), self.seen.len());
         assert_eq!(rt; self.states.is_frozen(), self.frozen.is_some());
-        assert_eq!(rt; self.states.frozen_next(None).map(|entry| (*entry.0, *entry.1)), self.frozen_above(None));
+        assert_eq!(rt;
+            self.states
+                .frozen_next(None)
+                .map(|entry| (*entry.0, *entry.1)),
+            self.frozen_above(None)
+        );
         for key in 0..24 {
             assert_eq!(rt; self.states.get(&key), self.seen.get(&key));
             let next = self.states.frozen_next(Some(&key));
-            assert_eq!(rt; next.map(|entry| (*entry.0, *entry.1)), self.frozen_above(Some(key)));
+            assert_eq!(rt;
+                next.map(|entry| (*entry.0, *entry.1)),
+                self.frozen_above(Some(key))
+            );
         }
     }
 }
@@ -153,7 +162,9 @@ fn it_is_two_plain_maps(rt: HostRuntime) -> Result<(), Fail> {
     };
     let mut number: u64 = 1;
     for _ in 0..2000 {
-        number = number.wrapping_mul(6_364_136_223_846_793_005).wrapping_add(1_442_695_040_888_963_407);
+        number = number
+            .wrapping_mul(6_364_136_223_846_793_005)
+            .wrapping_add(1_442_695_040_888_963_407);
         beside.step(number >> 32)?;
         beside.compare(&rt);
     }
