@@ -5,8 +5,8 @@ ghost use Rattle.output_readers.specs.Editions.{Follows};
 use logbook::{Gain, Play, Rule, Seen, Start, Word};
 use std::marker::Model;
 
-/// The rule of the history: its word is its length. An entry is the lists by subtask. A clause reads
-/// an array as a list, of any length.
+/// The rule of the history: its word is its length. An entry is the lists by subtask. A clause
+/// reads an array as a list, of any length.
 pub struct Law;
 
 impl Rule<[[[u8; 0]; 0]; 0], u64> for Law {

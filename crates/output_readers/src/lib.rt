@@ -6,11 +6,11 @@
 //! - what is published of a subtask begins all that was handed in for it (`published_begins`), and
 //!   is all of it where `publish` answers a [`Told`], which names these lists; a refused `publish`
 //!   shows nothing new, and a refused `append` hands nothing in;
-//! - a list that is read begins with the reader's view, the longest list of that subtask that it has
-//!   read or was told of, and is its view from then on; a `Told` that it learns joins the view; a
-//!   refused read leaves the view;
-//! - a reader reads only lists that were published by its writer, each beginning the next: the rule
-//!   that both stand under keeps it, and `found` in the clauses is what the reader's last look found;
+//! - a list that is read begins with the reader's view, the longest list of that subtask that it
+//!   has read or was told of, and is its view from then on; a `Told` that it learns joins the view;
+//!   a refused read leaves the view;
+//! - a reader reads only lists that its writer published, each beginning the next: the rule that
+//!   both stand under keeps it, and `found` in the clauses is what the reader's last look found;
 //! - the 17th reader is refused, and none before;
 //! - `read` and `learn` take no handle by which a call may wait.
 //!
@@ -19,10 +19,10 @@
 //! nothing finds what is published by then; progress, fairness and time. `publish` and `close` wait
 //! for readers that copy a list at that moment, and no reader waits for them.
 //!
-//! Publishing costs what was handed in since the last time, and reading costs the list that is read.
-//! The writer holds each row twice. Each `Told` that is kept has one of 48 places; where all are
-//! taken `publish` is refused. A `Told` is learned by a reader of the same writer: where the writer
-//! stands under a lock, a proof knows that of a reader and a `Told` that were had under one guard.
+//! Publishing costs what was handed in since the last time, and reading costs the list that is
+//! read. The writer holds each row twice. Each `Told` that is kept has one of 48 places; where all
+//! are taken `publish` is refused. A `Told` is learned by a reader of the same writer: where the
+//! writer stands under a lock, a proof knows that of what was had under one guard.
 #![tactic(auto)]
 
 mod edition;

@@ -48,22 +48,6 @@ fn told_by<R: Wait>(
     Some(())
 }
 
-#[test]
-fn a_told_row_is_read_on_another_thread(rt: HostRuntime) -> Result<(), Fail> {
-    let alloc = rt.alloc();
-    let mut writer = OutputWriter::new(&rt, alloc, 2).map_err(|_| AllocError)?;
-    let read = match writer.reader() {
-        Ok(mut reader) => match told_by(&rt, alloc, &mut writer, &mut reader) {
-            Some(()) => look_there(&rt, reader),
-            None => Err(OutputFault::Memory),
-        },
-        Err(fault) => Err(fault),
-    };
-    writer.close(&rt);
-    assert_eq!(rt; read, Ok((1, Some(2))));
-    Ok(())
-}
-
 // What a reader that is told nothing sees: before anything is published, and once two rows are.
 fn seen<R: Wait>(
     rt: &R,
@@ -78,29 +62,6 @@ fn seen<R: Wait>(
     Some((before, after, last))
 }
 
-#[test]
-fn a_reader_that_was_told_nothing_sees_what_is_published(rt: HostRuntime) -> Result<(), Fail> {
-    let alloc = rt.alloc();
-    let mut writer = OutputWriter::new(&rt, alloc, 2).map_err(|_| AllocError)?;
-    let seen = seen(&rt, alloc, &mut writer);
-    writer.close(&rt);
-    assert_eq!(rt; seen, Some((0, 2, Some(4))));
-    Ok(())
-}
-
-#[test]
-fn no_read_without_a_writer(rt: HostRuntime) -> Result<(), Fail> {
-    let mut writer = OutputWriter::new(&rt, rt.alloc(), 2).map_err(|_| AllocError)?;
-    let reader = writer.reader();
-    writer.close(&rt);
-    let read = match reader {
-        Ok(mut reader) => look(&mut reader),
-        Err(fault) => Err(fault),
-    };
-    assert_eq!(rt; read, Err(OutputFault::Closed));
-    Ok(())
-}
-
 // Keeps so many tolds, and counts how often there was one.
 fn kept<R: Wait>(rt: &R, alloc: Global, writer: &mut OutputWriter, tolds: usize) -> Option<usize> {
     let mut all = Vec::new(alloc);
@@ -112,17 +73,6 @@ fn kept<R: Wait>(rt: &R, alloc: Global, writer: &mut OutputWriter, tolds: usize)
     Some(all.len())
 }
 
-#[test]
-fn what_is_told_takes_a_place(rt: HostRuntime) -> Result<(), Fail> {
-    let alloc = rt.alloc();
-    let mut writer = OutputWriter::new(&rt, alloc, 2).map_err(|_| AllocError)?;
-    let kept = kept(&rt, alloc, &mut writer, 50);
-    let seen = seen(&rt, alloc, &mut writer);
-    writer.close(&rt);
-    assert_eq!(rt; (kept, seen), (Some(48), Some((0, 2, Some(4)))));
-    Ok(())
-}
-
 // How many readers were handed out in so many calls.
 fn handed_out(writer: &mut OutputWriter, calls: usize) -> usize {
     let mut count = 0usize;
@@ -132,16 +82,6 @@ fn handed_out(writer: &mut OutputWriter, calls: usize) -> usize {
         }
     }
     count
-}
-
-#[test]
-fn there_are_sixteen_readers(rt: HostRuntime) -> Result<(), Fail> {
-    let mut writer = OutputWriter::new(&rt, rt.alloc(), 2).map_err(|_| AllocError)?;
-    let count = handed_out(&mut writer, 17);
-    let refused = writer.reader().err();
-    writer.close(&rt);
-    assert_eq!(rt; (count, refused), (16, Some(OutputFault::ReadersFull)));
-    Ok(())
 }
 
 // Looks until so many rows are there, at most so often, and says whether no list was shorter than
@@ -172,19 +112,55 @@ fn show_all<R: Wait>(rt: &R, alloc: Global, writer: &mut OutputWriter, rows: usi
     true
 }
 
+// What two readers found on another thread: one of a row that it was told, and one beside the writer.
+fn seen_there<R: Threads + Wait + Sync>(
+    rt: &R,
+    alloc: Global,
+    writer: &mut OutputWriter,
+) -> Option<((usize, Option<u8>), (bool, bool))> {
+    let mut first = writer.reader().ok()?;
+    told_by(rt, alloc, writer, &mut first)?;
+    let told = look_there(rt, first).ok()?;
+    let second = writer.reader().ok()?;
+    let ends = join(
+        rt,
+        move || counts_up(second, 301, 10_000_000),
+        || show_all(rt, alloc, writer, 300),
+    );
+    Some((told, ends))
+}
+
+// How many tolds were kept, what a reader saw then, and how many readers there were left.
+fn served<R: Wait>(
+    rt: &R,
+    alloc: Global,
+    writer: &mut OutputWriter,
+) -> (Option<usize>, Option<(usize, usize, Option<u8>)>, usize) {
+    let kept = kept(rt, alloc, writer, 50);
+    let seen = seen(rt, alloc, writer);
+    (kept, seen, handed_out(writer, 17))
+}
+
+// There are 48 places for what is told, beside 16 readers; each is free again once its owner has gone.
 #[test]
-fn a_reader_reads_beside_the_writer(rt: HostRuntime) -> Result<(), Fail> {
-    let alloc = rt.alloc();
-    let mut writer = OutputWriter::new(&rt, alloc, 2).map_err(|_| AllocError)?;
-    let ends = match writer.reader() {
-        Ok(reader) => join(
-            &rt,
-            move || counts_up(reader, 300, 10_000_000),
-            || show_all(&rt, alloc, &mut writer, 300),
-        ),
-        Err(_) => (false, false),
-    };
+fn places_and_readers_run_out_and_no_read_follows_the_end(rt: HostRuntime) -> Result<(), Fail> {
+    let mut writer = OutputWriter::new(&rt, rt.alloc(), 2).map_err(|_| AllocError)?;
+    let reader = writer.reader();
+    let served = served(&rt, rt.alloc(), &mut writer);
+    let refused = writer.reader().err();
     writer.close(&rt);
-    assert_eq!(rt; ends, (true, true));
+    let read = reader.and_then(|mut reader| look(&mut reader));
+    assert_eq!(rt; served, (Some(48), Some((0, 2, Some(4))), 14));
+    assert_eq!(rt; refused, Some(OutputFault::ReadersFull));
+    assert_eq!(rt; read, Err(OutputFault::Closed));
+    Ok(())
+}
+
+#[test]
+fn readers_read_on_another_thread(rt: HostRuntime) -> Result<(), Fail> {
+    let mut writer = OutputWriter::new(&rt, rt.alloc(), 2).map_err(|_| AllocError)?;
+    let seen = seen_there(&rt, rt.alloc(), &mut writer);
+    writer.close(&rt);
+    assert_eq!(rt; seen, Some(((1, Some(2)), (true, true))));
     Ok(())
 }
