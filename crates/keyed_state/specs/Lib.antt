@@ -1,1 +1,2 @@
 pub mod KeyedMap
+pub mod Overlay

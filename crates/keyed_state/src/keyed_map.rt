@@ -1,84 +1,128 @@
 //! A finite map, and the map as it was at `freeze`.
 
-ghost use Rattle.std.specs.Prelude.{◌≡◌, ◌≢◌, ◌↔◌, [], ◌++◌, length, slice_get, option_map, is_some, IsTrue, OnSome, OnOk, OnErr, IfErr, if◌then◌else◌};
+ghost use Rattle.std.specs.Prelude.{◌≡◌, ◌≢◌, ◌≤◌, ◌+◌, ◌-◌, ◌↔◌, ℕ, [], ◌++◌, length, slice_get, option_map, is_some, Some, None, IsTrue, IsOk, OnSome, OnOk, OnErr, IfOk, IfErr, if◌then◌else◌};
 ghost use Rattle.std.specs.Option.{option_copied};
 ghost use Rattle.std.specs.List.Sorted.{IsStrictlySortedBy};
 ghost use Rattle.std.specs.Map.{keys_of};
 ghost use Rattle.std.specs.Map.Iter.{deref_pair};
-ghost use Rattle.std.specs.BTreeMap.{is_at};
+ghost use Rattle.std.specs.BTreeMap.{insert_entry, is_at};
 ghost use Rattle.abs_codec.specs.Entries.{value_at};
 ghost use Rattle.keyed_state.specs.KeyedMap.{entries_above, frozen_entries};
 
 use abs_codec::{Codec, CodecFault, Map, NoMemory};
 use std::alloc::Global;
+use std::collections::BTreeMap;
 use std::marker::Model;
 use std::ops::Bound;
 
 /// A map from key to state, and the map as it was when it was frozen.
 #[derive(Drop)]
 pub struct KeyedState<K: Ord, S> {
-    present: Map<K, S>,
-    frozen: Option<Map<K, S>>,
+    /// The map as it was at `freeze`, or as it is but for what is in the overlay.
+    base: Map<K, S>,
+    /// What was written since `freeze`, and is not merged yet.
+    overlay: BTreeMap<K, S>,
+    /// How many keys the map has that is seen.
+    len: usize,
+    is_frozen: bool,
 }
 
 impl<K: Ord, S> Model for KeyedState<K, S> {
+    ghost use Rattle.std.specs.Prelude.{Some, None, length, if◌then◌else◌};
     ghost use Rattle.keyed_state.specs.KeyedMap.{KeyedMap};
+    ghost use Rattle.keyed_state.specs.Overlay.{put_over, IsLaidOver};
 
     ghost Value = { KeyedMap K S };
 
-    ghost view = { λ k. record { entries = k.present; frozen = k.frozen } };
+    ghost view = { λ k. record {
+      entries = put_over K.cmp k.base k.overlay.entries;
+      frozen = if k.is_frozen then Some k.base else None;
+      unmerged = length k.overlay.entries;
+    } };
+
+    ghost invariant = { λ k. IsLaidOver K.cmp k.base k.overlay.entries k.len };
 }
 
 impl<K: Ord, S> KeyedState<K, S> {
     /// An empty map. It takes no memory.
     pub fn new(alloc: Global) -> Self
-        ensures { result ≡ record { entries = []; frozen = None } }
+        ensures { result ≡ record { entries = []; frozen = None; unmerged = 0 } }
     {
-        KeyedState::from_map(Map::new(alloc))
+        KeyedState::from_map(alloc, Map::new(alloc))
     }
 
-    /// This map, as `Map::decode` reads one, with nothing frozen.
-    pub fn from_map(map: Map<K, S>) -> Self
-        ensures { result ≡ record { entries = map; frozen = None } }
+    /// This map, as `Map::decode` reads one, with nothing frozen. It takes no memory.
+    pub fn from_map(alloc: Global, map: Map<K, S>) -> Self
+        ensures { result ≡ record { entries = map; frozen = None; unmerged = 0 } }
     {
+        let len = map.len();
         KeyedState {
-            present: map,
-            frozen: None,
+            base: map,
+            overlay: BTreeMap::new(alloc),
+            len,
+            is_frozen: false,
         }
     }
 
+    /// How many keys the map has.
     pub fn len(&self) -> usize
         ensures len { result ≡ length self.now.entries }
         // The keys rise.
         ensures ordered { IsStrictlySortedBy K.cmp (keys_of self.now.entries) }
     {
-        self.present.len()
+        self.len
     }
 
+    /// Whether the map has no keys.
     pub fn is_empty(&self) -> bool
         ensures { IsTrue result ↔ (self.now.entries ≡ []) }
     {
-        self.present.is_empty()
+        self.len == 0
     }
 
-    /// The state at a key. It takes time logarithmic in the length.
+    /// The state at a key, in the map that is seen.
     pub fn get(&self, key: &K) -> Option<&S>
         ensures { option_copied result ≡ value_at K.cmp self.now.entries key.now }
     {
-        self.present.get(key)
+        match self.overlay.get(key) {
+            Some(state) => Some(state),
+            None => self.base.get(key),
+        }
     }
 
-    /// Gives the key this state. The frozen map stays. It takes time logarithmic in the length.
+    /// How many keys there are once this one has a state.
+    fn len_with(&self, key: &K) -> usize
+        ensures { result ≡ length self.now.entries + (if is_some (value_at K.cmp self.now.entries key.now) then 0 else 1) }
+    {
+        if self.get(key).is_some() {
+            return self.len;
+        }
+        prove!(self.len <= self.base.as_btree_map().len() + self.overlay.len());
+        self.len + 1
+    }
+
+    /// Gives the key this state. The frozen map stays.
     pub fn set(&mut self, key: K, state: S) -> Result<(), NoMemory>
     where
         K: Drop,
         S: Drop,
+        ensures entries { OnOk result (self.new.entries ≡ insert_entry K.cmp self.old.entries key state) }
         ensures states { OnOk result ((q : K) → value_at K.cmp self.new.entries q ≡ (if is_at (K.cmp key) q then Some state else value_at K.cmp self.old.entries q)) }
         ensures frozen { self.new.frozen ≡ self.old.frozen }
+        // Only a frozen map has more to merge after it.
+        ensures unmerged { self.new.unmerged ≤ self.old.unmerged + (if is_some self.old.frozen then 1 else 0) }
+        ensures none_merged { self.old.unmerged ≤ self.new.unmerged }
         ensures ordered { IsStrictlySortedBy K.cmp (keys_of self.new.entries) }
         ensures err { OnErr result (self.new ≡ self.old) }
     {
-        let _ = self.present.insert(key, state)?;
+        let len = self.len_with(&key);
+        if self.is_frozen || self.overlay.contains_key(&key) {
+            self.overlay.insert(key, state)?;
+            self.len = len;
+            return Ok(());
+        }
+        self.base.insert(key, state)?;
+        self.len = len;
         Ok(())
     }
 
@@ -86,14 +130,25 @@ impl<K: Ord, S> KeyedState<K, S> {
     pub fn is_frozen(&self) -> bool
         ensures { result ≡ is_some self.now.frozen }
     {
-        self.frozen.is_some()
+        self.is_frozen
+    }
+
+    /// How many keys have a later write that is still to be merged.
+    pub fn unmerged(&self) -> usize
+        ensures { result ≡ self.now.unmerged }
+    {
+        self.overlay.len()
     }
 
     /// The frozen map.
     pub fn frozen(&self) -> Option<&Map<K, S>>
         ensures { option_copied result ≡ self.now.frozen }
     {
-        self.frozen.as_ref()
+        if self.is_frozen {
+            Some(&self.base)
+        } else {
+            None
+        }
     }
 
     /// The first entry of the frozen map whose key is above this one, or the first of all.
@@ -102,43 +157,110 @@ impl<K: Ord, S> KeyedState<K, S> {
         // The keys rise.
         ensures ordered { OnSome result (IsStrictlySortedBy K.cmp (keys_of (frozen_entries self.now))) }
     {
-        let frozen = self.frozen.as_ref()?;
+        let frozen = self.frozen()?.as_btree_map();
         match after {
             Some(key) => frozen
-                .as_btree_map()
                 .range((Bound::Excluded(key), Bound::Unbounded))
                 .next(),
             None => frozen.iter().next(),
         }
     }
 
-    /// Ends the frozen map. It takes no memory.
+    /// Ends the frozen map. It takes no memory, and what was written since stays to be merged.
     pub fn thaw(&mut self)
-    where
-        K: Drop,
-        S: Drop,
         ensures { self.new ≡ record self.old { frozen = None } }
     {
-        self.frozen = None;
+        self.is_frozen = false;
     }
 }
 
 impl<K: Codec + Ord, S: Codec> KeyedState<K, S> {
-    /// Keeps the map as it is now beside it, in place of what was frozen before.
+    /// Keeps the map as it is now beside it, in place of what was frozen before. It takes no memory where nothing is left to
+    /// merge. An `Err` leaves both maps as they were.
     pub fn freeze(&mut self) -> Result<(), NoMemory>
-        ensures ok { OnOk result (self.new ≡ record self.old { frozen = Some self.old.entries }) }
-        ensures err { OnErr result (self.new ≡ self.old) }
+        ensures ok { OnOk result (self.new ≡ record self.old { frozen = Some self.old.entries; unmerged = 0 }) }
+        // It is never refused where nothing is left to merge.
+        ensures merged { self.old.unmerged ≡ 0 → IsOk result }
+        ensures entries_stay { self.new.entries ≡ self.old.entries }
+        ensures frozen_stays { OnErr result (self.new.frozen ≡ self.old.frozen) }
+        ensures unmerged { self.new.unmerged ≤ self.old.unmerged }
     {
-        self.frozen = Some(self.present.copied()?);
+        if self.is_frozen {
+            return self.renew();
+        }
+        let all = self.overlay.len();
+        self.merge(all)?;
+        self.is_frozen = true;
         Ok(())
     }
 
-    /// Appends the spelling of the map. An `Err` leaves the vector as it was.
+    /// Merges at most so many of the later writes, and says how many are left. While the map is frozen, none is merged.
+    /// The map that is seen stays, also where memory is refused.
+    pub fn merge(&mut self, most: usize) -> Result<usize, NoMemory>
+        ensures ok { IfOk result (λ left. left ≡ (if is_some self.old.frozen then self.old.unmerged else self.old.unmerged - most)) }
+        ensures left { IfOk result (λ left. left ≡ self.new.unmerged) }
+        // It is never refused where nothing is left to merge.
+        ensures merged { self.old.unmerged ≡ 0 → IsOk result }
+        ensures stays { self.new ≡ record self.old { unmerged = self.new.unmerged } }
+        ensures unmerged { self.new.unmerged ≤ self.old.unmerged }
+    {
+        if !self.is_frozen {
+            for _ in 0..most.min(self.overlay.len()) {
+                self.merge_first()?;
+            }
+        }
+        Ok(self.overlay.len())
+    }
+
+    /// Merges the first of the later writes, if there is one. It is copied, so that a refusal loses nothing.
+    fn merge_first(&mut self) -> Result<(), NoMemory>
+        requires { self.old.frozen ≡ None }
+        ensures ok { OnOk result (self.new ≡ record self.old { unmerged = self.old.unmerged - 1 }) }
+        ensures err { OnErr result (self.new ≡ self.old) }
+    {
+        if let Some((key, later)) = self.overlay.first_key_value() {
+            let (key, later) = (key.copied()?, later.copied()?);
+            self.base.insert(key, later)?;
+            let _merged = self.overlay.pop_first();
+        }
+        Ok(())
+    }
+
+    /// Makes the map that is seen the frozen one, by way of a copy where it was written since.
+    fn renew(&mut self) -> Result<(), NoMemory>
+        requires { IsTrue (is_some self.old.frozen) }
+        ensures ok { OnOk result (self.new ≡ record self.old { frozen = Some self.old.entries; unmerged = 0 }) }
+        ensures merged { self.old.unmerged ≡ 0 → IsOk result }
+        ensures err { OnErr result (self.new ≡ self.old) }
+    {
+        if !self.overlay.is_empty() {
+            self.base = self.whole()?;
+            self.overlay.clear();
+        }
+        Ok(())
+    }
+
+    /// A copy of the map that is seen.
+    fn whole(&self) -> Result<Map<K, S>, NoMemory>
+        ensures { IfOk result (λ map. map ≡ self.now.entries) }
+    {
+        let mut whole = self.base.copied()?;
+        for (key, state) in &self.overlay {
+            whole.insert(key.copied()?, state.copied()?)?;
+        }
+        Ok(whole)
+    }
+
+    /// Appends the spelling of the map that is seen. An `Err` leaves the vector as it was.
     pub fn encode(&self, out: &mut Vec<u8>) -> Result<(), CodecFault>
         ensures appended { OnOk result (⟦<Map<K, S> as Codec>⟧.HasSpelling self.now.entries × (out.new.items ≡ out.old.items ++ ⟦<Map<K, S> as Codec>⟧.spelling self.now.entries)) }
         ensures unchanged { OnErr result (out.new.items ≡ out.old.items) }
         ensures too_long { IfErr result (λ f. f ≢ CodecFault.Memory → (f ≡ CodecFault.TooLong) × ¬ ⟦<Map<K, S> as Codec>⟧.HasSpelling self.now.entries) }
     {
-        self.present.encode(out)
+        if self.overlay.is_empty() {
+            return self.base.encode(out);
+        }
+        let whole = self.whole()?;
+        whole.encode(out)
     }
 }
