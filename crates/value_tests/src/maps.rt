@@ -88,7 +88,8 @@ fn the_present_map_is_spelled(rt: HostRuntime) -> Result<(), Fail> {
     Ok(())
 }
 
-/// A map that is frozen, written and merged, beside two plain ones: what is seen, and what is frozen.
+/// A map that is frozen, written and merged, beside two plain ones: what is seen, and what is
+/// frozen.
 #[derive(Drop)]
 struct Beside {
     states: KeyedState<u64, u64>,
