@@ -92,7 +92,8 @@ impl<K: Ord, S> KeyedState<K, S> {
 
     /// How many keys there are once this one has a state.
     fn len_with(&self, key: &K) -> usize
-        ensures { result ≡ length self.now.entries + (if is_some (value_at K.cmp self.now.entries key.now) then 0 else 1) }
+        ensures { result ≡ length self.now.entries
+            + (if is_some (value_at K.cmp self.now.entries key.now) then 0 else 1) }
     {
         if self.get(key).is_some() {
             return self.len;
@@ -106,11 +107,14 @@ impl<K: Ord, S> KeyedState<K, S> {
     where
         K: Drop,
         S: Drop,
-        ensures entries { OnOk result (self.new.entries ≡ insert_entry K.cmp self.old.entries key state) }
-        ensures states { OnOk result ((q : K) → value_at K.cmp self.new.entries q ≡ (if is_at (K.cmp key) q then Some state else value_at K.cmp self.old.entries q)) }
+        ensures entries { OnOk result
+            (self.new.entries ≡ insert_entry K.cmp self.old.entries key state) }
+        ensures states { OnOk result ((q : K) → value_at K.cmp self.new.entries q
+            ≡ (if is_at (K.cmp key) q then Some state else value_at K.cmp self.old.entries q)) }
         ensures frozen { self.new.frozen ≡ self.old.frozen }
         // Only a frozen map has more to merge after it.
-        ensures unmerged { self.new.unmerged ≤ self.old.unmerged + (if is_some self.old.frozen then 1 else 0) }
+        ensures unmerged { self.new.unmerged
+            ≤ self.old.unmerged + (if is_some self.old.frozen then 1 else 0) }
         ensures none_merged { self.old.unmerged ≤ self.new.unmerged }
         ensures ordered { IsStrictlySortedBy K.cmp (keys_of self.new.entries) }
         ensures err { OnErr result (self.new ≡ self.old) }
@@ -153,9 +157,11 @@ impl<K: Ord, S> KeyedState<K, S> {
 
     /// The first entry of the frozen map whose key is above this one, or the first of all.
     pub fn frozen_next(&self, after: Option<&K>) -> Option<(&K, &S)>
-        ensures first { option_map deref_pair result ≡ slice_get (entries_above K.cmp (option_copied after.entry) (frozen_entries self.now)) 0 }
+        ensures first { option_map deref_pair result ≡ slice_get
+            (entries_above K.cmp (option_copied after.entry) (frozen_entries self.now)) 0 }
         // The keys rise.
-        ensures ordered { OnSome result (IsStrictlySortedBy K.cmp (keys_of (frozen_entries self.now))) }
+        ensures ordered { OnSome result
+            (IsStrictlySortedBy K.cmp (keys_of (frozen_entries self.now))) }
     {
         let frozen = self.frozen()?.as_btree_map();
         match after {
@@ -175,10 +181,11 @@ impl<K: Ord, S> KeyedState<K, S> {
 }
 
 impl<K: Codec + Ord, S: Codec> KeyedState<K, S> {
-    /// Keeps the map as it is now beside it, in place of what was frozen before. It takes no memory where nothing is left to
-    /// merge. An `Err` leaves both maps as they were.
+    /// Keeps the map as it is now beside it, in place of what was frozen before. It takes no
+    /// memory where nothing is left to merge. An `Err` leaves both maps as they were.
     pub fn freeze(&mut self) -> Result<(), NoMemory>
-        ensures ok { OnOk result (self.new ≡ record self.old { frozen = Some self.old.entries; unmerged = 0 }) }
+        ensures ok { OnOk result
+            (self.new ≡ record self.old { frozen = Some self.old.entries; unmerged = 0 }) }
         // It is never refused where nothing is left to merge.
         ensures merged { self.old.unmerged ≡ 0 → IsOk result }
         ensures entries_stay { self.new.entries ≡ self.old.entries }
@@ -194,10 +201,11 @@ impl<K: Codec + Ord, S: Codec> KeyedState<K, S> {
         Ok(())
     }
 
-    /// Merges at most so many of the later writes, and says how many are left. While the map is frozen, none is merged.
-    /// The map that is seen stays, also where memory is refused.
+    /// Merges at most so many of the later writes, and says how many are left. While the map is
+    /// frozen, none is merged. The map that is seen stays, also where memory is refused.
     pub fn merge(&mut self, most: usize) -> Result<usize, NoMemory>
-        ensures ok { IfOk result (λ left. left ≡ (if is_some self.old.frozen then self.old.unmerged else self.old.unmerged - most)) }
+        ensures ok { IfOk result (λ left. left
+            ≡ (if is_some self.old.frozen then self.old.unmerged else self.old.unmerged - most)) }
         ensures left { IfOk result (λ left. left ≡ self.new.unmerged) }
         // It is never refused where nothing is left to merge.
         ensures merged { self.old.unmerged ≡ 0 → IsOk result }
@@ -212,10 +220,12 @@ impl<K: Codec + Ord, S: Codec> KeyedState<K, S> {
         Ok(self.overlay.len())
     }
 
-    /// Merges the first of the later writes, if there is one. It is copied, so that a refusal loses nothing.
+    /// Merges the first of the later writes, if there is one. It is copied, so that a refusal
+    /// loses nothing.
     fn merge_first(&mut self) -> Result<(), NoMemory>
         requires { self.old.frozen ≡ None }
-        ensures ok { OnOk result (self.new ≡ record self.old { unmerged = self.old.unmerged - 1 }) }
+        ensures ok { OnOk result
+            (self.new ≡ record self.old { unmerged = self.old.unmerged - 1 }) }
         ensures err { OnErr result (self.new ≡ self.old) }
     {
         if let Some((key, later)) = self.overlay.first_key_value() {
@@ -229,7 +239,8 @@ impl<K: Codec + Ord, S: Codec> KeyedState<K, S> {
     /// Makes the map that is seen the frozen one, by way of a copy where it was written since.
     fn renew(&mut self) -> Result<(), NoMemory>
         requires { IsTrue (is_some self.old.frozen) }
-        ensures ok { OnOk result (self.new ≡ record self.old { frozen = Some self.old.entries; unmerged = 0 }) }
+        ensures ok { OnOk result
+            (self.new ≡ record self.old { frozen = Some self.old.entries; unmerged = 0 }) }
         ensures merged { self.old.unmerged ≡ 0 → IsOk result }
         ensures err { OnErr result (self.new ≡ self.old) }
     {
@@ -253,9 +264,12 @@ impl<K: Codec + Ord, S: Codec> KeyedState<K, S> {
 
     /// Appends the spelling of the map that is seen. An `Err` leaves the vector as it was.
     pub fn encode(&self, out: &mut Vec<u8>) -> Result<(), CodecFault>
-        ensures appended { OnOk result (⟦<Map<K, S> as Codec>⟧.HasSpelling self.now.entries × (out.new.items ≡ out.old.items ++ ⟦<Map<K, S> as Codec>⟧.spelling self.now.entries)) }
+        ensures appended { OnOk result (⟦<Map<K, S> as Codec>⟧.HasSpelling self.now.entries
+            × (out.new.items
+            ≡ out.old.items ++ ⟦<Map<K, S> as Codec>⟧.spelling self.now.entries)) }
         ensures unchanged { OnErr result (out.new.items ≡ out.old.items) }
-        ensures too_long { IfErr result (λ f. f ≢ CodecFault.Memory → (f ≡ CodecFault.TooLong) × ¬ ⟦<Map<K, S> as Codec>⟧.HasSpelling self.now.entries) }
+        ensures too_long { IfErr result (λ f. f ≢ CodecFault.Memory
+            → (f ≡ CodecFault.TooLong) × ¬ ⟦<Map<K, S> as Codec>⟧.HasSpelling self.now.entries) }
     {
         if self.overlay.is_empty() {
             return self.base.encode(out);
