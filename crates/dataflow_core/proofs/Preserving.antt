@@ -1,6 +1,6 @@
 -- What calls preserve, whatever they are.
 use Rattle.std.proofs.Common.{◌≡◌, Option, Some, Result, ℕ, List, [], ◌++◌, slice_get, refl, sym, ap, subst, ◌∙◌, append_assoc}
-use Rattle.std.proofs.lemmas.List.{append_nil}
+use Rattle.std.proofs.lemmas.List.{append-nil}
 use Rattle.commit_sink.specs.Ledger.{committed_rows}
 use Rattle.core_model.specs.Language.{Language}
 use Rattle.core_model.specs.Sound.{IsSound}
@@ -14,7 +14,7 @@ begins_on : {A : Type 0} (xs ys zs : List A) → Begins xs ys → Begins ys zs �
 begins_on xs ys zs one two = (one.0 ++ two.0, two.1 ∙ ap (λ l. l ++ two.0) one.1 ∙ append_assoc xs one.0 two.0)
 
 begins_same : {A : Type 0} (xs ys : List A) → ys ≡ xs → Begins xs ys
-begins_same xs ys e = ([], e ∙ sym (append_nil xs))
+begins_same xs ys e = ([], e ∙ sym (append-nil xs))
 
 module _ {R K S O : Type 0} (lang : Language R K S O) (RecordFits : R → Type 0) where
   pub of_step : (old new : State O R K S) → IsStep lang RecordFits old new → Preserves lang RecordFits old new

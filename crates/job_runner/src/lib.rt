@@ -14,4 +14,5 @@ pub use job_input::Input;
 pub use opening::JobCore;
 pub use options::Options;
 pub use refusal::RunRefusal;
-pub use running::run_job;
+pub use running::{run_core, run_job};
+pub use thread_runner::{NoPause, Pause, Report, RunFault};

@@ -20,18 +20,20 @@ use std::sync::ledger::{Blank, Ledger};
 use std::sync::{Mutex, Wait};
 use std::thread::Threads;
 use std::time::Clock;
-use thread_runner::{NoPause, Schedule, Station, run};
+use thread_runner::{NoPause, Pause, Report, Schedule, Station, run};
 
 /// A job that goes down is restarted so often.
 const RESTARTS: u64 = 8;
 
-/// Takes the job of this core to rest and prints what is committed, also where the run is refused.
-fn run_core<
+/// Takes the job of this core to rest and prints what is committed, also where the run is refused. A
+/// job that goes down is restarted so often. It answers how many jobs the workers have finished.
+pub fn run_core<
     O: Operator + Send,
     S: SnapshotStore + Drop + Send,
     X: Transactions + Drop + Send,
     P: Partitions<Record = O::Record> + Drop + Send,
     L: Ledger + Send + Sync,
+    H: Pause + Sync,
     R: Threads + Wait + Clock + Sync,
     W: Write,
 >(
@@ -41,8 +43,10 @@ fn run_core<
     schedule: Schedule,
     blank: Blank,
     options: Options,
+    restarts: u64,
+    pause: &H,
     out: &mut W,
-) -> Result<(), RunRefusal<'static>>
+) -> Result<Report, RunRefusal<'static>>
 where
     O::Record: Send,
     O::Key: Send,
@@ -65,13 +69,14 @@ where
         workers as usize,
         every,
         turns,
-        RESTARTS,
-        &NoPause,
+        restarts,
+        pause,
     );
     let core = station.into_inner().into_core();
     let printed = print_committed(alloc, &core, out);
-    report?;
-    Ok(printed?)
+    let report = report?;
+    printed?;
+    Ok(report)
 }
 
 /// Runs a job that was judged.
@@ -89,7 +94,10 @@ fn run_judged<L: Ledger + Send + Sync, R: Threads + Wait + Clock + Sync, W: Writ
 {
     let JobInput { job, graph, log } = input;
     let (core, schedule) = open(alloc, &job, graph, log)?;
-    run_core::<_, _, _, _, L, R, W>(rt, alloc, core, schedule, blank, options, out)
+    run_core::<_, _, _, _, L, _, _, _>(
+        rt, alloc, core, schedule, blank, options, RESTARTS, &NoPause, out,
+    )?;
+    Ok(())
 }
 
 /// Runs a job over its inputs, one for each source task in task order, until it is at rest: the
