@@ -67,3 +67,39 @@ fn lines(
     }
     Ok(text)
 }
+
+/// A hundred rows, each with its number as its value.
+fn numbers(alloc: Global) -> Result<String, Fail> {
+    lines(alloc, 100, |number| (0, number))
+}
+
+/// The rows of a line stand in their order.
+#[test]
+fn a_line_comes_to_its_rows(rt: HostRuntime) -> Result<(), Fail> {
+    let alloc = rt.alloc();
+    let out = committed(&rt, alloc, LINE, &numbers(alloc)?)?;
+    let wanted = lines(alloc, 100, |number| (0, number + 10))?;
+    let head = "sink 0 rows 100\n";
+    assert_eq!(&rt; out.strip_prefix(head), Some(wanted.as_str()));
+    Ok(())
+}
+
+/// Each row has come to 0 once.
+#[test]
+fn a_loop_comes_to_its_rows(rt: HostRuntime) -> Result<(), Fail> {
+    let alloc = rt.alloc();
+    let out = committed(&rt, alloc, LOOP, &lines(alloc, 100, |number| (number, number % 4))?)?;
+    let wanted = lines(alloc, 100, |number| (number, 0))?;
+    assert_eq!(&rt; sorted_rows(alloc, &out)?, sorted_rows(alloc, &wanted)?);
+    Ok(())
+}
+
+/// Each of ten keys is counted from 1 to 10.
+#[test]
+fn a_count_comes_to_its_rows(rt: HostRuntime) -> Result<(), Fail> {
+    let alloc = rt.alloc();
+    let out = committed(&rt, alloc, COUNT, &lines(alloc, 100, |number| (number % 10, 1))?)?;
+    let wanted = lines(alloc, 100, |number| (number % 10, number / 10 + 1))?;
+    assert_eq!(&rt; sorted_rows(alloc, &out)?, sorted_rows(alloc, &wanted)?);
+    Ok(())
+}

@@ -156,16 +156,7 @@ impl<
         ensures step { Preserves ⟦<O as Rules>⟧.lang ⟦<O as Rules>⟧.RecordFits self.old.core.engine self.new.core.engine }
     {
         let Station { core, turns, .. } = self;
-        let next = match turns.choose() {
-            Step::Over => Next::Over,
-            Step::Idle => Next::Idle,
-            Step::Look => Next::Again,
-            Step::Work(place) => claim(core, turns, place),
-            step => {
-                turns.made(step, make(core, step));
-                Next::Again
-            }
-        };
+        let next = take_turn(core, turns);
         (next, turns.left())
     }
 
@@ -210,6 +201,26 @@ fn finish<O: Operator, S: SnapshotStore, X: Transactions, P: Partitions<Record =
     ensures claims { EndsAClaim core.old core.new result }
 {
     core.finish(done)
+}
+
+/// What a worker does next, where the step is not made at once.
+fn take_turn<O: Operator, S: SnapshotStore, X: Transactions, P: Partitions<Record = O::Record>>(
+    core: &mut Core<O, S, X, P>,
+    turns: &mut Turns,
+) -> Next<O>
+    ensures once { ClaimsOnce core.old core.new }
+    ensures step { Preserves ⟦<O as Rules>⟧.lang ⟦<O as Rules>⟧.RecordFits core.old.engine core.new.engine }
+{
+    match turns.choose() {
+        Step::Over => Next::Over,
+        Step::Idle => Next::Idle,
+        Step::Look => Next::Again,
+        Step::Work(place) => claim(core, turns, place),
+        step => {
+            turns.made(step, make(core, step));
+            Next::Again
+        }
+    }
 }
 
 /// A task claims the record at the head of its input, or takes the barrier that may be there.
