@@ -54,13 +54,7 @@ impl<L: Ledger> Worker<L> {
         P: Partitions<Record = O::Record> + Drop,
         H: Pause,
         R: Wait + Clock,
-    >(
-        &mut self,
-        rt: &R,
-        station: &Mutex<Station<O, S, X, P, L>>,
-        turns: u64,
-        pause: &H,
-    ) {
+    >(&mut self, rt: &R, station: &Mutex<Station<O, S, X, P, L>>, turns: u64, pause: &H) {
         for _ in 0..turns {
             let (next, left) = station.lock(rt).choose();
             self.patience.took_turn(left);
@@ -106,7 +100,11 @@ impl<L: Ledger> Worker<L> {
         let done = job.run();
         pause.after_run(attempt, serial);
         let is_short = was_short(rt, begun);
-        let Worker { share, finished, .. } = self;
+        let Worker {
+            share,
+            finished,
+            ..
+        } = self;
         let mut station = station.lock(rt);
         let outcome = station.finish_with(share, done);
         if outcome.is_ok() {
@@ -186,7 +184,14 @@ fn gather<
     ensures finished { all.new.amount ≡ all.old.amount + result }
 {
     let mut sum: u128 = 0;
-    while let Some(Worker { share, finished, .. }) = crew.pop() {
+    while let Some(
+        Worker {
+            share,
+            finished,
+            ..
+        },
+    ) = crew.pop()
+    {
         all.merge(share);
         station.lock(rt).audit(all);
         sum += finished;

@@ -87,5 +87,7 @@ pub(crate) fn was_short<R: Clock>(rt: &R, begun: Option<Instant>) -> bool {
     let Some(begun) = begun else {
         return false;
     };
-    begun.elapsed(rt).is_ok_and(|taken| taken.as_nanos() < WORTH)
+    begun
+        .elapsed(rt)
+        .is_ok_and(|taken| taken.as_nanos() < WORTH)
 }
