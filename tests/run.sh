@@ -10,7 +10,7 @@
 #                            where they are not there; of status 2 clap's text is not compared); where there is any-order, the sorted lines of out
 # examples/NAME/             the same of its job and its inputs, which come to tests/examples/NAME.out
 # crashes/NAME.json          a run that fails at each of its places (see crashes.py)
-# conformance/STAGE/N.json   random scripts, with the output of an independent reference: 400 for each stage that is served
+# conformance/STAGE/N.json   random scripts, with the output of an independent reference: 400 for each stage that is served, or begun (see beginnings.py)
 #
 # What they want was worked out by hand or by that reference, and never taken from the program.
 set -uo pipefail
@@ -18,8 +18,10 @@ programs=()
 [ $# -eq 0 ] || mapfile -t programs < <(realpath -- "$@")
 cd "$(dirname "$0")/.."
 
-# The stages of conformance/ whose steps are all served. (Of stage12 `claim`, `finish`, `settle`, `drain` and `persist T K` are not.)
+# The stages of conformance/ whose steps are all served; and those of which some are not, each script of which is run up to the first of these.
+# (Of stage12 `settle`, `drain`, `persist T K` and `claim T I K` are not.)
 served="stage08"
+begun="stage12"
 
 # A script and a job have at most so many bytes.
 most_bytes=16777216
@@ -131,6 +133,14 @@ expect_full() {
   fi
 }
 
+# count_told COMMAND..: what a command passed and failed, as its last line says.
+count_told() {
+  "$@" > "$work/told"
+  grep FAILED "$work/told"
+  read -r more _ less _ <<< "$(tail -n 1 "$work/told")"
+  passed=$((passed + more)) failed=$((failed + less))
+}
+
 for program in "${programs[@]}"; do
   [ -x "$program" ] || { echo "$program is not there: rt ci builds it"; echo "0 passed, 1 failed"; exit 1; }
   expect_all script tests/scripts/*.json
@@ -157,10 +167,8 @@ for program in "${programs[@]}"; do
   expect_long_line 50000000 err 'input 0 line 1: bad row\n'
   expect_full
 
-  tests/crashes.py "$program" tests/crashes/*.json > "$work/crashes"
-  grep FAILED "$work/crashes"
-  read -r more _ less _ <<< "$(tail -n 1 "$work/crashes")"
-  passed=$((passed + more)) failed=$((failed + less))
+  count_told tests/crashes.py "$program" tests/crashes/*.json
+  for stage in $begun; do count_told tests/beginnings.py "$program" "tests/conformance/$stage"/*.json; done
 done
 echo "$passed passed, $failed failed"
 [ $failed -eq 0 ]

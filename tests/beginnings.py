@@ -1,0 +1,58 @@
+#!/usr/bin/env python3
+"""tests/beginnings.py PROGRAM FILE..: scripts some of whose steps are not served yet, up to the first of these.
+
+Beside each file N.json stands N.out, the output of an independent reference over all its steps. The program is given the steps before the first
+that it does not serve, and its answers to them are the first lines of N.out. Scripts that begin with such a step are left out. The last line is
+`N passed, M failed`.
+"""
+import json
+import subprocess
+import sys
+
+
+def is_served(step):
+    """Whether a step is one of today's: no `settle` or `drain`, and no `persist` or `claim` with a number more."""
+    word, *numbers = step.split(" ")
+    return word not in ("settle", "drain") and len(numbers) <= {"persist": 1, "claim": 2}.get(word, len(numbers))
+
+
+def beginning(steps):
+    """The steps before the first that is not served."""
+    served = [is_served(step) for step in steps] + [False]
+    return steps[: served.index(False)]
+
+
+def fault_of(program, script, wanted):
+    """What is wrong with the answers, if anything is."""
+    ran = subprocess.run([program], input=json.dumps(script), capture_output=True, text=True)
+    if ran.returncode or ran.stderr:
+        return f"status {ran.returncode}, {ran.stderr.strip()}"
+    answers = ran.stdout.splitlines()[: len(script["steps"])]
+    for got, want in zip(answers, wanted):
+        if got != want:
+            return f"{got}, and {want} is wanted"
+    return None if len(answers) == len(wanted) else "too few answers"
+
+
+def main():
+    program, *files = sys.argv[1:]
+    passed = failed = 0
+    for file in files:
+        with open(file, encoding="utf-8") as it:
+            script = json.load(it)
+        script["steps"] = beginning(script["steps"])
+        if not script["steps"]:
+            continue
+        with open(f"{file[:-5]}.out", encoding="utf-8") as it:
+            wanted = it.read().splitlines()[: len(script["steps"])]
+        fault = fault_of(program, script, wanted)
+        if fault:
+            failed += 1
+            print(f"FAILED {file}: {fault}")
+        else:
+            passed += 1
+    print(f"{passed} passed, {failed} failed")
+
+
+if __name__ == "__main__":
+    main()
