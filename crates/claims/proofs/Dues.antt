@@ -15,16 +15,16 @@ use Rattle.job_state.specs.Held.{Held, Operates, gate_at}
 use Rattle.job_state.specs.Sending.{items_at}
 use Rattle.job_state.specs.declared.holding.Holding.TheVariants as holds
 use Rattle.operators.specs.declared.operator.Outcome.{Outcome}
-use Rattle.core_calls.proofs.Holdings.{none_past, found_is, works_same}
-use Rattle.core_calls.proofs.Numbers.{operator_within}
 use Rattle.core_model.specs.Calls.{input_at, state_of, IsRecordDue, OperatesNext}
 use Rattle.core_model.specs.Keeps.{GateFits}
 use Rattle.core_model.specs.Language.{Language}
 use Rattle.core_model.proofs.Gates.{within_gate}
+use Rattle.core_model.proofs.Numbers.{none_past, operator_within}
 use Rattle.claims.specs.Carried.{state_worked, IsOperand, IsOutcome}
 use Rattle.claims.specs.Due.{IsOperandDue, EndsTaking}
 use Rattle.claims.specs.declared.parts.Operand.{Operand}
 use Rattle.claims.specs.declared.parts.Given.TheVariants as given
+use Rattle.claims.proofs.Holdings.{found_is, works_same}
 use Rattle.claims.proofs.Works.{works_by_operator}
 
 -- something is found exactly where something is there

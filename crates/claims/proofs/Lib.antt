@@ -1,3 +1,4 @@
 pub mod Dues
+pub mod Holdings
 pub mod Serving
 pub mod Works

@@ -10,11 +10,11 @@ use Rattle.job_graph.specs.declared.role.Role.{Role}
 use Rattle.job_graph.specs.declared.role.Role.TheVariants as role
 use Rattle.job_state.specs.Held.{Held}
 use Rattle.job_state.specs.declared.holding.Holding.TheVariants as holds
-use Rattle.core_model.specs.Calls.{input_at, EndsOperate, EndsPutOut, EndsOperatorBarrier, EndsSinkBarrier}
+use Rattle.core_model.specs.Calls.{input_at, IsBlocked, NoRecord, EndsOperate, EndsPutOut, EndsOperatorBarrier, EndsSinkBarrier}
 use Rattle.core_model.specs.Keeps.{Shape, SinkIn}
 use Rattle.core_model.specs.Language.{Language}
 use Rattle.core_model.specs.declared.fault.CoreFault.{CoreFault}
-use Rattle.core_model.specs.declared.fault.CoreFault.TheVariants.{NoSuchTask}
+use Rattle.core_model.specs.declared.fault.CoreFault.TheVariants.{NoSuchTask, NotReady, ChannelBlocked}
 
 -- what a running job holds, by its graph, its operators and its transactions
 pub record Serves {R K S O : Type 0} (cmp : K → K → Ordering) (RecordFits : R → Type 0) (IsGood : O → S → Type 0) (graph : Expanded) (operators : List O) (ledger : Ledger) (held : Held R K S) : Type 0 where
@@ -23,6 +23,13 @@ pub record Serves {R K S O : Type 0} (cmp : K → K → Ordering) (RecordFits : 
   pub subtasks : ledger.subtasks ≡ count_by is_sink graph.tasks
   pub shape : Shape cmp RecordFits IsGood graph operators held
   pub sinks : (task subtask : ℕ) (sink : Sinking) → slice_get graph.tasks task ≡ Some (role.Sink subtask) → slice_get held.tasks task ≡ Some (holds.Sink sink) → SinkIn ledger subtask sink
+
+module _ {R K S : Type 0} (task input channel : ℕ) (h : Held R K S) where
+  -- the input is blocked, or no record stands first
+  abbrev pub RefusesRecord : CoreFault → Type 0
+  RefusesRecord ChannelBlocked = IsBlocked task input h
+  RefusesRecord NotReady = ¬ IsBlocked task input h × NoRecord h channel
+  RefusesRecord other = ⊥
 
 module _ {R K S T : Type 0} (h k : Held R K S) (old new : Ledger) (result : Result T CoreFault) where
   -- the task has no input of that number

@@ -1,14 +1,15 @@
 //! Work, and what was made of it.
 
-ghost use Rattle.std.specs.Prelude.{◌≡◌, IfOk};
+ghost use Rattle.std.specs.Prelude.{◌≡◌, IfOk, IfErr};
 ghost use Rattle.abs_codec.specs.Spelling.{Fits};
 ghost use Rattle.operators.specs.Operator.{IsGoodState};
+ghost use Rattle.core_model.specs.declared.fault.CoreFault.TheVariants as CoreFault;
 ghost use Rattle.claims.specs.declared.parts.Given.TheVariants as Given;
 ghost use Rattle.claims.specs.Carried.{IsOperand, IsOutcome, given_of};
 
 use crate::parts::{Given, Made, Operand};
-use abs_codec::NoMemory;
-use core_calls::row_spelling;
+use abs_codec::{Codec, NoMemory};
+use core_model::CoreFault;
 use operators::{Operator, Outcome};
 use std::alloc::Global;
 use std::marker::Model;
@@ -83,6 +84,18 @@ fn worked_operand<O: Operator>(
         Err(_) => Worked {
             made: Made::Refused(Given::Operator(operand)),
         },
+    }
+}
+
+/// The spelling of a record.
+fn row_spelling<R: Codec>(alloc: Global, row: &R) -> Result<Vec<u8>, CoreFault>
+    ensures ok { IfOk result (λ bytes. bytes.items ≡ R.spelling row.now) }
+    ensures err { IfErr result (λ fault. fault ≡ CoreFault.Memory) }
+{
+    let mut bytes = Vec::new(alloc);
+    match row.encode(&mut bytes) {
+        Ok(()) => Ok(bytes),
+        Err(_) => Err(CoreFault::Memory),
     }
 }
 

@@ -12,8 +12,8 @@ ghost use Rattle.core_model.specs.Language.{language};
 ghost use Rattle.claims.specs.Carried.{IsGiven};
 ghost use Rattle.claims.specs.Due.{WorksFrom, IsOperandDue, IsRowDue, IsDue};
 
+use crate::inputs::{first_record, input_of, state_at};
 use crate::parts::{Given, Operand};
-use core_calls::{first_record, input_of, state_at};
 use job_graph::{Graph, Role};
 use job_state::Attempt;
 use operators::Operator;

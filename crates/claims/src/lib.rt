@@ -8,11 +8,13 @@
 mod accepts;
 mod carried;
 mod due;
+mod inputs;
 mod offers;
 mod parts;
 
 pub use accepts::accept;
 pub use carried::{Work, Worked};
 pub use due::{channel_of, operator_of};
+pub use inputs::input_of;
 pub use offers::offer;
 pub use parts::{Given, Made, Operand};

@@ -17,9 +17,9 @@ ghost use Rattle.claims.specs.Due.{EndsOffer};
 
 use crate::carried::Work;
 use crate::due::operator_of;
+use crate::inputs::{first_record, input_of, state_at};
 use crate::parts::{Given, Operand};
 use abs_codec::{Codec, NoMemory};
-use core_calls::{first_record, input_of, state_at};
 use core_model::CoreFault;
 use job_graph::{Graph, Role};
 use job_state::Attempt;

@@ -33,6 +33,7 @@ pub mod CallSteps
 pub mod CallRuns
 pub mod CallReads
 pub mod CallTasks
+pub mod Numbers
 pub mod CallOperates
 pub mod CallInjects
 pub mod CallBarriers

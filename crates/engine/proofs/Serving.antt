@@ -5,7 +5,7 @@ use Rattle.coordinator.specs.Coordinator.{IsReady}
 use Rattle.job_graph.specs.declared.role.Role.TheVariants as role
 use Rattle.job_state.specs.Held.{Held}
 use Rattle.snapshot_store.specs.Store.{Stored, complete_refusal, has_all_parts}
-use Rattle.core_calls.proofs.Numbers.{source_within}
+use Rattle.core_model.proofs.Numbers.{source_within}
 use Rattle.core_model.specs.Calls.{EndsComplete}
 use Rattle.core_model.specs.Commits.{EndsCommit}
 use Rattle.core_model.specs.Keeps.{Keeps}

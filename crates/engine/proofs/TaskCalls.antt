@@ -6,7 +6,7 @@ use Rattle.dataflow_model.specs.Machine.{Work}
 use Rattle.job_graph.specs.declared.role.Role.{Role}
 use Rattle.job_graph.specs.declared.role.Role.TheVariants as role
 use Rattle.job_state.specs.Held.{Held}
-use Rattle.core_calls.proofs.Numbers.{operator_within}
+use Rattle.core_model.proofs.Numbers.{operator_within}
 use Rattle.core_model.specs.Calls.{input_at, left_by}
 use Rattle.core_model.specs.Keeps.{Keeps}
 use Rattle.core_model.specs.Language.{Language}

@@ -38,8 +38,9 @@ ghost use Rattle.engine.specs.Running.{IsCounted, IsSameJob, number_of, raised, 
 use crate::tasks::take_barrier;
 use alignment::Effect;
 use commit_sink::Transactions;
-use core_calls::{commit, complete, inject, persist, read_next, trigger};
 use core_model::CoreFault;
+use engine_checkpoints::{commit, complete, persist, trigger};
+use engine_moves::{inject, read_next};
 use job_graph::Graph;
 use job_state::Attempt;
 use operators::Operator;

@@ -7,9 +7,10 @@ ghost use Rattle.core_model.specs.declared.fault.CoreFault.TheVariants as CoreFa
 ghost use Rattle.claims.specs.Tasks.{Serves, EndsBarrier};
 
 use alignment::Effect;
+use claims::input_of;
 use commit_sink::Transactions;
-use core_calls::{input_of, operator_barrier, sink_barrier};
 use core_model::CoreFault;
+use engine_moves::{operator_barrier, sink_barrier};
 use job_graph::{Graph, Role};
 use job_state::Attempt;
 use operators::Operator;

@@ -1,8 +1,7 @@
 use Rattle.std.proofs.Common.{◌<◌, length, sym, subst}
 use Rattle.alignment.specs.Table.{is_logged}
 use Rattle.job_state.specs.Held.{gate_at}
-use Rattle.core_calls.proofs.Holdings.{memory_leaves}
-use Rattle.core_calls.proofs.Taking.{logged_length}
+use Rattle.claims.proofs.Holdings.{memory_leaves, logged_length}
 use Rattle.claims.proofs.accepts.put_bytes.Goals as goal
 
 -- a record that is logged changes no gate, and not how many logs there are

@@ -1,6 +1,6 @@
 use Rattle.std.proofs.Common.{◌<◌, ◌+◌, arith, sym, subst, ◌∙◌}
 use Rattle.abs_codec.specs.Spelling.{Fits}
-use Rattle.core_calls.proofs.Numbers.{sink_within}
+use Rattle.core_model.proofs.Numbers.{sink_within}
 use Rattle.core_model.proofs.CallRestarts.{restart_withdraws}
 use Rattle.core_model.specs.Language.{language}
 use Rattle.core_model.specs.RestartLaws.{OperatorsAreLawful}

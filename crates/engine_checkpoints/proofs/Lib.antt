@@ -1,0 +1,2 @@
+pub mod Readable
+pub mod Rounds

@@ -1,0 +1,93 @@
+//! The transactions of complete checkpoints are committed (Flink's `TwoPhaseCommitSinkFunction`).
+
+ghost use Rattle.std.specs.Prelude.{◌≡◌, ◌≢◌, ◌<◌, ℕ, Err, Some, None, slice_get, IfSome, IfNone};
+ghost use Rattle.commit_sink.specs.Ledger.{commit_refusal};
+ghost use Rattle.commit_sink.specs.Sink.{Sinking};
+ghost use Rattle.commit_sink.specs.declared.sink.Pending.{Pending};
+ghost use Rattle.job_state.specs.declared.holding.Holding.TheVariants as Holding;
+ghost use Rattle.job_graph.specs.declared.role.Role.TheVariants as Role;
+ghost use Rattle.job_graph.specs.Expanded.{IsExpanded};
+ghost use Rattle.core_model.specs.declared.fault.CoreFault.TheVariants as CoreFault;
+ghost use Rattle.core_model.specs.Commits.{IsNext, NoneIsNext, EndsCommit};
+ghost use Rattle.core_model.specs.Keeps.{SinkIn};
+ghost use Rattle.engine_checkpoints.specs.Rounds.{EndsRound};
+
+use commit_sink::{Pending, Sink, Transactions};
+use core_model::CoreFault;
+use job_graph::Graph;
+use job_state::{Attempt, Holding};
+use operators::Operator;
+
+/// The sink that a task holds, if it holds one.
+fn sink_at<O: Operator>(attempt: &Attempt<O>, task: u32) -> Option<&Sink>
+    ensures some { IfSome result (λ sink. slice_get attempt.now.tasks task ≡ Some (Holding.Sink sink.now)) }
+    ensures none { IfNone result ((sink : Sinking) → slice_get attempt.now.tasks task ≡ Some (Holding.Sink sink) → ⊥) }
+{
+    match attempt.holding(task) {
+        Some(Holding::Sink(sink)) => Some(sink),
+        Some(Holding::Source(_)) => None,
+        Some(Holding::Operator(_)) => None,
+        None => None,
+    }
+}
+
+/// A sink's oldest pending transaction, if its checkpoint is complete: if it is not the one that is pending.
+fn next_of<O: Operator>(attempt: &Attempt<O>, task: u32) -> Option<Pending>
+    ensures some { IfSome result (λ p. (sink : Sinking) × IsNext task attempt.now sink p) }
+    ensures none { IfNone result (NoneIsNext task attempt.now) }
+{
+    let sink = sink_at(attempt, task)?;
+    let next = sink.oldest()?;
+    if attempt.pending() == Some(next.checkpoint) {
+        return None;
+    }
+    Some(next)
+}
+
+/// Commits a sink's oldest pending transaction, if its checkpoint is complete, and answers whether there was one.
+fn commit_oldest<O: Operator, X: Transactions>(
+    attempt: &mut Attempt<O>,
+    transactions: &mut X,
+    task: u32,
+) -> Result<bool, CoreFault>
+    requires { (sink : Sinking) (p : Pending) → IsNext task attempt.old sink p → commit_refusal (X.state transactions.old) p.transaction ≡ None }
+    ensures ends { EndsRound task attempt.old attempt.new (X.state transactions.old) (X.state transactions.new) result }
+    ensures counted { result ≡ Err CoreFault.CommitFault → X.fault_count transactions.old < X.fault_count transactions.new }
+    ensures told { result ≢ Err CoreFault.CommitFault → X.fault_count transactions.new ≡ X.fault_count transactions.old }
+{
+    let Some(next) = next_of(attempt, task) else {
+        return Ok(false);
+    };
+    match transactions.commit(next.transaction) {
+        Ok(()) => {
+            attempt.forget_oldest(task);
+            Ok(true)
+        }
+        Err(_) => Err(CoreFault::CommitFault),
+    }
+}
+
+/// Commits the pending transactions of a sink subtask up to the last complete checkpoint, the oldest first.
+pub fn commit<O: Operator, X: Transactions>(
+    attempt: &mut Attempt<O>,
+    graph: &Graph,
+    transactions: &mut X,
+    subtask: u32,
+) -> Result<(), CoreFault>
+    requires expanded { IsExpanded graph.now }
+    requires sinks { (task : ℕ) (sink : Sinking) → slice_get graph.now.tasks task ≡ Some (Role.Sink subtask) → slice_get attempt.old.tasks task ≡ Some (Holding.Sink sink) → SinkIn (X.state transactions.old) subtask sink }
+    ensures ends { EndsCommit graph.now subtask attempt.old attempt.new (X.state transactions.old) (X.state transactions.new) result }
+    ensures counted { result ≡ Err CoreFault.CommitFault → X.fault_count transactions.old < X.fault_count transactions.new }
+    ensures told { result ≢ Err CoreFault.CommitFault → X.fault_count transactions.new ≡ X.fault_count transactions.old }
+{
+    let Some(task) = graph.sink_task(subtask) else {
+        return Err(CoreFault::NoSuchTask);
+    };
+    'rounds: loop {
+        match commit_oldest(attempt, transactions, task) {
+            Ok(true) => {}
+            Ok(false) => return Ok(()),
+            Err(fault) => return Err(fault),
+        }
+    }
+}
