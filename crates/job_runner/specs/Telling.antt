@@ -4,8 +4,8 @@ use Rattle.job_input.specs.declared.fault.InputFault.{InputFault}
 use Rattle.job_input.specs.declared.fault.InputFault.TheVariants as input
 use Rattle.job_runner.specs.declared.refusal.RunRefusal.{RunRefusal}
 use Rattle.job_runner.specs.declared.refusal.RunRefusal.TheVariants as whole
-use Rattle.thread_runner.specs.declared.fault.RunFault.{RunFault}
-use Rattle.thread_runner.specs.declared.fault.RunFault.TheVariants as run
+use Rattle.run_schedule.specs.declared.fault.RunFault.{RunFault}
+use Rattle.run_schedule.specs.declared.fault.RunFault.TheVariants as run
 
 abbrev pub tells_input : InputFault → RunRefusal
 tells_input (input.Job fault) = whole.Other (refusal.Job fault)

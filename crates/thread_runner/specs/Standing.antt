@@ -1,7 +1,11 @@
 -- What a station keeps.
 use Rattle.std.specs.Prelude.{◌≡◌, ℕ, ◌+◌, ◌≤◌, Result, MatchResult, length}
+use Rattle.core_model.specs.Language.{Language}
 use Rattle.core_model.specs.declared.fault.CoreFault.{CoreFault}
+use Rattle.core_plain.specs.Plain.{Stays}
 use Rattle.dataflow_core.specs.CoreState.{CoreState}
+use Rattle.dataflow_core.specs.Steps.{IsStep}
+use Rattle.engine.specs.Running.{IsCounted}
 
 -- the core, and the total of the finishes that were accepted
 pub record Standing (O R K S : Type 0) : Type 0 where
@@ -20,3 +24,20 @@ ClaimsOnce old new = length new.claims + old.serials ≤ length old.claims + new
 abbrev pub EndsAClaim : {O R K S : Type 0} → CoreState O R K S → CoreState O R K S → Result Unit CoreFault → Type 0
 EndsAClaim old new result =
     MatchResult result (λ _. length new.claims + 1 ≡ length old.claims) (λ _. length new.claims ≤ length old.claims) × (new.serials ≡ old.serials)
+
+module _ {O R K S : Type 0} (old new : Standing O R K S) where
+  -- a call of the core that leaves the claims, and the total
+  abbrev pub LeavesClaims : Type 0
+  LeavesClaims = new ≡ record old { core = record old.core { engine = new.core.engine } }
+
+  -- the core's engine makes a step
+  abbrev pub MakesStep : Language R K S O → (R → Type 0) → Type 0
+  MakesStep lang RecordFits = IsStep lang RecordFits old.core.engine new.core.engine
+
+  -- its records stay where they are
+  abbrev pub StaysPut : Language R K S O → Type 0
+  StaysPut lang = Stays lang old.core.engine new.core.engine
+
+  -- a device's failure is counted exactly where it is told
+  abbrev pub CountsFaults : {T : Type 0} → Result T CoreFault → Type 0
+  CountsFaults result = IsCounted old.core.engine.faults new.core.engine.faults result

@@ -2,13 +2,13 @@
 
 ghost use Rattle.std.specs.Prelude.{◌≡◌, ◌+◌, ◌≤◌, ◌<◌, ◌^◌, IfOk, vec_len};
 
-use crate::fault::RunFault;
 use crate::patience::{Patience, was_short};
 use crate::pause::Pause;
 use crate::station::{Next, Station};
 use commit_sink::Transactions;
 use dataflow_core::Job;
 use operators::Operator;
+use run_schedule::RunFault;
 use snapshot_store::SnapshotStore;
 use source_log::Partitions;
 use std::alloc::Global;
@@ -61,12 +61,27 @@ impl<L: Ledger> Worker<L> {
             match next {
                 Next::Over => return,
                 Next::Idle => self.patience.wait(rt),
-                Next::Again => self.patience.made(rt, true),
+                Next::Again => self.made(rt, station, true),
                 Next::Run(task, job) => {
                     let is_short = self.run_job(rt, station, turns, pause, task, job);
-                    self.patience.made(rt, is_short);
+                    self.made(rt, station, is_short);
                 }
             }
+        }
+    }
+
+    /// A step was made, which was short or not. A worker whose steps are all short rests, where
+    /// another one is awake.
+    fn made<
+        O: Operator,
+        S: SnapshotStore + Drop,
+        X: Transactions + Drop,
+        P: Partitions<Record = O::Record> + Drop,
+        R: Wait + Clock,
+    >(&mut self, rt: &R, station: &Mutex<Station<O, S, X, P, L>>, is_short: bool) {
+        if self.patience.is_tired(is_short) && station.lock(rt).rests() {
+            self.patience.rest(rt);
+            station.lock(rt).wakes();
         }
     }
 
@@ -115,8 +130,9 @@ impl<L: Ledger> Worker<L> {
     }
 }
 
-/// Takes the job to rest, by so many workers, and says how many jobs were finished. A job that is down is
-/// restarted first. A checkpoint is triggered after every so many finishes (0: none but the last), and a last one is committed. Where it is refused otherwise than for its workers, the job is down.
+/// Takes the job to rest, by so many workers, and says how many jobs were finished. A job that is down
+/// is restarted first. A checkpoint is triggered after every so many finishes (0: none but the last),
+/// and a last one is committed. Where it is refused otherwise than for its workers, the job is down.
 pub fn run<
     O: Operator + Send,
     S: SnapshotStore + Drop + Send,
@@ -151,7 +167,7 @@ where
         station.lock(rt).give_up();
         return Err(RunFault::Memory);
     };
-    station.lock(rt).begin(every, turns, restarts);
+    station.lock(rt).begin(workers, every, turns, restarts);
     for _ in 0..workers {
         crew.push_reserved(Worker::new(all.split_off(1, 0)));
     }

@@ -6,12 +6,15 @@ use std::time::{Clock, Duration, Instant};
 /// How often a worker lets others go first before it sleeps.
 const YIELDS: u32 = 16;
 
-/// No sleep is longer than 1 microsecond, doubled so often: about a millisecond.
+/// No wait is longer than 1 microsecond, doubled so often: about a millisecond.
 const LONGEST: u32 = 10;
+
+/// The first rest is as long, and no rest is longer than that, doubled so often: about 8 milliseconds.
+const RESTS: u32 = 3;
 
 /// A job that takes so many nanoseconds is worth a worker of its own. The rest of a step is done under
 /// the lock, so a second worker with shorter jobs takes from the first what it does itself.
-const WORTH: u128 = 2_000;
+const WORTH: u128 = 20_000;
 
 /// After so many short steps in a row a worker rests.
 const SHORT_STEPS: u32 = 32;
@@ -30,6 +33,8 @@ pub(crate) struct Patience {
     waits: u32,
     /// How many short steps it has made in a row.
     short: u32,
+    /// How often it has rested since its last long step.
+    rests: u32,
 }
 
 impl Patience {
@@ -39,6 +44,7 @@ impl Patience {
             is_alone: false,
             waits: 0,
             short: 0,
+            rests: 0,
         }
     }
 
@@ -59,18 +65,30 @@ impl Patience {
         self.waits = self.waits.saturating_add(1).min(YIELDS + LONGEST);
     }
 
-    /// A step was made, which was short or not. Where all are short, and others make steps too, the
-    /// worker rests.
-    pub(crate) fn made<R: Clock>(&mut self, rt: &R, is_short: bool) {
+    /// A step was made, which was short or not. Whether the worker wants to rest: where all its steps
+    /// are short, and others make steps too.
+    pub(crate) fn is_tired(&mut self, is_short: bool) -> bool {
         self.waits /= 2;
+        if !is_short {
+            self.rests = 0;
+        }
         if self.is_alone || !is_short {
             self.short = 0;
-        } else if self.short < SHORT_STEPS {
-            self.short += 1;
         } else {
-            thread::sleep(rt, Duration::from_micros(1 << LONGEST));
-            self.short = SHORT_STEPS - STEPS_BETWEEN;
+            self.short = self.short.saturating_add(1);
         }
+        if self.short < SHORT_STEPS {
+            return false;
+        }
+        self.short = SHORT_STEPS - STEPS_BETWEEN;
+        true
+    }
+
+    /// Rests, longer each time up to a bound.
+    pub(crate) fn rest<R: Clock>(&mut self, rt: &R) {
+        let doubled = LONGEST + self.rests.min(RESTS);
+        thread::sleep(rt, Duration::from_micros(1 << doubled));
+        self.rests = self.rests.saturating_add(1);
     }
 
     /// When a job begins: a worker that is alone, and so does not rest, need not ask.

@@ -5,13 +5,10 @@ ghost use Rattle.dataflow_core.specs.Claims.{EndsFinish, FinishMoves};
 ghost use Rattle.dataflow_core.specs.Steps.{IsStep, Preserves};
 ghost use Rattle.thread_runner.specs.Standing.{ClaimsOnce, EndsAClaim};
 
-use crate::fault::RunFault;
-use crate::inputs::Place;
-use crate::schedule::{Schedule, Step};
-use crate::turns::Turns;
 use commit_sink::Transactions;
 use dataflow_core::{Core, CoreFault, Done, Job, Rules};
 use operators::Operator;
+use run_schedule::{Place, RunFault, Schedule, Step, Turns};
 use snapshot_store::SnapshotStore;
 use source_log::Partitions;
 use std::marker::Model;
@@ -39,7 +36,7 @@ pub struct Station<
     P: Partitions<Record = O::Record>,
     L: Ledger,
 > {
-    core: Core<O, S, X, P>,
+    pub(crate) core: Core<O, S, X, P>,
     book: Book<L>,
     turns: Turns,
 }
@@ -135,11 +132,25 @@ impl<
         book.audit(share);
     }
 
-    /// A run of so many turns and restarts begins.
-    pub(crate) fn begin(&mut self, every: u64, turns: u64, restarts: u64)
+    /// A run of so many turns and restarts begins, by so many workers.
+    pub(crate) fn begin(&mut self, workers: usize, every: u64, turns: u64, restarts: u64)
         ensures { self.new ≡ self.old }
     {
-        self.turns.begin(every, turns, restarts);
+        self.turns.begin(workers as u64, every, turns, restarts);
+    }
+
+    /// A worker wants to rest. Whether it may.
+    pub(crate) fn rests(&mut self) -> bool
+        ensures { self.new ≡ self.old }
+    {
+        self.turns.rests()
+    }
+
+    /// A worker has rested.
+    pub(crate) fn wakes(&mut self)
+        ensures { self.new ≡ self.old }
+    {
+        self.turns.wakes();
     }
 
     /// Counts the turn of a worker that waits with its job. False where the run is over, or no turn is left.

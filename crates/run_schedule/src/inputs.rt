@@ -6,7 +6,9 @@ use std::collections::VecDeque;
 /// An input of a task.
 #[derive(Clone, Copy, PartialEq, Eq, Debug)]
 pub struct Place {
+    /// The task.
     pub task: u32,
+    /// Its input, from 0.
     pub input: u32,
 }
 

@@ -4,41 +4,46 @@ use crate::fault::RunFault;
 use crate::inputs::Place;
 use crate::schedule::{Schedule, Step};
 use alignment::Effect;
-use dataflow_core::CoreFault;
+use core_model::CoreFault;
 
 /// The turns of the present run.
 #[derive(Drop)]
-pub(crate) struct Turns {
+pub struct Turns {
     schedule: Schedule,
     /// How many are left.
     left: u64,
     /// How many restarts are left.
     restarts: u64,
+    /// How many workers are awake: at least one, while the run lasts.
+    awake: u64,
     /// How the run has ended, once it has.
     end: Option<Result<(), RunFault>>,
 }
 
 impl Turns {
     /// No turn, before the first run.
-    pub(crate) fn new(schedule: Schedule) -> Turns {
+    pub fn new(schedule: Schedule) -> Turns {
         Turns {
             schedule,
             left: 0,
             restarts: 0,
+            awake: 0,
             end: None,
         }
     }
 
-    /// A run of so many turns begins.
-    pub(crate) fn begin(&mut self, every: u64, turns: u64, restarts: u64) {
+    /// A run of so many turns and restarts begins, by so many workers, all of whom are awake. A
+    /// checkpoint is triggered after every so many finishes, or at the end alone where that is 0.
+    pub fn begin(&mut self, workers: u64, every: u64, turns: u64, restarts: u64) {
         self.schedule.begin(every);
         self.left = turns;
         self.restarts = restarts;
+        self.awake = workers;
         self.end = None;
     }
 
     /// One turn: the step that is to be made.
-    pub(crate) fn choose(&mut self) -> Step {
+    pub fn choose(&mut self) -> Step {
         if self.end.is_some() {
             return Step::Over;
         }
@@ -55,12 +60,12 @@ impl Turns {
     }
 
     /// How many turns are left.
-    pub(crate) fn left(&self) -> u64 {
+    pub fn left(&self) -> u64 {
         self.left
     }
 
     /// How the run has ended. Where its workers have left before it was over, its turns are spent.
-    pub(crate) fn end(&mut self) -> Result<(), RunFault> {
+    pub fn end(&mut self) -> Result<(), RunFault> {
         if let Some(end) = self.end {
             return end;
         }
@@ -76,13 +81,27 @@ impl Turns {
         self.end = Some(Err(fault));
     }
 
+    /// A worker wants to rest. Whether it may: where another one is awake.
+    pub fn rests(&mut self) -> bool {
+        if self.awake < 2 {
+            return false;
+        }
+        self.awake -= 1;
+        true
+    }
+
+    /// A worker has rested.
+    pub fn wakes(&mut self) {
+        self.awake = self.awake.saturating_add(1);
+    }
+
     /// Whether barriers of a pending checkpoint may stand at the heads of inputs.
-    pub(crate) fn awaits_barriers(&self) -> bool {
+    pub fn awaits_barriers(&self) -> bool {
         self.schedule.is_pending()
     }
 
     /// What came of a step that is no task's work.
-    pub(crate) fn made(&mut self, step: Step, outcome: Result<(), CoreFault>) {
+    pub fn made(&mut self, step: Step, outcome: Result<(), CoreFault>) {
         match outcome {
             Ok(()) => self.accepted(step),
             Err(fault) => self.refused(step, fault),
@@ -90,12 +109,12 @@ impl Turns {
     }
 
     /// A task holds a claim.
-    pub(crate) fn claimed(&mut self, task: u32) {
+    pub fn claimed(&mut self, task: u32) {
         self.schedule.claimed(task);
     }
 
     /// What came of a task's job. A result that comes too late is dropped.
-    pub(crate) fn finished(&mut self, task: u32, outcome: Result<(), CoreFault>) {
+    pub fn finished(&mut self, task: u32, outcome: Result<(), CoreFault>) {
         match outcome {
             Ok(()) => {
                 self.schedule.unclaimed(task);
@@ -109,7 +128,7 @@ impl Turns {
     }
 
     /// Counts the turn of a worker that waits with its job. False where the run is over, or no turn is left.
-    pub(crate) fn wait(&mut self) -> bool {
+    pub fn wait(&mut self) -> bool {
         if self.end.is_some() {
             return false;
         }
@@ -122,7 +141,7 @@ impl Turns {
     }
 
     /// What came of a task's taking of a barrier.
-    pub(crate) fn took_barrier(&mut self, place: Place, outcome: Result<Effect, CoreFault>) {
+    pub fn took_barrier(&mut self, place: Place, outcome: Result<Effect, CoreFault>) {
         match outcome {
             Ok(effect) => {
                 let is_copy = matches!(effect, Effect::Copy | Effect::CopyAndDone);
@@ -147,7 +166,7 @@ impl Turns {
     }
 
     /// A step was refused.
-    pub(crate) fn refused(&mut self, step: Step, fault: CoreFault) {
+    pub fn refused(&mut self, step: Step, fault: CoreFault) {
         match fault {
             CoreFault::Memory => self.stop(RunFault::Memory),
             CoreFault::NumbersSpent | CoreFault::BadSnapshot => self.stop(RunFault::Core(fault)),

@@ -1,5 +1,4 @@
-//! Which step comes next. Nothing is proved of it but that it ends: every call of the core is right
-//! whatever is asked for, and what the schedule forgot is found by a pass over all before a run ends.
+//! Which step comes next.
 
 use crate::inputs::{Inputs, Place};
 use crate::rank_set::RankSet;
@@ -15,13 +14,21 @@ pub enum Step {
     Idle,
     /// Nothing is to be had at once, and the next choice finds out more.
     Look,
+    /// The job is restarted.
     Restart,
+    /// A checkpoint begins.
     Trigger,
+    /// A source task sends the barrier.
     Inject(u32),
+    /// A task's part is put in the store.
     Persist(u32),
+    /// The checkpoint becomes complete.
     Complete,
+    /// A sink subtask commits.
     Commit(u32),
+    /// A source task sends a record.
     Read(u32),
+    /// A task takes what stands at the head of an input.
     Work(Place),
 }
 

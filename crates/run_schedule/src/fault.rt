@@ -1,6 +1,6 @@
 //! Why a run is refused.
 
-use dataflow_core::CoreFault;
+use core_model::CoreFault;
 use thiserror::Error;
 
 /// Why a run is refused.
