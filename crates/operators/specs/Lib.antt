@@ -1,9 +1,5 @@
 pub mod Operator
 pub mod Exact
-pub mod Chains
-pub mod ChainLaws
-pub mod Picks
-pub mod PickLaws
 pub mod RowSpelling
 pub mod RowCode
 pub mod Lanes

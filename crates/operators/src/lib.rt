@@ -1,28 +1,22 @@
 //! Operators: what each makes of a record in the state of the record's key. Proved: the trait's
-//! laws for the nine row operators, for `Chain` and for `Pick`; `apply` is the operator's meaning.
+//! laws for the nine row operators; `apply` is the operator's meaning.
 //!
 //! An [`Operator`] is a value with a ghost `meaning`: a function of that value, a state and a record, which gives the next state and the records to send, each with its
 //! port. Every method is specified by the meaning, and the trait's laws say what a caller relies on: records that fit, and states that fit and have the operator's
 //! form, lead to such again, on the operator's own ports; records with one key have one lane; what compares equal is the same value. So a record that is worked off
 //! again after a failure, in the state of then, gives the same again.
 //!
-//! There are nine operators on rows ([`RowOp`]), an operator behind another ([`Chain`]), and one of two ([`Pick`]).
+//! There are nine operators on rows ([`RowOp`]).
 #![tactic(auto)]
 
-mod chain;
-mod keyless_row_op;
 mod operator;
 mod parameters;
-mod pick;
 mod row;
 mod row_op;
 mod row_state;
 
-pub use chain::Chain;
-pub use keyless_row_op::KeylessRowOp;
-pub use operator::{Operator, Outcome, Stateless};
+pub use operator::{Operator, Outcome};
 pub use parameters::{KEY_LIMIT, RowKey, WINDOW_LIMIT, WindowSize};
-pub use pick::Pick;
 pub use row::Row;
 pub use row_op::RowOp;
 pub use row_state::RowState;

@@ -5,7 +5,6 @@ ghost use Rattle.std.specs.Ordering.{is_eq};
 ghost use Rattle.abs_codec.specs.Same.{EqualIsSame};
 ghost use Rattle.abs_codec.specs.Spelling.{Fits};
 ghost use Rattle.dataflow_model.specs.Graph.{Meaning};
-ghost use Rattle.operators.specs.Chains.{HasNoKeys};
 ghost use Rattle.operators.specs.Operator.{OrderIsExact, KeysFit, KeysHaveLanes, IsGoodState, FreshIsGood, StatesStayGood, SentFits, KeylessKeepsFresh};
 
 use abs_codec::{Codec, NoMemory};
@@ -102,10 +101,4 @@ pub trait Operator: Eq + Drop {
 
     /// A record without a key leaves the fresh state as it is.
     ghost keyless_keeps_fresh: { KeylessKeepsFresh meaning };
-}
-
-/// An operator without keys: it keeps no state from record to record.
-pub trait Stateless: Operator {
-    /// No record has a key.
-    ghost has_no_keys: { HasNoKeys Self.meaning };
 }

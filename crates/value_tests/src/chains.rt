@@ -1,7 +1,8 @@
 //! What chains and picks make of their operators, and how lanes and states are spelled. What each kind makes of rows stands in tests/scripts.
 
 use abs_codec::{Codec, Items, NoMemory, Text};
-use operators::{Chain, KeylessRowOp, Operator, Outcome, Pick, Row, RowOp, RowState};
+use composed_operators::{Chain, KeylessRowOp, Pick};
+use operators::{Operator, Outcome, Row, RowOp, RowState};
 use std::alloc::{AllocError, Global};
 use std::process::Abort;
 use std::test::Fail;

@@ -1,10 +1,10 @@
 -- The laws of one of two operators.
 use Rattle.std.proofs.Common.{◌≡◌, Option, Some, None}
 use Rattle.dataflow_model.specs.Graph.{Meaning}
-use Rattle.operators.specs.Chains.{HasNoKeys}
+use Rattle.composed_operators.specs.Chains.{HasNoKeys}
 use Rattle.operators.specs.Operator.{KeysFit, KeysHaveLanes, FreshIsGood, StatesStayGood, SentFits, KeylessKeepsFresh}
-use Rattle.operators.specs.Picks.{pick_meaning, PickSuits}
-use Rattle.operators.specs.declared.pick.Pick.TheVariants.{First, Second}
+use Rattle.composed_operators.specs.Picks.{pick_meaning, PickSuits}
+use Rattle.composed_operators.specs.declared.pick.Pick.TheVariants.{First, Second}
 
 no_key : {K : Type 0} (o : Option K) (key : K) → o ≡ None → o ≡ Some key → ⊥
 no_key o key none some = cc

@@ -1,8 +1,8 @@
 -- What one of two operators means.
 use Rattle.std.specs.Prelude.{ℕ, Option}
 use Rattle.dataflow_model.specs.Graph.{Meaning, Outcome}
-use Rattle.operators.specs.declared.pick.Pick.{Pick}
-use Rattle.operators.specs.declared.pick.Pick.TheVariants.{First, Second}
+use Rattle.composed_operators.specs.declared.pick.Pick.{Pick}
+use Rattle.composed_operators.specs.declared.pick.Pick.TheVariants.{First, Second}
 
 module _ {R K S A B : Type 0} where
   abbrev pub pick_key : Meaning R K S A → Meaning R K S B → Pick A B → R → Option K

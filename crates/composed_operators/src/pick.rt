@@ -1,7 +1,8 @@
 //! One of two operators.
 
-use crate::operator::{Operator, Outcome, Stateless};
+use crate::stateless::Stateless;
 use abs_codec::{Codec, NoMemory};
+use operators::{Operator, Outcome};
 use std::alloc::Global;
 
 /// One of two operators on the same records, keys and states.
@@ -14,10 +15,10 @@ pub enum Pick<A, B> {
 impl<A: Operator, B: Stateless<Record = A::Record, Key = A::Key, State = A::State>> Operator
     for Pick<A, B> {
     ghost use Rattle.std.proofs.Common.{ap};
-    ghost use Rattle.operators.specs.declared.pick.Pick.TheVariants.{First, Second};
+    ghost use Rattle.composed_operators.specs.declared.pick.Pick.TheVariants.{First, Second};
     ghost use Rattle.abs_codec.specs.Spelling.{Fits};
-    ghost use Rattle.operators.specs.Picks.{pick_meaning, PickSuits};
-    ghost use Rattle.operators.specs.PickLaws.{pick_keys_fit, pick_keys_have_lanes, pick_keyless_keeps_fresh, pick_fresh_is_good, pick_states_stay_good, pick_sent_fits};
+    ghost use Rattle.composed_operators.specs.Picks.{pick_meaning, PickSuits};
+    ghost use Rattle.composed_operators.specs.PickLaws.{pick_keys_fit, pick_keys_have_lanes, pick_keyless_keeps_fresh, pick_fresh_is_good, pick_states_stay_good, pick_sent_fits};
 
     type Record = A::Record;
 
@@ -105,7 +106,7 @@ impl<A: Operator, B: Stateless<Record = A::Record, Key = A::Key, State = A::Stat
 
 impl<A: Stateless, B: Stateless<Record = A::Record, Key = A::Key, State = A::State>> Stateless
     for Pick<A, B> {
-    ghost use Rattle.operators.specs.PickLaws.{pick_has_no_keys};
+    ghost use Rattle.composed_operators.specs.PickLaws.{pick_has_no_keys};
 
     ghost has_no_keys = { pick_has_no_keys A.meaning B.meaning A.has_no_keys B.has_no_keys };
 }

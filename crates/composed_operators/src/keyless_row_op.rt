@@ -3,11 +3,9 @@
 ghost use Rattle.std.specs.Prelude.{◌≡◌, IfSome, IfNone, IfOk, true, false};
 ghost use Rattle.operators.specs.RowMeaning.{is_keyless};
 
-use crate::operator::{Operator, Outcome, Stateless};
-use crate::row::Row;
-use crate::row_op::RowOp;
-use crate::row_state::RowState;
+use crate::stateless::Stateless;
 use abs_codec::{NoMemory, Text};
+use operators::{Operator, Outcome, Row, RowOp, RowState};
 use std::alloc::Global;
 
 /// A row operator that keeps no state, as the second of a [`Chain`](crate::Chain) must be: any but count, sum and window.

@@ -3,11 +3,12 @@
 ghost use Rattle.std.specs.Prelude.{◌≡◌, ◌++◌, OnOk, IfOk};
 ghost use Rattle.std.specs.List.{All, flat_map};
 ghost use Rattle.abs_codec.specs.Spelling.{Fits};
-ghost use Rattle.operators.specs.Chains.{CanBeChained, passed_on};
+ghost use Rattle.composed_operators.specs.Chains.{CanBeChained, passed_on};
 ghost use Rattle.operators.specs.Operator.{MayBeSent};
 
-use crate::operator::{Operator, Outcome, Stateless};
+use crate::stateless::Stateless;
 use abs_codec::{Codec, NoMemory};
+use operators::{Operator, Outcome};
 use std::alloc::Global;
 
 /// An operator whose port 0 goes through a second one.
@@ -71,9 +72,9 @@ impl<A: Operator, B: Stateless<Record = A::Record>> Chain<A, B> {
 impl<A: Operator, B: Stateless<Record = A::Record>> Operator for Chain<A, B> {
     ghost use Rattle.std.proofs.Props.{props};
     ghost use Rattle.std.specs.Cmp.{first_so, second_so};
-    ghost use Rattle.operators.specs.Chains.{chain_meaning};
-    ghost use Rattle.operators.specs.ChainLaws.{chain_sent_fits};
-    ghost use Rattle.operators.specs.Exact.{same_parts};
+    ghost use Rattle.composed_operators.specs.Chains.{chain_meaning};
+    ghost use Rattle.composed_operators.specs.ChainLaws.{chain_sent_fits};
+    ghost use Rattle.composed_operators.specs.Exact.{same_parts};
 
     type Record = A::Record;
 

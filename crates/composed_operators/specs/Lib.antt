@@ -1,0 +1,5 @@
+pub mod Exact
+pub mod Chains
+pub mod ChainLaws
+pub mod Picks
+pub mod PickLaws
