@@ -1,6 +1,6 @@
 #!/usr/bin/env bash
-# tests/bench.sh [ROWS [KEYS]]: seconds, rows a second and peak memory of a count over so many rows and keys (1,000,000 and 10,000) through
-# bin/absflow, with 1 worker and with 4.
+# tests/bench.sh [ROWS [KEYS]]: seconds, processor seconds, rows a second and peak memory through bin/absflow: of a count over a tenth of so many rows and
+# over all of them (1,000,000 rows, 10,000 keys), with 1 worker and with 4; and of a line, which can use one worker, with 1 and with 8.
 set -euo pipefail
 cd "$(dirname "$0")/.."
 rows=${1:-1000000} keys=${2:-10000}
@@ -8,25 +8,41 @@ work=$(mktemp -d)
 trap 'rm -rf "$work"' EXIT
 
 # A count in four tasks, each with a sink of its own.
-cat > "$work/job.json" <<'JOB'
+cat > "$work/count.json" <<'JOB'
 {"vertices":[{"name":"rows","kind":"source"},{"name":"count","kind":"count","parallelism":4},{"name":"counts","kind":"sink","parallelism":4}],
  "edges":[{"from":"rows","to":"count","route":"hash"},{"from":"count","to":"counts"}]}
 JOB
-awk -v rows="$rows" -v keys="$keys" 'BEGIN {
-    srand(1)
-    for (i = 0; i < rows; i++) printf "{\"k\":\"key%d\",\"v\":%d}\n", int(rand() * keys), int(rand() * 2000) - 1000
-}' > "$work/rows.jsonl"
+cat > "$work/line.json" <<'JOB'
+{"vertices":[{"name":"rows","kind":"source"},{"name":"plus","kind":"add","n":10},{"name":"out","kind":"sink"}],
+ "edges":[{"from":"rows","to":"plus"},{"from":"plus","to":"out"}]}
+JOB
 
-for workers in 1 4; do
-    python3 - "$rows" "$workers" bin/absflow run "$work/job.json" "$work/rows.jsonl" --workers "$workers" --every 100000 > "$work/told" <<'PYTHON'
+# put_rows N: so many rows over all keys.
+put_rows() {
+    awk -v rows="$1" -v keys="$keys" 'BEGIN {
+        srand(1)
+        for (i = 0; i < rows; i++) printf "{\"k\":\"key%d\",\"v\":%d}\n", int(rand() * keys), int(rand() * 2000) - 1000
+    }' > "$work/rows.jsonl"
+}
+
+# measure NAME ROWS WORKERS: one run of the job of this name over the rows.
+measure() {
+    python3 - "$1" "$2" "$3" bin/absflow run "$work/$1.json" "$work/rows.jsonl" --workers "$3" --every 100000 <<'PYTHON'
 import os, resource, subprocess, sys, time
-rows, workers, command = int(sys.argv[1]), sys.argv[2], sys.argv[3:]
+name, rows, workers, command = sys.argv[1], int(sys.argv[2]), sys.argv[3], sys.argv[4:]
 start = time.time()
 with open(os.devnull, "w") as nowhere:
     status = subprocess.call(command, stdout=nowhere)
 seconds = time.time() - start
-peak = resource.getrusage(resource.RUSAGE_CHILDREN).ru_maxrss / 1024
-print(f"{rows} rows, {workers} workers: {seconds:.2f} s, {rows / seconds:.0f} rows a second, {peak:.0f} MB at most, status {status}")
+used = resource.getrusage(resource.RUSAGE_CHILDREN)
+print(f"{name}, {rows} rows, {workers} workers: {seconds:.2f} s ({used.ru_utime + used.ru_stime:.2f} of processors), "
+      f"{rows / seconds:.0f} rows a second, {used.ru_maxrss / 1024:.0f} MB at most, status {status}")
 PYTHON
-    cat "$work/told"
+}
+
+for many in $((rows / 10)) "$rows"; do
+    put_rows "$many"
+    for workers in 1 4; do measure count "$many" "$workers"; done
 done
+put_rows $((rows / 5))
+for workers in 1 8; do measure line $((rows / 5)) "$workers"; done
