@@ -1,6 +1,6 @@
 //! The core's calls, under their own names: each does what it does there, and adds nothing to the total.
 
-ghost use Rattle.std.specs.Prelude.{◌≡◌, ◌⊎◌, ◌×◌, ◌≤◌, ◌<◌, IsTrue, IfOk, IfErr, OnOk, MatchOption, length, count_by, slice_get};
+ghost use Rattle.std.specs.Prelude.{◌≡◌, ◌⊎◌, ◌≤◌, ◌<◌, IsTrue, IfOk, IfErr, OnOk, MatchOption, length, count_by, slice_get};
 ghost use Rattle.std.specs.Option.{option_map};
 ghost use Rattle.abs_codec.specs.Spelling.{Fits};
 ghost use Rattle.commit_sink.specs.Ledger.{committed_rows};
