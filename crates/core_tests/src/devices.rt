@@ -1,8 +1,8 @@
 //! Devices in memory, as tests hold them.
 
+use crate::jobs::expanded;
 use commit_sink::{FlakyTransactions, MemoryTransactions, TransactionFault, Transactions};
 use job_graph::Graph;
-use job_spec::JobSpec;
 use operators::{Operator, Row, RowOp};
 use recovery::{RecoveryFault, Restored, restore};
 use snapshot_store::{FlakyStore, MemoryStore, SnapshotStore, StoreFault};
@@ -11,19 +11,37 @@ use std::alloc::Global;
 use std::marker::Model;
 use std::test::Fail;
 
-/// A log, a store and transactions. Contracts see nothing of them, so that a test that owns them has
-/// nothing of them to prove.
+/// A log, a store and transactions.
+#[derive(Drop)]
+pub(crate) struct Durable<P, S, X> {
+    pub(crate) log: P,
+    pub(crate) store: S,
+    pub(crate) sinks: X,
+}
+
+/// Devices in memory.
+pub(crate) type InMemory = Durable<
+    FlakyLog<MemoryLog<Row>>,
+    FlakyStore<MemoryStore>,
+    FlakyTransactions<MemoryTransactions>,
+>;
+
+/// Devices, in a box. Contracts see nothing of them, and to let them go is one call: so a test that
+/// owns them has nothing of them to prove.
 #[derive(Drop)]
 pub(crate) struct Devices {
-    pub(crate) log: FlakyLog<MemoryLog<Row>>,
-    pub(crate) store: FlakyStore<MemoryStore>,
-    pub(crate) sinks: FlakyTransactions<MemoryTransactions>,
+    held: Box<InMemory>,
 }
 
 impl Model for Devices {
     ghost Value = { Unit {0} };
 
     ghost view = { λ _. tt };
+}
+
+/// A value in a box.
+pub(crate) fn boxed<T: Drop>(alloc: Global, value: T) -> Result<Box<T>, Fail> {
+    Ok(Box::new(alloc, value)?)
 }
 
 /// Gives out a number, puts the other store's parts of checkpoint 1, but for that of one task, and
@@ -57,35 +75,43 @@ fn read_back<O: Operator, S: SnapshotStore, P: Partitions<Record = O::Record>>(
 }
 
 impl Devices {
+    /// These ones.
+    pub(crate) fn from_box(held: Box<InMemory>) -> Self {
+        Devices { held }
+    }
+
+    /// What stands in the box.
+    pub(crate) fn into_box(self) -> Box<InMemory> {
+        self.held
+    }
+
     /// Blank ones.
-    fn blank(alloc: Global, log: MemoryLog<Row>, tasks: u32, sinks: u32) -> Result<Self, Fail> {
+    fn blank(alloc: Global, graph: &Graph) -> Result<Self, Fail> {
+        let tasks = graph.tasks();
         if tasks == 0 {
             return Err(Fail::new("the job has no task"));
         }
-        Ok(Devices {
-            log: FlakyLog::new(log),
-            store: FlakyStore::new(MemoryStore::new(alloc, tasks)),
-            sinks: FlakyTransactions::new(MemoryTransactions::new(alloc, sinks)),
-        })
+        let log = FlakyLog::new(MemoryLog::new(alloc, graph.sources())?);
+        let store = FlakyStore::new(MemoryStore::new(alloc, tasks));
+        let sinks = FlakyTransactions::new(MemoryTransactions::new(alloc, graph.sinks()));
+        let held = boxed(alloc, Durable { log, store, sinks })?;
+        Ok(Devices { held })
     }
 
     /// New ones for a job.
     pub(crate) fn new(alloc: Global, job: &str) -> Result<Self, Fail> {
-        let job = JobSpec::read(alloc, job.as_bytes())?;
-        let graph = Graph::expand(alloc, &job)?;
-        let log = MemoryLog::new(alloc, graph.sources())?;
-        Devices::blank(alloc, log, graph.tasks(), graph.sinks())
+        let (graph, _) = expanded(alloc, job)?;
+        Devices::blank(alloc, &graph)
     }
 
-    /// The part of a task in a checkpoint.
+    /// The part of a task in the checkpoint.
     pub(crate) fn part(&mut self, number: u64, task: u32) -> Result<Vec<u8>, StoreFault> {
-        let Devices { store, .. } = self;
-        store.get(number, task)
+        self.held.store.get(number, task)
     }
 
     /// The store is another one.
     pub(crate) fn set_store(&mut self, store: MemoryStore) {
-        self.store = FlakyStore::new(store);
+        self.held.store = FlakyStore::new(store);
     }
 
     /// The store is one with the same parts of checkpoint 1, but for that of one task.
@@ -96,26 +122,24 @@ impl Devices {
         part: &[u8],
     ) -> Result<(), StoreFault> {
         let mut copy = FlakyStore::new(MemoryStore::new(alloc, 3));
-        fill(&mut copy, &mut self.store, other, part)?;
-        self.store = copy;
+        fill(&mut copy, &mut self.held.store, other, part)?;
+        self.held.store = copy;
         Ok(())
     }
 
     /// The transactions of the one sink that are open or pre-committed.
     pub(crate) fn unsettled(&mut self) -> Result<Vec<(u64, Option<u64>)>, TransactionFault> {
-        let Devices { sinks, .. } = self;
-        sinks.unsettled(0)
+        self.held.sinks.unsettled(0)
     }
 
     /// A transaction is aborted.
     pub(crate) fn abort(&mut self, transaction: u64) -> Result<(), TransactionFault> {
-        let Devices { sinks, .. } = self;
-        sinks.abort(transaction)
+        self.held.sinks.abort(transaction)
     }
 
     /// How many rows the first sink subtask has committed.
     pub(crate) fn committed_len(&self) -> u64 {
-        self.sinks.committed_len(0)
+        self.held.sinks.committed_len(0)
     }
 
     /// What a restart reads of them.
@@ -125,13 +149,13 @@ impl Devices {
         graph: &Graph,
         operators: &[RowOp],
     ) -> Result<Restored<RowOp>, RecoveryFault> {
-        let Devices { log, store, .. } = self;
+        let Durable { log, store, .. } = &mut *self.held;
         read_back(alloc, graph, operators, store, log)
     }
 
     /// The store and the transactions, without the faults that they are to meet.
     pub(crate) fn into_faultless(self) -> (MemoryStore, MemoryTransactions) {
-        let Devices { store, sinks, .. } = self;
+        let Durable { store, sinks, .. } = Box::into_inner(self.held);
         (store.into_inner(), sinks.into_inner())
     }
 }

@@ -24,7 +24,7 @@ fn after_a_failed_copy(rt: &impl Abort, alloc: Global, fault: &str) -> Result<De
     ];
     let mut core = opened(alloc, LINE)?;
     expect_answers(rt, alloc, &mut core, &steps)?;
-    Ok(core.into_devices())
+    core.into_devices(alloc)
 }
 
 /// A sink's copy begins a transaction and pre-commits the one before it. Where either fails, the

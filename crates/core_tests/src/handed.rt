@@ -2,14 +2,12 @@
 
 use crate::cores::{expect_answers, opened};
 use crate::devices::Devices;
-use crate::jobs::LINE;
+use crate::jobs::{LINE, expanded};
 use crate::lists::{almost_spent, store_of_lists};
 use crate::test_core::TestCore;
 use abs_codec::{Bytes, Map};
 use commit_sink::{MemoryTransactions, Progress};
 use core_model::Start;
-use job_graph::Graph;
-use job_spec::JobSpec;
 use operators::RowOp;
 use recovery::Restored;
 use snapshot_store::MemoryStore;
@@ -38,7 +36,7 @@ const FIRST_CHECKPOINT: [(&str, &str); 13] = [
 fn used(rt: &impl Abort, alloc: Global) -> Result<Devices, Fail> {
     let mut core = opened(alloc, LINE)?;
     expect_answers(rt, alloc, &mut core, &FIRST_CHECKPOINT)?;
-    Ok(core.into_devices())
+    core.into_devices(alloc)
 }
 
 /// A core that is opened over such devices goes on from them.
@@ -84,7 +82,7 @@ fn lose_a_part(alloc: Global, devices: &mut Devices) -> Result<(), Fail> {
 fn refused(rt: &impl Abort, alloc: Global, devices: Devices) -> Result<Devices, Fail> {
     let mut core = TestCore::open(alloc, LINE, devices)?;
     expect_answers(rt, alloc, &mut core, &[("restart", "K15 BadSnapshot")])?;
-    Ok(core.into_devices())
+    core.into_devices(alloc)
 }
 
 /// A restart over these devices is refused, and the transactions are as they were.
@@ -149,9 +147,7 @@ fn a_name_of_no_pre_committed_transaction_is_refused(rt: HostRuntime) -> Result<
 /// What the restart of a line reads.
 fn restored_line(rt: &impl Abort, alloc: Global) -> Result<Restored<RowOp>, Fail> {
     let mut devices = used(rt, alloc)?;
-    let job = JobSpec::read(alloc, LINE.as_bytes())?;
-    let graph = Graph::expand(alloc, &job)?;
-    let operators = job.operators(alloc)?;
+    let (graph, operators) = expanded(alloc, LINE)?;
     Ok(devices.restored(alloc, &graph, &operators)?)
 }
 

@@ -1,4 +1,10 @@
-//! Jobs as text.
+//! Jobs as text, and what is read of them.
+
+use job_graph::Graph;
+use job_spec::JobSpec;
+use operators::RowOp;
+use std::alloc::Global;
+use std::test::Fail;
 
 /// A source, an operator that adds 10, and a sink: tasks 0, 1 and 2.
 pub(crate) const LINE: &str =
@@ -17,3 +23,11 @@ pub(crate) const LONG_LOOP: &str =
 /// sink.
 pub(crate) const EARLY: &str =
     r#"{"vertices":[{"name":"s","kind":"source"},{"name":"a","kind":"add","n":0},{"name":"b","kind":"add","n":0},{"name":"out","kind":"sink"}],"edges":[{"from":"s","to":"a"},{"from":"s","to":"b"},{"from":"a","to":"b","back":true},{"from":"b","to":"out"}]}"#;
+
+/// The graph of a job, and its operators.
+pub(crate) fn expanded(alloc: Global, job: &str) -> Result<(Graph, Vec<RowOp>), Fail> {
+    let job = JobSpec::read(alloc, job.as_bytes())?;
+    let graph = Graph::expand(alloc, &job)?;
+    let operators = job.operators(alloc)?;
+    Ok((graph, operators))
+}

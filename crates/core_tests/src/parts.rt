@@ -47,7 +47,7 @@ fn devices_after(
 ) -> Result<Devices, Fail> {
     let mut core = opened(alloc, job)?;
     expect_answers(rt, alloc, &mut core, steps)?;
-    Ok(core.into_devices())
+    core.into_devices(alloc)
 }
 
 fn expect_part(rt: &impl Abort, devices: &mut Devices, task: u32, part: &[u8]) -> Result<(), Fail> {

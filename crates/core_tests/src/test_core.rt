@@ -3,26 +3,39 @@
 ghost use Rattle.std.specs.List.{AllByRecursion};
 ghost use Rattle.dataflow_core.specs.Runs.{StepFits};
 
-use crate::devices::Devices;
-use absflow_run::{Answer, CommittedRows, RowCore, make_step};
-use commit_sink::Transactions;
+use crate::devices::{Devices, Durable, boxed};
+use crate::jobs::expanded;
+use absflow_run::{Answer, CommittedRows, make_step};
+use commit_sink::{FlakyTransactions, MemoryTransactions, Transactions};
 use dataflow_core::{Core, CoreFault, Desk, Reply, Rules, Step};
 use job_graph::Graph;
-use job_spec::JobSpec;
 use operators::{Operator, Row, RowOp};
 use script_file::Step as ScriptStep;
-use snapshot_store::SnapshotStore;
-use source_log::Partitions;
+use snapshot_store::{FlakyStore, MemoryStore, SnapshotStore};
+use source_log::{FlakyLog, MemoryLog, Partitions};
 use std::alloc::Global;
 use std::marker::Model;
 use std::test::Fail;
 
-/// A core and the desk of its jobs. Contracts see nothing of them, so that a test that owns them has
-/// nothing of them to prove.
+/// A core and the desk of its jobs.
+#[derive(Drop)]
+struct Held<O: Operator, S: SnapshotStore, X: Transactions, P: Partitions<Record = O::Record>> {
+    core: Core<O, S, X, P>,
+    desk: Desk<O>,
+}
+
+/// A core and the desk of its jobs, in a box. Contracts see nothing of them, and to let them go is
+/// one call: so a test that owns them has nothing of them to prove.
 #[derive(Drop)]
 pub(crate) struct TestCore {
-    core: RowCore,
-    desk: Desk<RowOp>,
+    held: Box<
+        Held<
+            RowOp,
+            FlakyStore<MemoryStore>,
+            FlakyTransactions<MemoryTransactions>,
+            FlakyLog<MemoryLog<Row>>,
+        >,
+    >,
 }
 
 impl Model for TestCore {
@@ -41,17 +54,18 @@ fn open_over<
     alloc: Global,
     graph: Graph,
     operators: Vec<O>,
-    log: P,
-    store: S,
-    sinks: X,
-) -> Option<Core<O, S, X, P>> {
+    devices: Durable<P, S, X>,
+) -> Result<Box<Held<O, S, X, P>>, Fail> {
+    let Durable { log, store, sinks } = devices;
     if operators.len() != graph.operators() as usize || log.count() != graph.sources() {
-        return None;
+        return Err(Fail::new("another log than the job's"));
     }
     if store.tasks() != graph.tasks() || sinks.subtasks() != graph.sinks() {
-        return None;
+        return Err(Fail::new("other devices than the job's"));
     }
-    Some(Core::open(alloc, graph, operators, log, store, sinks))
+    let core = Core::open(alloc, graph, operators, log, store, sinks);
+    let desk = Desk::new(alloc);
+    boxed(alloc, Held { core, desk })
 }
 
 /// Makes the calls.
@@ -68,8 +82,20 @@ fn make_calls<O: Operator, S: SnapshotStore, X: Transactions, P: Partitions<Reco
 /// What a core hands out.
 fn durable<O: Operator, S: SnapshotStore, X: Transactions, P: Partitions<Record = O::Record>>(
     core: Core<O, S, X, P>,
-) -> (P, S, X) {
-    core.into_durable()
+) -> Durable<P, S, X> {
+    let (log, store, sinks) = core.into_durable();
+    Durable { log, store, sinks }
+}
+
+/// The devices that a core hands out, in a box.
+fn boxed_durable<
+    O: Operator,
+    S: SnapshotStore + Drop,
+    X: Transactions + Drop,
+    P: Partitions<Record = O::Record> + Drop,
+>(alloc: Global, held: Box<Held<O, S, X, P>>) -> Result<Box<Durable<P, S, X>>, Fail> {
+    let Held { core, .. } = Box::into_inner(held);
+    boxed(alloc, durable(core))
 }
 
 /// Whether a core was opened over new devices.
@@ -90,29 +116,17 @@ fn row_of(core: &impl CommittedRows, sink: u32, number: u64) -> Result<Option<Ve
 }
 
 impl TestCore {
-    /// A core that runs a job over these devices, down.
-    fn over(alloc: Global, graph: Graph, operators: Vec<RowOp>, devices: Devices) -> Option<Self> {
-        let Devices { log, store, sinks } = devices;
-        let core = open_over(alloc, graph, operators, log, store, sinks)?;
-        Some(TestCore {
-            core,
-            desk: Desk::new(alloc),
-        })
-    }
-
     /// The job over these devices, down.
     pub(crate) fn open(alloc: Global, job: &str, devices: Devices) -> Result<Self, Fail> {
-        let job = JobSpec::read(alloc, job.as_bytes())?;
-        let graph = Graph::expand(alloc, &job)?;
-        let operators = job.operators(alloc)?;
-        TestCore::over(alloc, graph, operators, devices).ok_or_else(|| Fail::new(
-            "other devices than the job's",
-        ))
+        let (graph, operators) = expanded(alloc, job)?;
+        let devices = Box::into_inner(devices.into_box());
+        let held = open_over(alloc, graph, operators, devices)?;
+        Ok(TestCore { held })
     }
 
     /// Makes a script's step.
     pub(crate) fn make(&mut self, step: ScriptStep) -> Answer {
-        let TestCore { core, desk } = self;
+        let Held { core, desk } = &mut *self.held;
         make_step(core, desk, step)
     }
 
@@ -120,26 +134,24 @@ impl TestCore {
     pub(crate) fn make_calls(&mut self, calls: &[Step<Row>]) -> Result<Vec<Reply>, CoreFault>
         requires { AllByRecursion (StepFits ⟦<RowOp as Rules>⟧.RecordFits) calls.now }
     {
-        let TestCore { core, desk } = self;
+        let Held { core, desk } = &mut *self.held;
         make_calls(core, desk, calls)
     }
 
     pub(crate) fn is_fresh(&self) -> bool {
-        freshness(&self.core)
+        freshness(&self.held.core)
     }
 
     pub(crate) fn committed_len(&self, sink: u32) -> Result<u64, CoreFault> {
-        len_of(&self.core, sink)
+        len_of(&self.held.core, sink)
     }
 
     pub(crate) fn committed(&self, sink: u32, number: u64) -> Result<Option<Vec<u8>>, CoreFault> {
-        row_of(&self.core, sink, number)
+        row_of(&self.held.core, sink, number)
     }
 
     /// The devices, as they stand.
-    pub(crate) fn into_devices(self) -> Devices {
-        let TestCore { core, .. } = self;
-        let (log, store, sinks) = durable(core);
-        Devices { log, store, sinks }
+    pub(crate) fn into_devices(self, alloc: Global) -> Result<Devices, Fail> {
+        Ok(Devices::from_box(boxed_durable(alloc, self.held)?))
     }
 }
