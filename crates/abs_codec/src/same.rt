@@ -1,4 +1,5 @@
-//! Values that compare equal are the same value: what `==` and `cmp` cannot tell apart, nothing can.
+//! Values that compare equal are the same value: what `==` and `cmp` cannot tell apart, nothing
+//! can.
 
 ghost use Rattle.std.specs.Prelude.{◌≡◌};
 ghost use Rattle.std.specs.declared.cmp.Ordering.TheVariants.{Equal};

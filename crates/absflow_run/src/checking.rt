@@ -21,7 +21,8 @@ fn judge<R: Read + Drop, W: Write>(alloc: Global, file: R, out: &mut W) -> Resul
     )
 }
 
-/// Says how many tasks, channels and sink subtasks a job has, and answers the exit status: 0, or 1 where it was refused.
+/// Says how many tasks, channels and sink subtasks a job has, and answers the exit status: 0, or 1
+/// where it was refused.
 pub fn check<R: Read + Drop, W: Write, E: Write>(
     alloc: Global,
     job: R,

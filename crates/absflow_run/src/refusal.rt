@@ -17,7 +17,8 @@ use std::io;
 use std::io::Write;
 use thiserror::Error;
 
-/// Why a script or a job was refused or given up. Its text is the line on standard error, without the names of G9.
+/// Why a script or a job was refused or given up. Its text is the line on standard error, without
+/// the names of G9.
 #[derive(Debug, Drop, Error)]
 pub enum Refusal {
     /// The file can't be read on.
@@ -67,7 +68,8 @@ impl From<ScriptFault> for Refusal {
 }
 
 impl From<CoreFault> for Refusal {
-    ghost from_gives = { λ fault e. (fault ≡ CoreFault.Memory → e ≡ Refusal.Memory) × (fault ≢ CoreFault.Memory → e ≡ Refusal.Core fault) };
+    ghost from_gives = { λ fault e. (fault ≡ CoreFault.Memory → e ≡ Refusal.Memory)
+        × (fault ≢ CoreFault.Memory → e ≡ Refusal.Core fault) };
 
     fn from(fault: CoreFault) -> Refusal {
         match fault {
@@ -78,7 +80,8 @@ impl From<CoreFault> for Refusal {
 }
 
 impl From<CodecFault> for Refusal {
-    ghost from_gives = { λ fault e. (fault ≡ CodecFault.Memory → e ≡ Refusal.Memory) × (fault ≢ CodecFault.Memory → e ≡ Refusal.Record fault) };
+    ghost from_gives = { λ fault e. (fault ≡ CodecFault.Memory → e ≡ Refusal.Memory)
+        × (fault ≢ CodecFault.Memory → e ≡ Refusal.Record fault) };
 
     fn from(fault: CodecFault) -> Refusal {
         match fault {
@@ -89,7 +92,8 @@ impl From<CodecFault> for Refusal {
 }
 
 impl From<SourceFault> for Refusal {
-    ghost from_gives = { λ fault e. (fault ≡ SourceFault.Memory → e ≡ Refusal.Memory) × (fault ≢ SourceFault.Memory → e ≡ Refusal.Source fault) };
+    ghost from_gives = { λ fault e. (fault ≡ SourceFault.Memory → e ≡ Refusal.Memory)
+        × (fault ≢ SourceFault.Memory → e ≡ Refusal.Source fault) };
 
     fn from(fault: SourceFault) -> Refusal {
         match fault {
@@ -130,7 +134,8 @@ impl Refusal {
     }
 }
 
-/// The exit status of a command: 0, or 1 where it was refused or given up, which is then said. Output that fails is a refusal too.
+/// The exit status of a command: 0, or 1 where it was refused or given up, which is then said.
+/// Output that fails is a refusal too.
 pub fn finish<W: Write, E: Write>(outcome: Result<(), Refusal>, out: &mut W, err: &mut E) -> u8
     ensures { result ≤ 1 }
 {

@@ -16,7 +16,8 @@ fn append_rows(
     partition: u32,
     rows: Vec<FittingRow>,
 ) -> Result<(), SourceFault>
-    ensures { OnOk result (⟦<MemoryLog<Row> as Partitions>⟧.records log.new ≡ with_rows (⟦<MemoryLog<Row> as Partitions>⟧.records log.old) partition rows.items) }
+    ensures { OnOk result (⟦<MemoryLog<Row> as Partitions>⟧.records log.new
+        ≡ with_rows (⟦<MemoryLog<Row> as Partitions>⟧.records log.old) partition rows.items) }
 {
     for row in rows {
         log.append(partition, row.into_row())?;
@@ -31,8 +32,10 @@ pub(crate) fn rows_log(
     partitions: Vec<Vec<FittingRow>>,
 ) -> Result<MemoryLog<Row>, Refusal>
     requires { length partitions.items ≡ count }
-    ensures count { IfOk result (λ log. length (⟦<MemoryLog<Row> as Partitions>⟧.records log) ≡ count) }
-    ensures rows { IfOk result (λ log. ⟦<MemoryLog<Row> as Partitions>⟧.records log ≡ map (λ rows. rows.items) partitions.items) }
+    ensures count { IfOk result (λ log. length
+        (⟦<MemoryLog<Row> as Partitions>⟧.records log) ≡ count) }
+    ensures rows { IfOk result (λ log. ⟦<MemoryLog<Row> as Partitions>⟧.records log
+        ≡ map (λ rows. rows.items) partitions.items) }
 {
     let mut log = MemoryLog::new(alloc, count)?;
     for (partition, rows) in (0..count).zip(partitions) {

@@ -53,8 +53,8 @@ fn run<R: Read + Drop, W: Write>(alloc: Global, file: R, out: &mut W) -> Result<
     serve(alloc, &mut core, steps, out)
 }
 
-/// Runs a script over new devices: an answer line for each step, then the committed rows. It answers the exit status: 0, or 1 where the
-/// script was refused or given up.
+/// Runs a script over new devices: an answer line for each step, then the committed rows. It
+/// answers the exit status: 0, or 1 where the script was refused or given up.
 pub fn script<R: Read + Drop, W: Write, E: Write>(
     alloc: Global,
     file: R,

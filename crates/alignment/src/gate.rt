@@ -10,7 +10,8 @@ use abs_codec::NoMemory;
 use std::alloc::Global;
 use std::marker::Model;
 
-/// Which inputs of a task are blocked, and which are logged, while the barriers of a checkpoint come in.
+/// Which inputs of a task are blocked, and which are logged, while the barriers of a checkpoint
+/// come in.
 #[derive(Drop)]
 pub struct Gate {
     phase: Phase,
@@ -29,13 +30,15 @@ impl Model for Gate {
 
     ghost view = { λ g. record { phase = g.phase; inputs = g.inputs.items } };
 
-    ghost invariant = { λ g. IsCounted g.phase g.inputs.items g.marked g.missing_unmarked g.missing_marked };
+    ghost invariant = { λ g. IsCounted g.phase g.inputs.items g.marked g.missing_unmarked
+        g.missing_marked };
 }
 
 impl Gate {
     /// A gate at rest. The marks say of each input whether it is a back-edge.
     pub fn new(alloc: Global, marks: &[bool]) -> Result<Self, NoMemory>
-        ensures at_rest { IfOk result (λ g. g ≡ record { phase = AtRest; inputs = map fresh marks.now }) }
+        ensures at_rest { IfOk result (λ g. g
+            ≡ record { phase = AtRest; inputs = map fresh marks.now }) }
         ensures kept { IfOk result (λ g. IsKept g.phase g.inputs) }
     {
         let mut inputs = Vec::with_capacity(alloc, marks.len())?;
@@ -74,7 +77,8 @@ impl Gate {
         self.inputs[input as usize].came
     }
 
-    /// Whether a record may be taken from the input: not while the gate is aligning and that input's barrier came.
+    /// Whether a record may be taken from the input: not while the gate is aligning and that
+    /// input's barrier came.
     pub fn may_take(&self, input: u32) -> bool
         requires { input < length self.now.inputs }
         ensures { result ≡ not (is_blocked self.now input) }
@@ -85,7 +89,8 @@ impl Gate {
         }
     }
 
-    /// Whether a record that is taken from the input is logged: only from an open marked input, once the task has copied.
+    /// Whether a record that is taken from the input is logged: only from an open marked input,
+    /// once the task has copied.
     pub fn logging(&self, input: u32) -> bool
         requires { input < length self.now.inputs }
         ensures { result ≡ is_logged self.now input }
@@ -94,7 +99,8 @@ impl Gate {
         matches!(self.phase, Phase::Copied(_)) && input.is_marked && !input.came
     }
 
-    /// The input's barrier of this number is taken. A number's last barrier takes time linear in the inputs, all others constant time.
+    /// The input's barrier of this number is taken. A number's last barrier takes time linear in
+    /// the inputs, all others constant time.
     pub fn barrier(&mut self, input: u32, number: u64) -> Effect
         requires within { input < length self.old.inputs }
         requires awaited { (input_at self.old.inputs input).came ≡ false }

@@ -3,8 +3,9 @@
 //! (back-edges) the records are logged (Carbone et al. 2015). Proved: what a barrier brings about,
 //! and which inputs are blocked and which are logged afterwards, is the gate's table.
 //!
-//! A [`Gate`] is at rest, aligning for a checkpoint number, or copied for one with some marked inputs still open. What a
-//! barrier does is one table, in `specs/Table.antt`. Only the gate's making takes memory.
+//! A [`Gate`] is at rest, aligning for a checkpoint number, or copied for one with some marked
+//! inputs still open. What a barrier does is one table, in `specs/Table.antt`. Only the gate's
+//! making takes memory.
 #![tactic(auto)]
 
 mod gate;

@@ -7,7 +7,8 @@ use abs_codec::NoMemory;
 use std::alloc::Global;
 use std::marker::Model;
 
-/// What was taken from a channel since its log was opened. It is open as long as the pending checkpoint's barrier has not come from the channel.
+/// What was taken from a channel since its log was opened. It is open as long as the pending
+/// checkpoint's barrier has not come from the channel.
 #[derive(Drop)]
 pub struct Log<R: Drop> {
     records: Vec<R>,
@@ -20,7 +21,11 @@ impl<R: Drop> Model for Log<R> {
 
     ghost Value = { Recorded R };
 
-    ghost view = { λ l. record { records = l.records.items; is_open = l.is_open; room = vec_capacity l.records - vec_len l.records } };
+    ghost view = { λ l. record {
+      records = l.records.items;
+      is_open = l.is_open;
+      room = vec_capacity l.records - vec_len l.records;
+    } };
 }
 
 impl<R: Drop> Log<R> {
@@ -71,13 +76,19 @@ impl<R: Drop> Log<R> {
 
     pub fn push_reserved(&mut self, taken: R)
         requires { 0 < self.old.room }
-        ensures { self.new ≡ record self.old { records = self.old.records ++ taken ∷ []; room = self.old.room - 1 } }
+        ensures { self.new ≡ record self.old {
+          records = self.old.records ++ taken ∷ [];
+          room = self.old.room - 1;
+        } }
     {
         self.records.push_reserved(taken);
     }
 
     pub fn drop_last(&mut self)
-        ensures after { self.new ≡ record self.old { records = without_last self.old.records; room = self.new.room } }
+        ensures after { self.new ≡ record self.old {
+          records = without_last self.old.records;
+          room = self.new.room;
+        } }
         ensures room { self.old.room ≤ self.new.room }
     {
         self.records.pop();

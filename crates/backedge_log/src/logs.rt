@@ -51,7 +51,8 @@ impl<R: Drop> Logs<R> {
         self.logs[channel as usize].records()
     }
 
-    /// Whether the channel's log is open: the pending checkpoint's barrier has not come from the channel.
+    /// Whether the channel's log is open: the pending checkpoint's barrier has not come from the
+    /// channel.
     pub fn is_open(&self, channel: u32) -> bool
         requires { channel < length self.now }
         ensures { result ≡ (log_at self.now channel).is_open }
@@ -62,7 +63,8 @@ impl<R: Drop> Logs<R> {
     /// The channel's log is open from now on, and empty. It takes no memory.
     pub fn open(&mut self, channel: u32)
         requires { channel < length self.old }
-        ensures after { self.new ≡ slice_set self.old channel (record { records = []; is_open = true; room = (log_at self.new channel).room }) }
+        ensures after { self.new ≡ slice_set self.old channel
+            (record { records = []; is_open = true; room = (log_at self.new channel).room }) }
         ensures room { (log_at self.old channel).room ≤ (log_at self.new channel).room }
     {
         self.logs[channel as usize].open();
@@ -78,10 +80,12 @@ impl<R: Drop> Logs<R> {
         }
     }
 
-    /// The channel's log is closed from now on, and stays as it is: the barrier has come. It takes no memory.
+    /// The channel's log is closed from now on, and stays as it is: the barrier has come. It takes
+    /// no memory.
     pub fn close(&mut self, channel: u32)
         requires { channel < length self.old }
-        ensures { self.new ≡ slice_set self.old channel (record (log_at self.old channel) { is_open = false }) }
+        ensures { self.new ≡ slice_set self.old channel
+            (record (log_at self.old channel) { is_open = false }) }
     {
         self.logs[channel as usize].close();
     }
@@ -92,7 +96,8 @@ impl<R: Drop> Logs<R> {
         ensures ok { OnOk result (0 < (log_at self.new channel).room) }
         ensures refused { OnErr result ((log_at self.old channel).room ≡ 0) }
         ensures room { (log_at self.old channel).room ≤ (log_at self.new channel).room }
-        ensures same { self.new ≡ slice_set self.old channel (record (log_at self.old channel) { room = (log_at self.new channel).room }) }
+        ensures same { self.new ≡ slice_set self.old channel
+            (record (log_at self.old channel) { room = (log_at self.new channel).room }) }
     {
         self.logs[channel as usize].reserve()
     }
@@ -102,7 +107,8 @@ impl<R: Drop> Logs<R> {
         requires within { channel < length self.old }
         requires room { 0 < (log_at self.old channel).room }
         ensures { let log = log_at self.old channel in
-            self.new ≡ slice_set self.old channel (record log { records = log.records ++ taken ∷ []; room = log.room - 1 }) }
+            self.new ≡ slice_set self.old channel
+            (record log { records = log.records ++ taken ∷ []; room = log.room - 1 }) }
     {
         self.logs[channel as usize].push_reserved(taken);
     }
@@ -111,7 +117,11 @@ impl<R: Drop> Logs<R> {
     pub fn drop_last(&mut self, channel: u32)
         requires { channel < length self.old }
         ensures after { let log = log_at self.old channel in
-            self.new ≡ slice_set self.old channel (record log { records = without_last log.records; room = (log_at self.new channel).room }) }
+            self.new ≡ slice_set self.old channel
+            (record log {
+              records = without_last log.records;
+              room = (log_at self.new channel).room;
+            }) }
         ensures room { (log_at self.old channel).room ≤ (log_at self.new channel).room }
     {
         self.logs[channel as usize].drop_last();

@@ -22,7 +22,10 @@ impl<R: Drop> Model for Channel<R> {
 
     ghost Value = { Contents R };
 
-    ghost view = { λ c. record { items = c.items.items; room = deque_capacity c.items - deque_len c.items } };
+    ghost view = { λ c. record {
+      items = c.items.items;
+      room = deque_capacity c.items - deque_len c.items;
+    } };
 }
 
 impl<R: Drop> Channel<R> {
@@ -61,7 +64,10 @@ impl<R: Drop> Channel<R> {
     /// Sends an item. It takes no memory.
     pub fn push_reserved(&mut self, item: Item<R>)
         requires { 0 < self.old.room }
-        ensures { self.new ≡ record self.old { items = self.old.items ++ item ∷ []; room = self.old.room - 1 } }
+        ensures { self.new ≡ record self.old {
+          items = self.old.items ++ item ∷ [];
+          room = self.old.room - 1;
+        } }
     {
         self.items.push_back_reserved(item);
     }
@@ -76,7 +82,10 @@ impl<R: Drop> Channel<R> {
     /// Takes the item that was sent first. Its room is left.
     pub fn pop(&mut self) -> Option<Item<R>>
         ensures taken { result ≡ slice_get self.old.items 0 }
-        ensures rest { self.new ≡ record self.old { items = drop 1 self.old.items; room = self.new.room } }
+        ensures rest { self.new ≡ record self.old {
+          items = drop 1 self.old.items;
+          room = self.new.room;
+        } }
         ensures room { self.old.room ≤ self.new.room }
     {
         self.items.pop_front()

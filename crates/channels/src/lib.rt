@@ -1,8 +1,9 @@
 //! Channels between the tasks of a job: a channel delivers in the order of sending. Proved: a
 //! channel is a list, and each call its list's.
 //!
-//! A [`Channel`] is a list of items, each a record or a barrier, and the number of items that it takes without memory.
-//! Items are pushed at the end and popped at the front. Room is reserved first, and then a push can't fail.
+//! A [`Channel`] is a list of items, each a record or a barrier, and the number of items that it
+//! takes without memory. Items are pushed at the end and popped at the front. Room is reserved
+//! first, and then a push can't fail.
 #![tactic(auto)]
 
 mod channel;

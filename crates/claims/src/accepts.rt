@@ -34,11 +34,18 @@ fn accept_outcome<O: Operator>(
     operand: Operand<O, O::Key, O::State, O::Record>,
     outcome: Outcome<O::State, O::Record>,
 ) -> Result<(), CoreFault>
-    requires serves { (ledger : Ledger) × Serves O.Key.cmp (Fits O.Record.HasSpelling O.Record.spelling) (IsGoodState (Fits O.State.HasSpelling O.State.spelling) O.Suits) graph.now operators.now ledger attempt.old }
-    requires operand { IsOperand O.meaning (Fits O.Record.HasSpelling O.Record.spelling) (IsGoodState (Fits O.State.HasSpelling O.State.spelling) O.Suits) operand }
+    requires serves { (ledger : Ledger) × Serves O.Key.cmp
+        (Fits O.Record.HasSpelling O.Record.spelling)
+        (IsGoodState (Fits O.State.HasSpelling O.State.spelling) O.Suits) graph.now operators.now
+        ledger attempt.old }
+    requires operand { IsOperand O.meaning (Fits O.Record.HasSpelling O.Record.spelling)
+        (IsGoodState (Fits O.State.HasSpelling O.State.spelling) O.Suits) operand }
     requires outcome { IsOutcome O.meaning operand outcome }
     ensures told { result ≢ Err CoreFault.Device }
-    ensures ends { (ledger : Ledger) → EndsTaking (language O.meaning O.Key.cmp O.Record.spelling O.Record.reading O.Key.reading O.State.reading) graph.now operators.now task input attempt.old attempt.new ledger ledger (Given.Operator operand) result }
+    ensures ends { (ledger : Ledger) → EndsTaking
+        (language O.meaning O.Key.cmp O.Record.spelling O.Record.reading O.Key.reading
+        O.State.reading) graph.now operators.now task input attempt.old attempt.new ledger ledger
+        (Given.Operator operand) result }
 {
     let Some(channel) = operand_channel(attempt, graph, operators, task, input, &operand) else {
         return Err(CoreFault::WrongResult);
@@ -55,7 +62,8 @@ fn accept_outcome<O: Operator>(
     Ok(())
 }
 
-/// A sink puts bytes, which spell the record at the head of its input, last in its open transaction.
+/// A sink puts bytes, which spell the record at the head of its input, last in its open
+/// transaction.
 fn put_bytes<O: Operator, X: Transactions>(
     attempt: &mut Attempt<O>,
     transactions: &mut X,
@@ -66,11 +74,17 @@ fn put_bytes<O: Operator, X: Transactions>(
 ) -> Result<(), CoreFault>
     requires within { input < length (gate_at attempt.old task).inputs }
     requires logs { channel < length attempt.old.logs }
-    requires first { (row : O.Record) × IsRecordDue task input attempt.old channel row × (bytes.now ≡ O.Record.spelling row) }
-    requires holds { (sink : Sinking) × (slice_get attempt.old.tasks task ≡ Some (Holding.Sink sink)) × (open_refusal (X.state transactions.old) sink.open_one ≡ None) }
-    ensures ends { EndsPutOut task input attempt.old attempt.new channel (X.state transactions.old) (X.state transactions.new) O.Record.spelling result }
-    ensures counted { result ≡ Err CoreFault.Device → X.fault_count transactions.old < X.fault_count transactions.new }
-    ensures told { result ≢ Err CoreFault.Device → X.fault_count transactions.new ≡ X.fault_count transactions.old }
+    requires first { (row : O.Record) × IsRecordDue task input attempt.old channel row
+        × (bytes.now ≡ O.Record.spelling row) }
+    requires holds { (sink : Sinking) × (slice_get attempt.old.tasks task
+        ≡ Some (Holding.Sink sink)) × (open_refusal (X.state transactions.old)
+        sink.open_one ≡ None) }
+    ensures ends { EndsPutOut task input attempt.old attempt.new channel (X.state transactions.old)
+        (X.state transactions.new) O.Record.spelling result }
+    ensures counted { result ≡ Err CoreFault.Device
+        → X.fault_count transactions.old < X.fault_count transactions.new }
+    ensures told { result ≢ Err CoreFault.Device
+        → X.fault_count transactions.new ≡ X.fault_count transactions.old }
 {
     let Some(Holding::Sink(sink)) = attempt.holding(task) else {
         return Err(CoreFault::NotReady);
@@ -100,11 +114,19 @@ fn accept_row<O: Operator, X: Transactions>(
     row: &O::Record,
     bytes: &[u8],
 ) -> Result<(), CoreFault>
-    requires serves { (operators : List O) × Serves O.Key.cmp (Fits O.Record.HasSpelling O.Record.spelling) (IsGoodState (Fits O.State.HasSpelling O.State.spelling) O.Suits) graph.now operators (X.state transactions.old) attempt.old }
+    requires serves { (operators : List O) × Serves O.Key.cmp
+        (Fits O.Record.HasSpelling O.Record.spelling)
+        (IsGoodState (Fits O.State.HasSpelling O.State.spelling) O.Suits) graph.now operators
+        (X.state transactions.old) attempt.old }
     requires spelled { bytes.now ≡ O.Record.spelling row.now }
-    ensures ends { (operators : List O) → EndsTaking (language O.meaning O.Key.cmp O.Record.spelling O.Record.reading O.Key.reading O.State.reading) graph.now operators task input attempt.old attempt.new (X.state transactions.old) (X.state transactions.new) (Given.Sink row.now) result }
-    ensures counted { result ≡ Err CoreFault.Device → X.fault_count transactions.old < X.fault_count transactions.new }
-    ensures told { result ≢ Err CoreFault.Device → X.fault_count transactions.new ≡ X.fault_count transactions.old }
+    ensures ends { (operators : List O) → EndsTaking
+        (language O.meaning O.Key.cmp O.Record.spelling O.Record.reading O.Key.reading
+        O.State.reading) graph.now operators task input attempt.old attempt.new
+        (X.state transactions.old) (X.state transactions.new) (Given.Sink row.now) result }
+    ensures counted { result ≡ Err CoreFault.Device
+        → X.fault_count transactions.old < X.fault_count transactions.new }
+    ensures told { result ≢ Err CoreFault.Device
+        → X.fault_count transactions.new ≡ X.fault_count transactions.old }
 {
     let Some(channel) = row_channel(attempt, graph, task, input, row) else {
         return Err(CoreFault::WrongResult);
@@ -113,8 +135,8 @@ fn accept_row<O: Operator, X: Transactions>(
 }
 
 /// Takes what was made of a task's work. `K7` is told exactly where that work is not due: the
-/// operator, the state or the record is another one, or nothing may be taken from the input. Nothing
-/// is copied.
+/// operator, the state or the record is another one, or nothing may be taken from the input.
+/// Nothing is copied.
 pub fn accept<O: Operator, X: Transactions>(
     attempt: &mut Attempt<O>,
     graph: &Graph,
@@ -124,10 +146,16 @@ pub fn accept<O: Operator, X: Transactions>(
     input: u32,
     worked: Worked<O>,
 ) -> Result<(), CoreFault>
-    requires serves { Serves O.Key.cmp (Fits O.Record.HasSpelling O.Record.spelling) (IsGoodState (Fits O.State.HasSpelling O.State.spelling) O.Suits) graph.now operators.now (X.state transactions.old) attempt.old }
-    ensures ends { EndsAccept (language O.meaning O.Key.cmp O.Record.spelling O.Record.reading O.Key.reading O.State.reading) graph.now operators.now task input attempt.old attempt.new (X.state transactions.old) (X.state transactions.new) worked result }
-    ensures counted { result ≡ Err CoreFault.Device → X.fault_count transactions.old < X.fault_count transactions.new }
-    ensures told { result ≢ Err CoreFault.Device → X.fault_count transactions.new ≡ X.fault_count transactions.old }
+    requires serves { Serves O.Key.cmp (Fits O.Record.HasSpelling O.Record.spelling)
+        (IsGoodState (Fits O.State.HasSpelling O.State.spelling) O.Suits) graph.now operators.now
+        (X.state transactions.old) attempt.old }
+    ensures ends { EndsAccept (language O.meaning O.Key.cmp O.Record.spelling O.Record.reading
+        O.Key.reading O.State.reading) graph.now operators.now task input attempt.old attempt.new
+        (X.state transactions.old) (X.state transactions.new) worked result }
+    ensures counted { result ≡ Err CoreFault.Device
+        → X.fault_count transactions.old < X.fault_count transactions.new }
+    ensures told { result ≢ Err CoreFault.Device
+        → X.fault_count transactions.new ≡ X.fault_count transactions.old }
 {
     match worked.made {
         Made::Operator(operand, outcome) => {

@@ -30,7 +30,8 @@ impl<O: Operator> Model for Work<O> {
 
     ghost view = { λ w. w.given };
 
-    ghost invariant = { λ w. IsGiven O.meaning (Fits O.Record.HasSpelling O.Record.spelling) (IsGoodState (Fits O.State.HasSpelling O.State.spelling) O.Suits) w.given };
+    ghost invariant = { λ w. IsGiven O.meaning (Fits O.Record.HasSpelling O.Record.spelling)
+        (IsGoodState (Fits O.State.HasSpelling O.State.spelling) O.Suits) w.given };
 }
 
 /// Work that was done, or for which memory was refused, with what it was made of.
@@ -49,7 +50,9 @@ impl<O: Operator> Model for Worked<O> {
 
     ghost view = { λ w. w.made };
 
-    ghost invariant = { λ w. IsMade O.meaning (Fits O.Record.HasSpelling O.Record.spelling) (IsGoodState (Fits O.State.HasSpelling O.State.spelling) O.Suits) O.Record.spelling w.made };
+    ghost invariant = { λ w. IsMade O.meaning (Fits O.Record.HasSpelling O.Record.spelling)
+        (IsGoodState (Fits O.State.HasSpelling O.State.spelling) O.Suits)
+        O.Record.spelling w.made };
 }
 
 /// What an operator makes of its record.
@@ -57,7 +60,8 @@ fn outcome_of<O: Operator>(
     alloc: Global,
     operand: &Operand<O, O::Key, O::State, O::Record>,
 ) -> Result<Outcome<O::State, O::Record>, NoMemory>
-    requires { IsOperand O.meaning (Fits O.Record.HasSpelling O.Record.spelling) (IsGoodState (Fits O.State.HasSpelling O.State.spelling) O.Suits) operand.now }
+    requires { IsOperand O.meaning (Fits O.Record.HasSpelling O.Record.spelling)
+        (IsGoodState (Fits O.State.HasSpelling O.State.spelling) O.Suits) operand.now }
     ensures { IfOk result (IsOutcome O.meaning operand.now) }
 {
     let Some(state) = &operand.state else {
@@ -74,7 +78,8 @@ fn worked_operand<O: Operator>(
     alloc: Global,
     operand: Operand<O, O::Key, O::State, O::Record>,
 ) -> Worked<O>
-    requires { IsOperand O.meaning (Fits O.Record.HasSpelling O.Record.spelling) (IsGoodState (Fits O.State.HasSpelling O.State.spelling) O.Suits) operand }
+    requires { IsOperand O.meaning (Fits O.Record.HasSpelling O.Record.spelling)
+        (IsGoodState (Fits O.State.HasSpelling O.State.spelling) O.Suits) operand }
     ensures { given_of result ≡ Given.Operator operand }
 {
     match outcome_of(alloc, &operand) {
@@ -117,7 +122,8 @@ impl<O: Operator> Work<O> {
     ghost use Rattle.std.specs.Prelude.{◌≡◌};
     ghost use Rattle.claims.specs.Carried.{given_of};
 
-    /// Does the work. It waits for nobody and copies nothing. What is made carries the work, also where memory was refused.
+    /// Does the work. It waits for nobody and copies nothing. What is made carries the work, also
+    /// where memory was refused.
     pub fn run(self, alloc: Global) -> Worked<O>
         ensures { given_of result ≡ self }
     {

@@ -72,7 +72,9 @@ fn has_state<O: Operator>(
     key: &Option<O::Key>,
     state: &Option<O::State>,
 ) -> bool
-    ensures { (entries : List (O.Key × O.State)) → slice_get attempt.now.tasks task ≡ Some (Holding.Operator entries) → IsTrue result ↔ (state_of O.Key.cmp entries key.now ≡ state.now) }
+    ensures { (entries : List (O.Key × O.State))
+        → slice_get attempt.now.tasks task ≡ Some (Holding.Operator entries) → IsTrue result
+        ↔ (state_of O.Key.cmp entries key.now ≡ state.now) }
 {
     match state_at(attempt, task, key) {
         Some(found) => match state {
@@ -92,10 +94,17 @@ pub(crate) fn operand_channel<O: Operator>(
     input: u32,
     operand: &Operand<O, O::Key, O::State, O::Record>,
 ) -> Option<u32>
-    requires shape { Shape O.Key.cmp (Fits O.Record.HasSpelling O.Record.spelling) (IsGoodState (Fits O.State.HasSpelling O.State.spelling) O.Suits) graph.now operators.now attempt.now }
+    requires shape { Shape O.Key.cmp (Fits O.Record.HasSpelling O.Record.spelling)
+        (IsGoodState (Fits O.State.HasSpelling O.State.spelling) O.Suits) graph.now
+        operators.now attempt.now }
     requires key { operand.now.key ≡ O.meaning.key operand.now.operator operand.now.row }
-    ensures some { IfSome result (λ channel. IsOperandDue (language O.meaning O.Key.cmp O.Record.spelling O.Record.reading O.Key.reading O.State.reading) graph.now operators.now task input attempt.now channel operand.now) }
-    ensures none { IfNone result ((channel : ℕ) → ¬ IsOperandDue (language O.meaning O.Key.cmp O.Record.spelling O.Record.reading O.Key.reading O.State.reading) graph.now operators.now task input attempt.now channel operand.now) }
+    ensures some { IfSome result (λ channel. IsOperandDue
+        (language O.meaning O.Key.cmp O.Record.spelling O.Record.reading O.Key.reading
+        O.State.reading) graph.now operators.now task input attempt.now channel operand.now) }
+    ensures none { IfNone result ((channel : ℕ)
+        → ¬ IsOperandDue (language O.meaning O.Key.cmp O.Record.spelling O.Record.reading
+        O.Key.reading O.State.reading) graph.now operators.now task input attempt.now
+        channel operand.now) }
 {
     let Some(Role::Operator(number)) = graph.role(task) else {
         return None;
@@ -122,8 +131,10 @@ pub(crate) fn row_channel<O: Operator>(
     row: &O::Record,
 ) -> Option<u32>
     requires gates { (t : ℕ) → t < length graph.now.tasks → GateFits graph.now attempt.now t }
-    ensures some { IfSome result (λ channel. IsRowDue graph.now task input attempt.now channel row.now) }
-    ensures none { IfNone result ((channel : ℕ) → ¬ IsRowDue graph.now task input attempt.now channel row.now) }
+    ensures some { IfSome result (λ channel. IsRowDue graph.now task input attempt.now
+        channel row.now) }
+    ensures none { IfNone result ((channel : ℕ)
+        → ¬ IsRowDue graph.now task input attempt.now channel row.now) }
 {
     let Some(Role::Sink(_)) = graph.role(task) else {
         return None;
@@ -145,9 +156,13 @@ pub(crate) fn is_due<O: Operator>(
     input: u32,
     given: &Given<O, O::Key, O::State, O::Record>,
 ) -> bool
-    requires shape { Shape O.Key.cmp (Fits O.Record.HasSpelling O.Record.spelling) (IsGoodState (Fits O.State.HasSpelling O.State.spelling) O.Suits) graph.now operators.now attempt.now }
-    requires given { IsGiven O.meaning (Fits O.Record.HasSpelling O.Record.spelling) (IsGoodState (Fits O.State.HasSpelling O.State.spelling) O.Suits) given.now }
-    ensures { IsTrue result ↔ IsDue (language O.meaning O.Key.cmp O.Record.spelling O.Record.reading O.Key.reading O.State.reading) graph.now operators.now task input attempt.now given.now }
+    requires shape { Shape O.Key.cmp (Fits O.Record.HasSpelling O.Record.spelling)
+        (IsGoodState (Fits O.State.HasSpelling O.State.spelling) O.Suits) graph.now
+        operators.now attempt.now }
+    requires given { IsGiven O.meaning (Fits O.Record.HasSpelling O.Record.spelling)
+        (IsGoodState (Fits O.State.HasSpelling O.State.spelling) O.Suits) given.now }
+    ensures { IsTrue result ↔ IsDue (language O.meaning O.Key.cmp O.Record.spelling O.Record.reading
+        O.Key.reading O.State.reading) graph.now operators.now task input attempt.now given.now }
 {
     match given {
         Given::Operator(operand) => {

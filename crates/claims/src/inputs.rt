@@ -26,7 +26,9 @@ pub(crate) fn state_at<'a, O: Operator>(
     task: u32,
     key: &Option<O::Key>,
 ) -> Option<&'a O::State>
-    ensures { (entries : List (O.Key × O.State)) → slice_get attempt.now.tasks task ≡ Some (Holding.Operator entries) → option_copied result ≡ state_of O.Key.cmp entries key.now }
+    ensures { (entries : List (O.Key × O.State))
+        → slice_get attempt.now.tasks task ≡ Some (Holding.Operator entries)
+        → option_copied result ≡ state_of O.Key.cmp entries key.now }
 {
     let Some(Holding::Operator(states)) = attempt.holding(task) else {
         return None;

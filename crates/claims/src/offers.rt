@@ -32,7 +32,9 @@ fn state_copied<O: Operator>(
     task: u32,
     key: &Option<O::Key>,
 ) -> Result<Option<O::State>, NoMemory>
-    ensures { IfOk result (λ state. (entries : List (O.Key × O.State)) → slice_get attempt.now.tasks task ≡ Some (Holding.Operator entries) → state_of O.Key.cmp entries key.now ≡ state) }
+    ensures { IfOk result (λ state. (entries : List (O.Key × O.State))
+        → slice_get attempt.now.tasks task ≡ Some (Holding.Operator entries)
+        → state_of O.Key.cmp entries key.now ≡ state) }
 {
     match state_at(attempt, task, key) {
         Some(state) => Ok(Some(state.copied()?)),
@@ -40,7 +42,8 @@ fn state_copied<O: Operator>(
     }
 }
 
-/// An operator's work on a record: one copy each of the operator, the state and the record, and the record's key.
+/// An operator's work on a record: one copy each of the operator, the state and the record, and the
+/// record's key.
 fn operand_of<O: Operator>(
     alloc: Global,
     attempt: &Attempt<O>,
@@ -49,12 +52,19 @@ fn operand_of<O: Operator>(
     row: &O::Record,
 ) -> Result<Operand<O, O::Key, O::State, O::Record>, NoMemory>
     requires fits { Fits O.Record.HasSpelling O.Record.spelling row.now }
-    requires holds { (entries : List (O.Key × O.State)) × (slice_get attempt.now.tasks task ≡ Some (Holding.Operator entries)) }
-    requires good { (entries : List (O.Key × O.State)) (key : O.Key) (state : O.State) → slice_get attempt.now.tasks task ≡ Some (Holding.Operator entries) → value_at O.Key.cmp entries key ≡ Some state → IsGoodState (Fits O.State.HasSpelling O.State.spelling) O.Suits operator.now state }
-    ensures whole { IfOk result (IsOperand O.meaning (Fits O.Record.HasSpelling O.Record.spelling) (IsGoodState (Fits O.State.HasSpelling O.State.spelling) O.Suits)) }
+    requires holds { (entries : List (O.Key × O.State))
+        × (slice_get attempt.now.tasks task ≡ Some (Holding.Operator entries)) }
+    requires good { (entries : List (O.Key × O.State)) (key : O.Key) (state : O.State)
+        → slice_get attempt.now.tasks task ≡ Some (Holding.Operator entries)
+        → value_at O.Key.cmp entries key ≡ Some state
+        → IsGoodState (Fits O.State.HasSpelling O.State.spelling) O.Suits operator.now state }
+    ensures whole { IfOk result (IsOperand O.meaning (Fits O.Record.HasSpelling O.Record.spelling)
+        (IsGoodState (Fits O.State.HasSpelling O.State.spelling) O.Suits)) }
     ensures operator { IfOk result (λ operand. operand.operator ≡ operator.now) }
     ensures row { IfOk result (λ operand. operand.row ≡ row.now) }
-    ensures state { IfOk result (λ operand. (entries : List (O.Key × O.State)) → slice_get attempt.now.tasks task ≡ Some (Holding.Operator entries) → state_of O.Key.cmp entries (O.meaning.key operator.now row.now) ≡ operand.state) }
+    ensures state { IfOk result (λ operand. (entries : List (O.Key × O.State))
+        → slice_get attempt.now.tasks task ≡ Some (Holding.Operator entries)
+        → state_of O.Key.cmp entries (O.meaning.key operator.now row.now) ≡ operand.state) }
 {
     let key = operator.key(alloc, row)?;
     let state = state_copied(attempt, task, &key)?;
@@ -68,9 +78,9 @@ fn operand_of<O: Operator>(
     })
 }
 
-/// Offers the work that a task is to do at an input now. It copies the operator, the state under the
-/// record's key and the record, each once, and no more. `K2` comes before `K4`, that before `K3`, and
-/// `K11` last.
+/// Offers the work that a task is to do at an input now. It copies the operator, the state under
+/// the record's key and the record, each once, and no more. `K2` comes before `K4`, that before
+/// `K3`, and `K11` last.
 pub fn offer<O: Operator>(
     alloc: Global,
     attempt: &Attempt<O>,
@@ -81,8 +91,11 @@ pub fn offer<O: Operator>(
 ) -> Result<Work<O>, CoreFault>
     requires expanded { IsExpanded graph.now }
     requires given { HaveOperators graph.now operators.now }
-    requires shape { Shape O.Key.cmp (Fits O.Record.HasSpelling O.Record.spelling) (IsGoodState (Fits O.State.HasSpelling O.State.spelling) O.Suits) graph.now operators.now attempt.now }
-    ensures { EndsOffer (language O.meaning O.Key.cmp O.Record.spelling O.Record.reading O.Key.reading O.State.reading) graph.now operators.now task input attempt.now result }
+    requires shape { Shape O.Key.cmp (Fits O.Record.HasSpelling O.Record.spelling)
+        (IsGoodState (Fits O.State.HasSpelling O.State.spelling) O.Suits) graph.now
+        operators.now attempt.now }
+    ensures { EndsOffer (language O.meaning O.Key.cmp O.Record.spelling O.Record.reading
+        O.Key.reading O.State.reading) graph.now operators.now task input attempt.now result }
 {
     match graph.role(task) {
         Some(Role::Operator(number)) => {

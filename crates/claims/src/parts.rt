@@ -19,8 +19,8 @@ pub enum Given<O, K, S, R> {
     Sink(R),
 }
 
-/// What was made of a task's work, with that work: an operator's outcome, the bytes that a sink puts
-/// out, or nothing, since memory was refused.
+/// What was made of a task's work, with that work: an operator's outcome, the bytes that a sink
+/// puts out, or nothing, since memory was refused.
 #[derive(Drop)]
 pub enum Made<O, K, S, R> {
     Operator(Operand<O, K, S, R>, Outcome<S, R>),

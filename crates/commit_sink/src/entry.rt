@@ -21,7 +21,11 @@ impl Model for Entry {
 
     ghost Value = { Transaction };
 
-    ghost view = { λ e. record { subtask = e.subtask; progress = e.progress; records = e.records.items } };
+    ghost view = { λ e. record {
+      subtask = e.subtask;
+      progress = e.progress;
+      records = e.records.items;
+    } };
 }
 
 impl Entry {
@@ -48,7 +52,11 @@ impl Entry {
 
     /// Its subtask, how far it has come, and its records.
     pub(crate) fn into_parts(self) -> (u32, Progress, Vec<Bytes>)
-        ensures { self ≡ record { subtask = result.0; progress = result.1; records = result.2.items } }
+        ensures { self ≡ record {
+          subtask = result.0;
+          progress = result.1;
+          records = result.2.items;
+        } }
     {
         let Entry {
             subtask,
@@ -83,7 +91,10 @@ impl Entry {
     }
 
     pub(crate) fn append(&mut self, row: Bytes) -> Result<(), TransactionFault>
-        ensures ok { OnOk result (self.new ≡ record self.old { records = self.old.records ++ row ∷ [] }) }
+        ensures ok { OnOk result (self.new ≡ record self.old {
+          records = self.old.records
+              ++ row ∷ [];
+        }) }
         ensures err { OnErr result (self.new ≡ self.old) }
         ensures memory { IfErr result (λ f. f ≡ TransactionFault.Memory) }
     {

@@ -53,7 +53,12 @@ impl<X: FaultlessTransactions> FlakyTransactions<X> {
     /// No call is to fail.
     pub fn new(transactions: X) -> FlakyTransactions<X>
         ensures transactions { transactions_of result ≡ transactions }
-        ensures plan { plan_of result ≡ record { next = replicate CALLS None; every = None; calls = 0; faults = 0 } }
+        ensures plan { plan_of result ≡ record {
+          next = replicate CALLS None;
+          every = None;
+          calls = 0;
+          faults = 0;
+        } }
     {
         FlakyTransactions {
             transactions,
@@ -64,12 +69,16 @@ impl<X: FaultlessTransactions> FlakyTransactions<X> {
     /// The next call of the kind fails.
     pub fn arm(&mut self, call: TransactionCall, when: When)
         ensures transactions { transactions_of self.new ≡ transactions_of self.old }
-        ensures plan { plan_of self.new ≡ record (plan_of self.old) { next = slice_set (plan_of self.old).next (call_number call) (Some when) } }
+        ensures plan { plan_of self.new ≡ record (plan_of self.old) {
+          next = slice_set
+              (plan_of self.old).next (call_number call) (Some when);
+        } }
     {
         self.plan.arm(call.number(), when);
     }
 
-    /// Each k-th call that may fail does so before its work, up to the last-th. Calls are counted from the first on. None fails for a k of 0.
+    /// Each k-th call that may fail does so before its work, up to the last-th. Calls are counted
+    /// from the first on. None fails for a k of 0.
     pub fn every(&mut self, k: u64, last: u64)
         ensures transactions { transactions_of self.new ≡ transactions_of self.old }
         ensures plan { plan_of self.new ≡ record (plan_of self.old) { every = Some (k, last) } }

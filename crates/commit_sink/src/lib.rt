@@ -5,8 +5,8 @@
 //! and is told exactly where it is counted. Transactions in memory are listed in order, and made
 //! from such lists.
 //!
-//! What anyone may read are the records of the committed transactions of a subtask, joined in the order of commit. A call that fails has done nothing or
-//! all of its work.
+//! What anyone may read are the records of the committed transactions of a subtask, joined in the
+//! order of commit. A call that fails has done nothing or all of its work.
 #![tactic(auto)]
 
 mod entry;

@@ -29,10 +29,14 @@ impl MemoryTransactions {
     ghost use Rattle.commit_sink.specs.Lists.{AreSettled, to_commit};
     ghost use Rattle.commit_sink.specs.Shares.{ledger_of};
 
-    /// The transaction at a place in the order of numbers, from 0: its subtask, how far it has come, and its records.
+    /// The transaction at a place in the order of numbers, from 0: its subtask, how far it has
+    /// come, and its records.
     pub fn transaction_at(&self, index: u64) -> Option<(u32, Progress, &[Bytes])>
-        ensures some { IfSome result (λ t. slice_get (⟦<MemoryTransactions as Transactions>⟧.state self.now).transactions index ≡ Some (record { subtask = t.0; progress = t.1; records = t.2.now })) }
-        ensures none { IfNone result (length (⟦<MemoryTransactions as Transactions>⟧.state self.now).transactions ≤ index) }
+        ensures some { IfSome result (λ t. slice_get
+            (⟦<MemoryTransactions as Transactions>⟧.state self.now).transactions index
+            ≡ Some (record { subtask = t.0; progress = t.1; records = t.2.now })) }
+        ensures none { IfNone result (length (⟦<MemoryTransactions as Transactions>⟧.state
+            self.now).transactions ≤ index) }
     {
         let entry = self.transactions.get(index as usize)?;
         Some((entry.subtask(), entry.progress(), entry.records()))
@@ -40,7 +44,8 @@ impl MemoryTransactions {
 
     /// The number at a place in the order of commit, from 0.
     pub fn committed_at(&self, index: u64) -> Option<u64>
-        ensures { result ≡ slice_get (⟦<MemoryTransactions as Transactions>⟧.state self.now).committed index }
+        ensures { result ≡ slice_get (⟦<MemoryTransactions as Transactions>⟧.state
+            self.now).committed index }
     {
         self.committed.as_slice().get(index as usize).copied()
     }
@@ -48,10 +53,13 @@ impl MemoryTransactions {
     /// Begins a transaction that has these records.
     fn begin_with(&mut self, subtask: u32, records: Vec<Bytes>) -> Result<u64, NoMemory>
         requires { subtask < (⟦<MemoryTransactions as Transactions>⟧.state self.old).subtasks }
-        ensures number { IfOk result (λ n. n ≡ length (⟦<MemoryTransactions as Transactions>⟧.state self.old).transactions + 1) }
-        ensures state { OnOk result (⟦<MemoryTransactions as Transactions>⟧.state self.new ≡ record (⟦<MemoryTransactions as Transactions>⟧.state self.old) {
-          transactions = (⟦<MemoryTransactions as Transactions>⟧.state self.old).transactions ++ record { subtask = subtask; progress = Open; records = records.items } ∷ [];
-        }) }
+        ensures number { IfOk result (λ n. n ≡ length
+            (⟦<MemoryTransactions as Transactions>⟧.state self.old).transactions + 1) }
+        ensures state { OnOk result (⟦<MemoryTransactions as Transactions>⟧.state self.new
+            ≡ record (⟦<MemoryTransactions as Transactions>⟧.state self.old) {
+              transactions = (⟦<MemoryTransactions as Transactions>⟧.state self.old).transactions
+                  ++ record { subtask = subtask; progress = Open; records = records.items } ∷ [];
+            }) }
     {
         let transaction = memory(self.begin(subtask))?;
         for row in records {
@@ -62,11 +70,14 @@ impl MemoryTransactions {
 
     /// Begins a transaction and takes it as far as it has come before a commit.
     fn restore(&mut self, entry: Entry) -> Result<(), NoMemory>
-        requires subtask { entry.subtask < (⟦<MemoryTransactions as Transactions>⟧.state self.old).subtasks }
+        requires subtask { entry.subtask < (⟦<MemoryTransactions as Transactions>⟧.state
+            self.old).subtasks }
         requires emptied { entry.progress ≡ Aborted → entry.records ≡ [] }
-        ensures { OnOk result (⟦<MemoryTransactions as Transactions>⟧.state self.new ≡ record (⟦<MemoryTransactions as Transactions>⟧.state self.old) {
-          transactions = (⟦<MemoryTransactions as Transactions>⟧.state self.old).transactions ++ to_commit entry ∷ [];
-        }) }
+        ensures { OnOk result (⟦<MemoryTransactions as Transactions>⟧.state self.new
+            ≡ record (⟦<MemoryTransactions as Transactions>⟧.state self.old) {
+              transactions = (⟦<MemoryTransactions as Transactions>⟧.state self.old).transactions
+                  ++ to_commit entry ∷ [];
+            }) }
     {
         let (subtask, progress, records) = entry.into_parts();
         let transaction = self.begin_with(subtask, records)?;
@@ -80,9 +91,15 @@ impl MemoryTransactions {
 
     /// Commits these transactions, in this order.
     fn commit_all(&mut self, numbers: &[u64]) -> Result<(), NoMemory>
-        ensures { OnOk result ((transactions : List Transaction) → IsOrdered (ledger_of (⟦<MemoryTransactions as Transactions>⟧.state self.old).subtasks transactions numbers.now)
-            → AreSettled transactions [] (⟦<MemoryTransactions as Transactions>⟧.state self.old).transactions → (⟦<MemoryTransactions as Transactions>⟧.state self.old).committed ≡ []
-            → ⟦<MemoryTransactions as Transactions>⟧.state self.new ≡ ledger_of (⟦<MemoryTransactions as Transactions>⟧.state self.old).subtasks transactions numbers.now) }
+        ensures { OnOk result ((transactions : List Transaction)
+            → IsOrdered (ledger_of (⟦<MemoryTransactions as Transactions>⟧.state self.old).subtasks
+            transactions numbers.now)
+            → AreSettled transactions [] (⟦<MemoryTransactions as Transactions>⟧.state
+            self.old).transactions → (⟦<MemoryTransactions as Transactions>⟧.state
+            self.old).committed ≡ []
+            → ⟦<MemoryTransactions as Transactions>⟧.state self.new
+            ≡ ledger_of (⟦<MemoryTransactions as Transactions>⟧.state self.old).subtasks
+            transactions numbers.now) }
     {
         for number in numbers {
             memory(self.commit(*number))?;
@@ -90,7 +107,8 @@ impl MemoryTransactions {
         Ok(())
     }
 
-    /// The transactions of so many subtasks that are these, by their numbers from 1, and were committed in this order. The records are not copied.
+    /// The transactions of so many subtasks that are these, by their numbers from 1, and were
+    /// committed in this order. The records are not copied.
     pub fn from_lists(
         alloc: Global,
         subtasks: u32,
@@ -98,7 +116,8 @@ impl MemoryTransactions {
         committed: Items<u64>,
     ) -> Result<MemoryTransactions, NoMemory>
         requires { IsOrdered (ledger_of subtasks transactions.items committed) }
-        ensures { IfOk result (λ made. ⟦<MemoryTransactions as Transactions>⟧.state made ≡ ledger_of subtasks transactions.items committed) }
+        ensures { IfOk result (λ made. ⟦<MemoryTransactions as Transactions>⟧.state made
+            ≡ ledger_of subtasks transactions.items committed) }
     {
         let mut made = MemoryTransactions::new(alloc, subtasks);
         for entry in transactions {

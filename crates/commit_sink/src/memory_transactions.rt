@@ -25,7 +25,8 @@ pub struct MemoryTransactions {
     pub(crate) subtasks: u32,
     /// By their numbers, from 1.
     pub(crate) transactions: Vec<Entry>,
-    /// The committed ones in the order of commit, with a place for each that is neither committed nor aborted.
+    /// The committed ones in the order of commit, with a place for each that is neither committed
+    /// nor aborted.
     pub(crate) committed: Roomy<u64>,
     /// By subtask, up to the last that has begun a transaction.
     shares: Vec<Share>,
@@ -64,8 +65,10 @@ fn place_to_commit(
 ) -> Result<Option<usize>, TransactionFault>
     ensures ok { IfOk result (λ found. MatchOption found
         ((place : ℕ) × Found transactions.now.items transaction place Committed)
-        (λ place. (checkpoint : ℕ) × Found transactions.now.items transaction place (PreCommitted checkpoint))) }
-    ensures err { IfErr result (λ f. refusal if_pre_committed (transaction_in transactions.now.items transaction) ≡ Some f) }
+        (λ place. (checkpoint : ℕ) × Found transactions.now.items transaction place
+        (PreCommitted checkpoint))) }
+    ensures err { IfErr result (λ f. refusal if_pre_committed
+        (transaction_in transactions.now.items transaction) ≡ Some f) }
 {
     let Some((place, progress)) = find(transactions, transaction) else {
         return Err(TransactionFault::NoSuchTransaction);
@@ -84,8 +87,10 @@ fn place_to_abort(
 ) -> Result<Option<usize>, TransactionFault>
     ensures ok { IfOk result (λ found. MatchOption found
         ((place : ℕ) × Found transactions.now.items transaction place Aborted)
-        (λ place. (progress : Progress) × (has_unsettled progress ≡ true) × Found transactions.now.items transaction place progress)) }
-    ensures err { IfErr result (λ f. refusal if_not_committed (transaction_in transactions.now.items transaction) ≡ Some f) }
+        (λ place. (progress : Progress) × (has_unsettled progress ≡ true)
+        × Found transactions.now.items transaction place progress)) }
+    ensures err { IfErr result (λ f. refusal if_not_committed
+        (transaction_in transactions.now.items transaction) ≡ Some f) }
 {
     let Some((place, progress)) = find(transactions, transaction) else {
         return Err(TransactionFault::NoSuchTransaction);
@@ -99,14 +104,16 @@ fn place_to_abort(
 
 fn subtask_of(transactions: &Vec<Entry>, place: usize) -> usize
     requires { place < length transactions.now.items }
-    ensures { (t : Transaction) → slice_get transactions.now.items place ≡ Some t → result ≡ t.subtask }
+    ensures { (t : Transaction) → slice_get transactions.now.items place ≡ Some t
+        → result ≡ t.subtask }
 {
     transactions[place].subtask() as usize
 }
 
 fn row_count(transactions: &Vec<Entry>, place: usize) -> u64
     requires { place < length transactions.now.items }
-    ensures { (t : Transaction) → slice_get transactions.now.items place ≡ Some t → result ≡ length t.records }
+    ensures { (t : Transaction) → slice_get transactions.now.items place ≡ Some t
+        → result ≡ length t.records }
 {
     transactions[place].records().len() as u64
 }
@@ -117,7 +124,9 @@ fn append_row(
     row: Bytes,
 ) -> Result<(), TransactionFault>
     requires { place < length transactions.old.items }
-    ensures ok { OnOk result ((t : Transaction) → slice_get transactions.old.items place ≡ Some t → transactions.new.items ≡ slice_set transactions.old.items place (record t { records = t.records ++ row ∷ [] })) }
+    ensures ok { OnOk result ((t : Transaction) → slice_get transactions.old.items place ≡ Some t
+        → transactions.new.items ≡ slice_set transactions.old.items place
+        (record t { records = t.records ++ row ∷ [] })) }
     ensures err { OnErr result (transactions.new.items ≡ transactions.old.items) }
     ensures memory { IfErr result (λ f. f ≡ TransactionFault.Memory) }
 {
@@ -126,14 +135,18 @@ fn append_row(
 
 fn abort_entry(transactions: &mut Vec<Entry>, place: usize)
     requires { place < length transactions.old.items }
-    ensures { (t : Transaction) → slice_get transactions.old.items place ≡ Some t → transactions.new.items ≡ slice_set transactions.old.items place (record t { progress = Aborted; records = [] }) }
+    ensures { (t : Transaction) → slice_get transactions.old.items place ≡ Some t
+        → transactions.new.items ≡ slice_set transactions.old.items place
+        (record t { progress = Aborted; records = [] }) }
 {
     transactions[place].abort();
 }
 
 fn set_progress(transactions: &mut Vec<Entry>, place: usize, progress: Progress)
     requires { place < length transactions.old.items }
-    ensures { (t : Transaction) → slice_get transactions.old.items place ≡ Some t → transactions.new.items ≡ slice_set transactions.old.items place (record t { progress = progress }) }
+    ensures { (t : Transaction) → slice_get transactions.old.items place ≡ Some t
+        → transactions.new.items ≡ slice_set transactions.old.items place
+        (record t { progress = progress }) }
 {
     transactions[place].set_progress(progress);
 }
@@ -149,7 +162,8 @@ fn make_shares(alloc: Global, shares: &mut Vec<Share>, subtask: usize) -> Result
     Ok(())
 }
 
-/// Promises a transaction a place in the order of commit and in its subtask's share, which notes its number.
+/// Promises a transaction a place in the order of commit and in its subtask's share, which notes
+/// its number.
 fn promise_places(
     alloc: Global,
     committed: &mut Roomy<u64>,
@@ -157,10 +171,14 @@ fn promise_places(
     subtask: usize,
     transaction: u64,
 ) -> Result<(), TransactionFault>
-    ensures committed { OnOk result (committed.new ≡ record committed.old { promised = committed.old.promised + 1 }) }
-    ensures share { OnOk result (share_at shares.new.items subtask ≡ with_place (share_at shares.old.items subtask) transaction) }
-    ensures others { (s : ℕ) → s ≢ subtask → share_at shares.new.items s ≡ share_at shares.old.items s }
-    ensures err { OnErr result ((committed.new ≡ committed.old) × (share_at shares.new.items subtask ≡ share_at shares.old.items subtask)) }
+    ensures committed { OnOk result (committed.new
+        ≡ record committed.old { promised = committed.old.promised + 1 }) }
+    ensures share { OnOk result (share_at shares.new.items subtask
+        ≡ with_place (share_at shares.old.items subtask) transaction) }
+    ensures others { (s : ℕ) → s ≢ subtask → share_at shares.new.items s
+        ≡ share_at shares.old.items s }
+    ensures err { OnErr result ((committed.new ≡ committed.old)
+        × (share_at shares.new.items subtask ≡ share_at shares.old.items subtask)) }
     ensures memory { IfErr result (λ f. f ≡ TransactionFault.Memory) }
 {
     make_shares(alloc, shares, subtask)?;
@@ -175,8 +193,10 @@ fn promise_places(
 /// The subtask has as many records as are counted.
 fn is_full(shares: &Vec<Share>, subtask: usize) -> bool
     requires there { subtask < length shares.now.items }
-    requires total { rows_of (share_at shares.now.items subtask).ends.items + (share_at shares.now.items subtask).pending < 2 ^ 64 }
-    ensures { IsTrue result ↔ (rows_of (share_at shares.now.items subtask).ends.items + (share_at shares.now.items subtask).pending ≡ 2 ^ 64 - 1) }
+    requires total { rows_of (share_at shares.now.items subtask).ends.items
+        + (share_at shares.now.items subtask).pending < 2 ^ 64 }
+    ensures { IsTrue result ↔ (rows_of (share_at shares.now.items subtask).ends.items
+        + (share_at shares.now.items subtask).pending ≡ 2 ^ 64 - 1) }
 {
     shares[subtask].committed_len() + shares[subtask].pending == u64::MAX
 }
@@ -184,8 +204,10 @@ fn is_full(shares: &Vec<Share>, subtask: usize) -> bool
 fn add_row(shares: &mut Vec<Share>, subtask: usize)
     requires there { subtask < length shares.old.items }
     requires few { (share_at shares.old.items subtask).pending + 1 < 2 ^ 64 }
-    ensures share { share_at shares.new.items subtask ≡ with_row (share_at shares.old.items subtask) }
-    ensures others { (s : ℕ) → s ≢ subtask → share_at shares.new.items s ≡ share_at shares.old.items s }
+    ensures share { share_at shares.new.items subtask
+        ≡ with_row (share_at shares.old.items subtask) }
+    ensures others { (s : ℕ) → s ≢ subtask → share_at shares.new.items s
+        ≡ share_at shares.old.items s }
 {
     shares[subtask].add_row();
 }
@@ -194,8 +216,10 @@ fn drop_rows(shares: &mut Vec<Share>, subtask: usize, transaction: u64, rows: u6
     requires there { subtask < length shares.old.items }
     requires promised { 1 ≤ (share_at shares.old.items subtask).ends.promised }
     requires pending { rows ≤ (share_at shares.old.items subtask).pending }
-    ensures share { share_at shares.new.items subtask ≡ without (share_at shares.old.items subtask) transaction rows }
-    ensures others { (s : ℕ) → s ≢ subtask → share_at shares.new.items s ≡ share_at shares.old.items s }
+    ensures share { share_at shares.new.items subtask
+        ≡ without (share_at shares.old.items subtask) transaction rows }
+    ensures others { (s : ℕ) → s ≢ subtask → share_at shares.new.items s
+        ≡ share_at shares.old.items s }
 {
     shares[subtask].drop_rows(transaction, rows);
 }
@@ -204,9 +228,12 @@ fn commit_rows(shares: &mut Vec<Share>, subtask: usize, transaction: u64, rows: 
     requires there { subtask < length shares.old.items }
     requires promised { 1 ≤ (share_at shares.old.items subtask).ends.promised }
     requires pending { rows ≤ (share_at shares.old.items subtask).pending }
-    requires total { rows_of (share_at shares.old.items subtask).ends.items + (share_at shares.old.items subtask).pending < 2 ^ 64 }
-    ensures share { share_at shares.new.items subtask ≡ with_end (share_at shares.old.items subtask) transaction rows }
-    ensures others { (s : ℕ) → s ≢ subtask → share_at shares.new.items s ≡ share_at shares.old.items s }
+    requires total { rows_of (share_at shares.old.items subtask).ends.items
+        + (share_at shares.old.items subtask).pending < 2 ^ 64 }
+    ensures share { share_at shares.new.items subtask
+        ≡ with_end (share_at shares.old.items subtask) transaction rows }
+    ensures others { (s : ℕ) → s ≢ subtask → share_at shares.new.items s
+        ≡ share_at shares.old.items s }
 {
     shares[subtask].commit(transaction, rows);
 }
@@ -222,13 +249,15 @@ fn share_of(shares: &Vec<Share>, subtask: u32) -> Option<&Share>
 /// A record of a transaction.
 fn row_at(transactions: &Vec<Entry>, transaction: u64, place: u64) -> &[u8]
     requires { HasRow transactions.now.items transaction place }
-    ensures { (t : Transaction) → transaction_in transactions.now.items transaction ≡ Some t → slice_get t.records place ≡ Some result.now }
+    ensures { (t : Transaction) → transaction_in transactions.now.items transaction ≡ Some t
+        → slice_get t.records place ≡ Some result.now }
 {
     let records = transactions[(transaction - 1) as usize].records();
     records[place as usize].as_slice()
 }
 
-/// A transaction that is neither committed nor aborted: its number, with its checkpoint if it is pre-committed.
+/// A transaction that is neither committed nor aborted: its number, with its checkpoint if it is
+/// pre-committed.
 fn unsettled_number(transactions: &Vec<Entry>, number: u64) -> Option<(u64, Option<u64>)>
     ensures { result ≡ unsettled_in transactions.now.items number }
 {
@@ -246,7 +275,8 @@ fn unsettled_of(
     transactions: &Vec<Entry>,
     numbers: &BTreeSet<u64>,
 ) -> Result<Vec<(u64, Option<u64>)>, TransactionFault>
-    ensures ok { IfOk result (λ unsettled. unsettled.items ≡ filter_map (unsettled_in transactions.now.items) numbers.now.keys) }
+    ensures ok { IfOk result (λ unsettled. unsettled.items
+        ≡ filter_map (unsettled_in transactions.now.items) numbers.now.keys) }
     ensures memory { IfErr result (λ f. f ≡ TransactionFault.Memory) }
 {
     let mut unsettled = Vec::new(alloc);
@@ -281,8 +311,11 @@ impl MemoryTransactions {
         transaction: u64,
         row: Bytes,
     ) -> Result<(), TransactionFault>
-        ensures { Ends (⟦<MemoryTransactions as Transactions>⟧.state self.old, 0) (⟦<MemoryTransactions as Transactions>⟧.state self.new, 0)
-            (open_refusal (⟦<MemoryTransactions as Transactions>⟧.state self.old) transaction) (appended (⟦<MemoryTransactions as Transactions>⟧.state self.old) transaction row) result }
+        ensures { Ends (⟦<MemoryTransactions as Transactions>⟧.state self.old, 0)
+            (⟦<MemoryTransactions as Transactions>⟧.state self.new, 0)
+            (open_refusal (⟦<MemoryTransactions as Transactions>⟧.state self.old) transaction)
+            (appended (⟦<MemoryTransactions as Transactions>⟧.state self.old) transaction row)
+            result }
     {
         let place = open_place(&self.transactions, transaction)?;
         let subtask = subtask_of(&self.transactions, place);

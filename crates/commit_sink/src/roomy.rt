@@ -58,7 +58,10 @@ impl<T: Drop> Roomy<T> {
     /// Puts an item last, at a place that was promised.
     pub(crate) fn push(&mut self, item: T)
         requires { 1 ≤ self.old.promised }
-        ensures { self.new ≡ record { items = self.old.items ++ item ∷ []; promised = self.old.promised - 1 } }
+        ensures { self.new ≡ record {
+          items = self.old.items ++ item ∷ [];
+          promised = self.old.promised - 1;
+        } }
     {
         self.items.push_reserved(item);
         self.promised -= 1;

@@ -40,7 +40,8 @@ fn place_of(ends: &[End], index: u64) -> usize
 /// What is kept of a subtask.
 #[derive(Drop)]
 pub(crate) struct Share {
-    /// The committed transactions in the order of commit, and a place for each that is neither committed nor aborted.
+    /// The committed transactions in the order of commit, and a place for each that is neither
+    /// committed nor aborted.
     pub(crate) ends: Roomy<End>,
     /// How many records there are in those that are neither committed nor aborted.
     pub(crate) pending: u64,

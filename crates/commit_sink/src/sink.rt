@@ -15,8 +15,8 @@ pub struct Pending {
     pub checkpoint: u64,
 }
 
-/// The open transaction of a sink subtask, and those that are pre-committed and not committed yet, the oldest first
-/// (Flink's `TwoPhaseCommitSinkFunction` keeps the same two).
+/// The open transaction of a sink subtask, and those that are pre-committed and not committed yet,
+/// the oldest first (Flink's `TwoPhaseCommitSinkFunction` keeps the same two).
 #[derive(Drop)]
 pub struct Sink {
     alloc: Global,

@@ -69,7 +69,8 @@ impl From<AllocError> for TransactionFault {
     }
 }
 
-/// Transactions of the subtasks of a job's sinks. Subtasks are numbered from 0, transactions over all subtasks from 1.
+/// Transactions of the subtasks of a job's sinks. Subtasks are numbered from 0, transactions over
+/// all subtasks from 1.
 pub trait Transactions {
     /// What they hold.
     ghost state: { Self → Ledger };
@@ -88,52 +89,73 @@ pub trait Transactions {
     /// Opens a transaction, and takes the room that its commit needs.
     fn begin(&mut self, subtask: u32) -> Result<u64, TransactionFault>
         requires { subtask < (state self.old).subtasks }
-        ensures ends { Ends (state self.old, fault_count self.old) (state self.new, fault_count self.new)
+        ensures ends { Ends (state self.old, fault_count self.old)
+            (state self.new, fault_count self.new)
             None (begun (state self.old) subtask) result }
-        ensures told { result ≢ Err TransactionFault.Fault → fault_count self.new ≡ fault_count self.old }
+        ensures told { result ≢ Err TransactionFault.Fault
+            → fault_count self.new ≡ fault_count self.old }
         ensures number { IfOk result (λ n. n ≡ length (state self.old).transactions + 1) };
 
     /// Puts a record last in an open transaction.
     fn append(&mut self, transaction: u64, bytes: &[u8]) -> Result<(), TransactionFault>
-        ensures ends { Ends (state self.old, fault_count self.old) (state self.new, fault_count self.new)
-            (open_refusal (state self.old) transaction) (appended (state self.old) transaction bytes.now) result }
-        ensures told { result ≢ Err TransactionFault.Fault → fault_count self.new ≡ fault_count self.old };
+        ensures ends { Ends (state self.old, fault_count self.old)
+            (state self.new, fault_count self.new)
+            (open_refusal (state self.old) transaction)
+            (appended (state self.old) transaction bytes.now) result }
+        ensures told { result ≢ Err TransactionFault.Fault
+            → fault_count self.new ≡ fault_count self.old };
 
     /// Closes an open transaction, to be committed once the checkpoint is complete.
     fn pre_commit(&mut self, transaction: u64, checkpoint: u64) -> Result<(), TransactionFault>
-        ensures ends { Ends (state self.old, fault_count self.old) (state self.new, fault_count self.new)
-            (open_refusal (state self.old) transaction) (pre_committed (state self.old) transaction checkpoint) result }
-        ensures told { result ≢ Err TransactionFault.Fault → fault_count self.new ≡ fault_count self.old }
+        ensures ends { Ends (state self.old, fault_count self.old)
+            (state self.new, fault_count self.new)
+            (open_refusal (state self.old) transaction)
+            (pre_committed (state self.old) transaction checkpoint) result }
+        ensures told { result ≢ Err TransactionFault.Fault
+            → fault_count self.new ≡ fault_count self.old }
         ensures takes_no_memory { result ≢ Err TransactionFault.Memory };
 
     /// Commits a transaction that is pre-committed. One that is committed stays as it is.
     fn commit(&mut self, transaction: u64) -> Result<(), TransactionFault>
-        ensures ends { Ends (state self.old, fault_count self.old) (state self.new, fault_count self.new)
-            (commit_refusal (state self.old) transaction) (after_commit (state self.old) transaction) result }
-        ensures told { result ≢ Err TransactionFault.Fault → fault_count self.new ≡ fault_count self.old }
+        ensures ends { Ends (state self.old, fault_count self.old)
+            (state self.new, fault_count self.new)
+            (commit_refusal (state self.old) transaction)
+            (after_commit (state self.old) transaction) result }
+        ensures told { result ≢ Err TransactionFault.Fault
+            → fault_count self.new ≡ fault_count self.old }
         ensures takes_no_memory { result ≢ Err TransactionFault.Memory };
 
-    /// Drops the records of a transaction that is open or pre-committed. One that is aborted stays as it is.
+    /// Drops the records of a transaction that is open or pre-committed. One that is aborted stays
+    /// as it is.
     fn abort(&mut self, transaction: u64) -> Result<(), TransactionFault>
-        ensures ends { Ends (state self.old, fault_count self.old) (state self.new, fault_count self.new)
-            (abort_refusal (state self.old) transaction) (aborted (state self.old) transaction) result }
-        ensures told { result ≢ Err TransactionFault.Fault → fault_count self.new ≡ fault_count self.old }
+        ensures ends { Ends (state self.old, fault_count self.old)
+            (state self.new, fault_count self.new)
+            (abort_refusal (state self.old) transaction)
+            (aborted (state self.old) transaction) result }
+        ensures told { result ≢ Err TransactionFault.Fault
+            → fault_count self.new ≡ fault_count self.old }
         ensures takes_no_memory { result ≢ Err TransactionFault.Memory };
 
-    /// The open and the pre-committed transactions of a subtask in rising number, a pre-committed one with its checkpoint.
+    /// The open and the pre-committed transactions of a subtask in rising number, a pre-committed
+    /// one with its checkpoint.
     fn unsettled(&mut self, subtask: u32) -> Result<Vec<(u64, Option<u64>)>, TransactionFault>
-        ensures ends { Ends (state self.old, fault_count self.old) (state self.new, fault_count self.new)
+        ensures ends { Ends (state self.old, fault_count self.old)
+            (state self.new, fault_count self.new)
             None (state self.old) result }
-        ensures told { result ≢ Err TransactionFault.Fault → fault_count self.new ≡ fault_count self.old }
-        ensures numbers { IfOk result (λ numbers. numbers.items ≡ unsettled_of (state self.old) subtask) };
+        ensures told { result ≢ Err TransactionFault.Fault
+            → fault_count self.new ≡ fault_count self.old }
+        ensures numbers { IfOk result (λ numbers. numbers.items
+            ≡ unsettled_of (state self.old) subtask) };
 
     /// How many records of a subtask are committed.
     fn committed_len(&self, subtask: u32) -> u64
         ensures { result ≡ length (committed_rows (state self.now) subtask) };
 
-    /// A copy of a committed record of a subtask, or `None` past the last. Records are numbered from 0, in the order of commit.
+    /// A copy of a committed record of a subtask, or `None` past the last. Records are numbered
+    /// from 0, in the order of commit.
     fn committed(&self, subtask: u32, index: u64) -> Result<Option<Vec<u8>>, TransactionFault>
-        ensures row { IfOk result (λ row. option_map (λ bytes. bytes.items) row ≡ slice_get (committed_rows (state self.now) subtask) index) }
+        ensures row { IfOk result (λ row. option_map (λ bytes. bytes.items) row
+            ≡ slice_get (committed_rows (state self.now) subtask) index) }
         ensures memory { IfErr result (λ f. f ≡ TransactionFault.Memory) };
 
     /// How often a call has failed. At 2^64 - 1, no call fails any more.

@@ -13,7 +13,8 @@ use std::alloc::Global;
 
 /// An operator whose port 0 goes through a second one.
 ///
-/// The ports of the second come first, and then the others of the first: its port `p` is the chain's `B.ports() + p - 1`.
+/// The ports of the second come first, and then the others of the first: its port `p` is the
+/// chain's `B.ports() + p - 1`.
 #[derive(Debug, PartialEq, Eq, Drop)]
 pub struct Chain<A: Operator, B: Stateless<Record = A::Record>> {
     pub first: A,
@@ -39,8 +40,10 @@ impl<A: Operator, B: Stateless<Record = A::Record>> Chain<A, B> {
         item: A::Record,
         sent: &mut Vec<(u32, A::Record)>,
     ) -> Result<(), NoMemory>
-        requires { MayBeSent (Fits A.Record.HasSpelling A.Record.spelling) (A.meaning.ports self.now.first) (port, item) }
-        ensures { OnOk result (sent.new.items ≡ sent.old.items ++ passed_on B.meaning self.now.second (port, item)) }
+        requires { MayBeSent (Fits A.Record.HasSpelling A.Record.spelling)
+            (A.meaning.ports self.now.first) (port, item) }
+        ensures { OnOk result (sent.new.items
+            ≡ sent.old.items ++ passed_on B.meaning self.now.second (port, item)) }
     {
         if port == 0 {
             let fresh = self.second.fresh(alloc)?;
@@ -58,8 +61,10 @@ impl<A: Operator, B: Stateless<Record = A::Record>> Chain<A, B> {
         alloc: Global,
         items: Vec<(u32, A::Record)>,
     ) -> Result<Vec<(u32, A::Record)>, NoMemory>
-        requires { All (MayBeSent (Fits A.Record.HasSpelling A.Record.spelling) (A.meaning.ports self.now.first)) items.items }
-        ensures { IfOk result (λ sent. sent.items ≡ flat_map (passed_on B.meaning self.now.second) items.items) }
+        requires { All (MayBeSent (Fits A.Record.HasSpelling A.Record.spelling)
+            (A.meaning.ports self.now.first)) items.items }
+        ensures { IfOk result (λ sent. sent.items
+            ≡ flat_map (passed_on B.meaning self.now.second) items.items) }
     {
         let mut sent = Vec::new(alloc);
         for (port, item) in items {
@@ -135,7 +140,11 @@ impl<A: Operator, B: Stateless<Record = A::Record>> Operator for Chain<A, B> {
 
     ghost state_is_exact = { A.state_is_exact };
 
-    ghost operator_is_exact = { λ x y e. same_parts (λ a b p. record { first = a; second = b; can_be_chained = p }) (λ a b. Prim.hlevel props) x.first y.first x.second y.second x.can_be_chained y.can_be_chained (A.operator_is_exact x.first y.first (first_so _ _ e)) (B.operator_is_exact x.second y.second (second_so _ _ e)) };
+    ghost operator_is_exact = { λ x y e. same_parts
+        (λ a b p. record { first = a; second = b; can_be_chained = p }) (λ a b. Prim.hlevel props)
+        x.first y.first x.second y.second x.can_be_chained y.can_be_chained
+        (A.operator_is_exact x.first y.first (first_so _ _ e))
+        (B.operator_is_exact x.second y.second (second_so _ _ e)) };
 
     ghost key_fits = { λ op. A.key_fits op.first };
 
@@ -145,7 +154,10 @@ impl<A: Operator, B: Stateless<Record = A::Record>> Operator for Chain<A, B> {
 
     ghost state_stays_good = { λ op. A.state_stays_good op.first };
 
-    ghost sent_fits = { chain_sent_fits A.meaning B.meaning (λ op. op.first) (λ op. op.second) (Fits A.Record.HasSpelling A.Record.spelling) (Fits A.State.HasSpelling A.State.spelling) (Fits B.State.HasSpelling B.State.spelling) A.Suits B.Suits A.sent_fits B.sent_fits B.fresh_is_good };
+    ghost sent_fits = { chain_sent_fits A.meaning B.meaning (λ op. op.first) (λ op. op.second)
+        (Fits A.Record.HasSpelling A.Record.spelling) (Fits A.State.HasSpelling A.State.spelling)
+        (Fits B.State.HasSpelling B.State.spelling) A.Suits B.Suits A.sent_fits B.sent_fits
+        B.fresh_is_good };
 
     ghost keyless_keeps_fresh = { λ op. A.keyless_keeps_fresh op.first };
 }

@@ -8,7 +8,8 @@ use abs_codec::{NoMemory, Text};
 use operators::{Operator, Outcome, Row, RowOp, RowState};
 use std::alloc::Global;
 
-/// A row operator that keeps no state, as the second of a [`Chain`](crate::Chain) must be: any but count, sum and window.
+/// A row operator that keeps no state, as the second of a [`Chain`](crate::Chain) must be: any but
+/// count, sum and window.
 #[derive(Debug, PartialEq, Eq, Drop)]
 pub struct KeylessRowOp {
     pub op: RowOp,
@@ -90,7 +91,8 @@ impl Operator for KeylessRowOp {
 
     ghost state_is_exact = { states_are_exact };
 
-    ghost operator_is_exact = { λ x y e. same_part (λ op h. record { op = op; keyless = h }) (λ op. Prim.hlevel props) x.op y.op x.keyless y.keyless (ops_are_exact x.op y.op e) };
+    ghost operator_is_exact = { λ x y e. same_part (λ op h. record { op = op; keyless = h })
+        (λ op. Prim.hlevel props) x.op y.op x.keyless y.keyless (ops_are_exact x.op y.op e) };
 
     ghost key_fits = { λ keyless. row_key_fits keyless.op };
 

@@ -89,19 +89,36 @@ impl<A: Operator, B: Stateless<Record = A::Record, Key = A::Key, State = A::Stat
 
     ghost state_is_exact = { A.state_is_exact };
 
-    ghost operator_is_exact = { elim [ First a ↦ elim [ First b ↦ λ e. ap First (A.operator_is_exact a b e) | Second b ↦ λ e. absurd Prim.cc ] | Second a ↦ elim [ First b ↦ λ e. absurd Prim.cc | Second b ↦ λ e. ap Second (B.operator_is_exact a b e) ] ] };
+    ghost operator_is_exact = { elim [
+      | First a ↦ elim
+          [ First b ↦ λ e. ap First (A.operator_is_exact a b e) | Second b ↦ λ e. absurd Prim.cc ]
+      | Second a ↦ elim [
+        | First b ↦ λ e. absurd Prim.cc
+        | Second b ↦ λ e. ap Second
+            (B.operator_is_exact a b e)
+      ]
+    ] };
 
-    ghost key_fits = { pick_keys_fit A.meaning B.meaning (Fits A.Record.HasSpelling A.Record.spelling) (Fits A.Key.HasSpelling A.Key.spelling) A.key_fits B.key_fits };
+    ghost key_fits = { pick_keys_fit A.meaning B.meaning
+        (Fits A.Record.HasSpelling A.Record.spelling) (Fits A.Key.HasSpelling A.Key.spelling)
+        A.key_fits B.key_fits };
 
     ghost key_has_lane = { pick_keys_have_lanes A.meaning B.meaning A.key_has_lane B.has_no_keys };
 
-    ghost fresh_is_good = { pick_fresh_is_good A.meaning B.meaning (Fits A.State.HasSpelling A.State.spelling) A.Suits B.Suits A.fresh_is_good B.fresh_is_good };
+    ghost fresh_is_good = { pick_fresh_is_good A.meaning B.meaning
+        (Fits A.State.HasSpelling A.State.spelling) A.Suits B.Suits A.fresh_is_good
+        B.fresh_is_good };
 
-    ghost state_stays_good = { pick_states_stay_good A.meaning B.meaning (Fits A.State.HasSpelling A.State.spelling) A.Suits B.Suits (Fits A.Record.HasSpelling A.Record.spelling) A.state_stays_good B.state_stays_good };
+    ghost state_stays_good = { pick_states_stay_good A.meaning B.meaning
+        (Fits A.State.HasSpelling A.State.spelling) A.Suits B.Suits
+        (Fits A.Record.HasSpelling A.Record.spelling) A.state_stays_good B.state_stays_good };
 
-    ghost sent_fits = { pick_sent_fits A.meaning B.meaning (Fits A.State.HasSpelling A.State.spelling) A.Suits B.Suits (Fits A.Record.HasSpelling A.Record.spelling) A.sent_fits B.sent_fits };
+    ghost sent_fits = { pick_sent_fits A.meaning B.meaning
+        (Fits A.State.HasSpelling A.State.spelling) A.Suits B.Suits
+        (Fits A.Record.HasSpelling A.Record.spelling) A.sent_fits B.sent_fits };
 
-    ghost keyless_keeps_fresh = { pick_keyless_keeps_fresh A.meaning B.meaning A.keyless_keeps_fresh B.keyless_keeps_fresh };
+    ghost keyless_keeps_fresh = { pick_keyless_keeps_fresh A.meaning B.meaning A.keyless_keeps_fresh
+        B.keyless_keeps_fresh };
 }
 
 impl<A: Stateless, B: Stateless<Record = A::Record, Key = A::Key, State = A::State>> Stateless

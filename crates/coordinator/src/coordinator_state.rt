@@ -23,7 +23,11 @@ impl Model for Coordinator {
 
     ghost Value = { Coordination };
 
-    ghost view = { λ c. record { pending = c.pending; acked = c.acked.items; last_complete = c.last_complete } };
+    ghost view = { λ c. record {
+      pending = c.pending;
+      acked = c.acked.items;
+      last_complete = c.last_complete;
+    } };
 
     // How many tasks have yet to acknowledge the pending number.
     ghost invariant = { λ c. c.missing ≡ count_by not c.acked.items };

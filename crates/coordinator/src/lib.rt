@@ -2,8 +2,8 @@
 //! once, and it is complete when every task has acknowledged it (Carbone et al. 2015). Proved:
 //! ready exactly when every task has acknowledged; each refusal by its cause, in order.
 //!
-//! A [`Coordinator`] is a number of tasks, the pending checkpoint with what each task has said, and the last complete
-//! number. Only its making takes memory.
+//! A [`Coordinator`] is a number of tasks, the pending checkpoint with what each task has said, and
+//! the last complete number. Only its making takes memory.
 #![tactic(auto)]
 
 mod coordinator_state;

@@ -5,8 +5,9 @@
 //! so far; a sound engine is exactly once; no step withdraws a committed row; a restart of a sound
 //! engine goes on from the last complete cut, and is not refused for what the devices hold.
 //!
-//! `State` is all that an engine holds; `engine_of` is what it stands for in the model, as a function of numbers; `Keeps` is what every engine
-//! keeps; the relations `Ends..` say how each call on a running job ends. The laws below say that those calls are the model's steps.
+//! `State` is all that an engine holds; `engine_of` is what it stands for in the model, as a
+//! function of numbers; `Keeps` is what every engine keeps; the relations `Ends..` say how each
+//! call on a running job ends. The laws below say that those calls are the model's steps.
 #![tactic(auto)]
 
 mod fault;
@@ -87,7 +88,8 @@ pub fn sink_barriers_keep_engines<R, K, S, O>()
     ensures { (lang : Language R K S O) → SinkBarriersKeepEngines lang }
 {}
 
-/// A checkpoint's beginning keeps what every engine keeps, and is a step of the model, however it ends.
+/// A checkpoint's beginning keeps what every engine keeps, and is a step of the model, however it
+/// ends.
 pub fn triggers_keep_engines<R, K, S, O>()
     ensures { (lang : Language R K S O) → TriggersKeepEngines lang }
 {}
@@ -112,12 +114,14 @@ pub fn commits_reach_every_checkpoint<R, K, S, O>()
     ensures { (lang : Language R K S O) → CommitsReachEveryCheckpoint lang }
 {}
 
-/// A checkpoint that completes is the cut that its attempt has made so far, and every task's part is in the store: on any engine, fresh or not.
+/// A checkpoint that completes is the cut that its attempt has made so far, and every task's part
+/// is in the store: on any engine, fresh or not.
 pub fn completes_are_the_cut<R, K, S, O>()
     ensures { (lang : Language R K S O) → CompletesAreTheCut lang }
 {}
 
-/// On a fresh engine a plain run comes to that cut, where each sink's output is what it has settled.
+/// On a fresh engine a plain run comes to that cut, where each sink's output is what it has
+/// settled.
 pub fn fresh_completes_are_reached<R, K, S, O>()
     ensures { (lang : Language R K S O) → FreshCompletesAreReached lang }
 {}

@@ -10,18 +10,20 @@
 ghost use Rattle.core_model.specs.Language.{Language};
 ghost use Rattle.core_plain.specs.PlainLaws.{CallsArePlain, FreshEnginesAreReached, StandForOne};
 
-/// Each call of a running engine, however it ends, is one plain step or none: an accepted read, an operator's work and a sink's work are one, and all
-/// else is none.
+/// Each call of a running engine, however it ends, is one plain step or none: an accepted read, an
+/// operator's work and a sink's work are one, and all else is none.
 pub fn calls_are_plain<R, K, S, O>()
     ensures { (lang : Language R K S O) → CallsArePlain lang }
 {}
 
-/// A fresh engine that runs stands for a configuration that the plain machine reaches from its start.
+/// A fresh engine that runs stands for a configuration that the plain machine reaches from its
+/// start.
 pub fn fresh_engines_are_reached<R, K, S, O>()
     ensures { (lang : Language R K S O) → FreshEnginesAreReached lang }
 {}
 
-/// A running engine stands for one plain configuration, if different records are spelled differently.
+/// A running engine stands for one plain configuration, if different records are spelled
+/// differently.
 pub fn engines_stand_for_one<R, K, S, O>()
     ensures { (lang : Language R K S O) → StandForOne lang }
 {}

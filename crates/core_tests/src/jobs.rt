@@ -14,8 +14,8 @@ pub(crate) const LINE: &str =
 pub(crate) const COUNT: &str =
     r#"{"vertices":[{"name":"s","kind":"source","parallelism":2},{"name":"c","kind":"count"},{"name":"out","kind":"sink"}],"edges":[{"from":"s","to":"c","route":"hash"},{"from":"c","to":"out"}]}"#;
 
-/// A loop that counts down, by way of a second operator: a source, the operator that counts, the one
-/// that sends back, and a sink.
+/// A loop that counts down, by way of a second operator: a source, the operator that counts, the
+/// one that sends back, and a sink.
 pub(crate) const LONG_LOOP: &str =
     r#"{"vertices":[{"name":"s","kind":"source"},{"name":"d","kind":"loop_down"},{"name":"r","kind":"add","n":0},{"name":"out","kind":"sink"}],"edges":[{"from":"s","to":"d"},{"from":"d","to":"r","port":1},{"from":"r","to":"d","back":true},{"from":"d","to":"out"}]}"#;
 

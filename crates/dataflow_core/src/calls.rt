@@ -58,9 +58,14 @@ impl<O: Operator, S: SnapshotStore, X: Transactions, P: Partitions<Record = O::R
 
     ghost coded = { Prim.hlevel (codes, stored_code) };
 
-    ghost view = { λ c. record { engine = c.engine; claims = c.claims.items; serials = c.serials } };
+    ghost view = { λ c. record {
+      engine = c.engine;
+      claims = c.claims.items;
+      serials = c.serials;
+    } };
 
-    ghost invariant = { λ c. (c.serials ≤ 2 ^ 63) × (length c.claims.items ≤ c.serials) × All (λ claim. claim.serial < c.serials) c.claims.items };
+    ghost invariant = { λ c. (c.serials ≤ 2 ^ 63) × (length c.claims.items ≤ c.serials)
+        × All (λ claim. claim.serial < c.serials) c.claims.items };
 }
 
 impl<O: Operator, S: SnapshotStore, X: Transactions, P: Partitions<Record = O::Record>> Core<
@@ -69,9 +74,9 @@ impl<O: Operator, S: SnapshotStore, X: Transactions, P: Partitions<Record = O::R
     X,
     P,
 > {
-    /// A job that is down, over these devices, with no attempt and no claim made. Over legal devices,
-    /// as new ones are, and those that a sound core has handed out, though the partitions may have
-    /// grown since, it is sound.
+    /// A job that is down, over these devices, with no attempt and no claim made. Over legal
+    /// devices, as new ones are, and those that a sound core has handed out, though the partitions
+    /// may have grown since, it is sound.
     pub fn open(
         alloc: Global,
         graph: Graph,
@@ -100,7 +105,8 @@ impl<O: Operator, S: SnapshotStore, X: Transactions, P: Partitions<Record = O::R
             → AreLegal ⟦<O as Rules>⟧.lang ⟦<O as Rules>⟧.RecordFits graph operators.items former
             (S.state store) (X.state transactions)
             → IsSound ⟦<O as Rules>⟧.lang ⟦<O as Rules>⟧.RecordFits result.engine }
-        ensures fresh { IsTrue result.engine.is_fresh ↔ ((S.state store ≡ stores.blank (length graph.tasks))
+        ensures fresh { IsTrue result.engine.is_fresh
+            ↔ ((S.state store ≡ stores.blank (length graph.tasks))
             × (X.state transactions ≡ ledgers.blank (count_by is_sink graph.tasks))) }
     {
         let engine = Engine::open(alloc, graph, operators, log, store, transactions);
@@ -113,16 +119,18 @@ impl<O: Operator, S: SnapshotStore, X: Transactions, P: Partitions<Record = O::R
     }
 
     /// Whether both devices were new when the core was opened. No call changes it. What every core
-    /// keeps is handed out (`kept`): among it, that the last complete number of a running job is the
-    /// store's, and that what a commit takes is of a complete checkpoint. Of a core over new devices
-    /// one run of the plain machine, without barriers, checkpoints or failures, has a moment for each
-    /// complete checkpoint, in order, and the rows that each sink has committed, as `committed`
-    /// answers them, are exactly its output at the moment of its own last committed checkpoint; on a
-    /// line, what the operator makes of a beginning of the partition.
+    /// keeps is handed out (`kept`): among it, that the last complete number of a running job is
+    /// the store's, and that what a commit takes is of a complete checkpoint. Of a core over new
+    /// devices one run of the plain machine, without barriers, checkpoints or failures, has a
+    /// moment for each complete checkpoint, in order, and the rows that each sink has committed, as
+    /// `committed` answers them, are exactly its output at the moment of its own last committed
+    /// checkpoint; on a line, what the operator makes of a beginning of the partition.
     pub fn is_fresh(&self) -> bool
         ensures value { result ≡ self.now.engine.is_fresh }
-        ensures kept { Keeps ⟦<O as Rules>⟧.lang ⟦<O as Rules>⟧.RecordFits ⟦<O as Rules>⟧.IsGood self.now.engine }
-        ensures sound { IsTrue result → IsSound ⟦<O as Rules>⟧.lang ⟦<O as Rules>⟧.RecordFits self.now.engine }
+        ensures kept { Keeps ⟦<O as Rules>⟧.lang ⟦<O as Rules>⟧.RecordFits ⟦<O as Rules>⟧.IsGood
+            self.now.engine }
+        ensures sound { IsTrue result → IsSound ⟦<O as Rules>⟧.lang ⟦<O as Rules>⟧.RecordFits
+            self.now.engine }
         ensures exact { IsTrue result → IsExactlyOnce ⟦<O as Rules>⟧.lang self.now.engine }
         ensures line { IsTrue result → (operator : O) → IsLine self.now.engine.graph
             → slice_get self.now.engine.operators 0 ≡ Some operator
@@ -135,7 +143,8 @@ impl<O: Operator, S: SnapshotStore, X: Transactions, P: Partitions<Record = O::R
     /// The job is down, and what it held is lost.
     pub fn fail(&mut self) -> Result<(), CoreFault>
         ensures ends { Fails self.old.engine self.new.engine result }
-        ensures step { IsStep ⟦<O as Rules>⟧.lang ⟦<O as Rules>⟧.RecordFits self.old.engine self.new.engine }
+        ensures step { IsStep ⟦<O as Rules>⟧.lang ⟦<O as Rules>⟧.RecordFits self.old.engine
+            self.new.engine }
         ensures stays { Stays ⟦<O as Rules>⟧.lang self.old.engine self.new.engine }
         ensures counted { IsCounted self.old.engine.faults self.new.engine.faults result }
         ensures claims { self.new ≡ record self.old { engine = self.new.engine } }
@@ -144,15 +153,16 @@ impl<O: Operator, S: SnapshotStore, X: Transactions, P: Partitions<Record = O::R
         engine.fail()
     }
 
-    /// The next attempt runs from the last complete checkpoint, whose number is answered, or anew where
-    /// there is none, and all claims are dropped. Each sink has committed the transactions that its part
-    /// names, all others that were open or pre-committed are aborted, and a new one is open. A refused
-    /// restart leaves the job down, with its claims; transactions may be settled in part, and the next
-    /// one does the rest. Attempts have numbers below 2^63.
+    /// The next attempt runs from the last complete checkpoint, whose number is answered, or anew
+    /// where there is none, and all claims are dropped. Each sink has committed the transactions
+    /// that its part names, all others that were open or pre-committed are aborted, and a new one
+    /// is open. A refused restart leaves the job down, with its claims; transactions may be settled
+    /// in part, and the next one does the rest. Attempts have numbers below 2^63.
     pub fn restart(&mut self) -> Result<Option<u64>, CoreFault>
         ensures ends { Restarts self.old.engine self.new.engine ⟦<O as Rules>⟧.lang
             ⟦<O as Rules>⟧.KeyFits ⟦<O as Rules>⟧.RecordFits ⟦<O as Rules>⟧.IsGood result }
-        ensures step { IsRestart ⟦<O as Rules>⟧.lang ⟦<O as Rules>⟧.RecordFits self.old.engine self.new.engine result }
+        ensures step { IsRestart ⟦<O as Rules>⟧.lang ⟦<O as Rules>⟧.RecordFits self.old.engine
+            self.new.engine result }
         ensures counted { IsCounted self.old.engine.faults self.new.engine.faults result }
         ensures claims { self.new ≡ record self.old {
           engine = self.new.engine;
@@ -168,8 +178,10 @@ impl<O: Operator, S: SnapshotStore, X: Transactions, P: Partitions<Record = O::R
     /// Source `task` sends its next record.
     pub fn read(&mut self, task: u32) -> Result<(), CoreFault>
         ensures ends { Reads self.old.engine self.new.engine ⟦<O as Rules>⟧.lang task result }
-        ensures step { IsStep ⟦<O as Rules>⟧.lang ⟦<O as Rules>⟧.RecordFits self.old.engine self.new.engine }
-        ensures plain { StepsIfOk result ⟦<O as Rules>⟧.lang (machine.Read task) self.old.engine self.new.engine }
+        ensures step { IsStep ⟦<O as Rules>⟧.lang ⟦<O as Rules>⟧.RecordFits self.old.engine
+            self.new.engine }
+        ensures plain { StepsIfOk result ⟦<O as Rules>⟧.lang (machine.Read task) self.old.engine
+            self.new.engine }
         ensures counted { IsCounted self.old.engine.faults self.new.engine.faults result }
         ensures claims { self.new ≡ record self.old { engine = self.new.engine } }
     {
@@ -180,7 +192,8 @@ impl<O: Operator, S: SnapshotStore, X: Transactions, P: Partitions<Record = O::R
     /// Source `task` copies its offset for the pending checkpoint, and sends the barrier.
     pub fn inject(&mut self, task: u32) -> Result<(), CoreFault>
         ensures ends { Injects self.old.engine self.new.engine task result }
-        ensures step { IsStep ⟦<O as Rules>⟧.lang ⟦<O as Rules>⟧.RecordFits self.old.engine self.new.engine }
+        ensures step { IsStep ⟦<O as Rules>⟧.lang ⟦<O as Rules>⟧.RecordFits self.old.engine
+            self.new.engine }
         ensures stays { Stays ⟦<O as Rules>⟧.lang self.old.engine self.new.engine }
         ensures counted { IsCounted self.old.engine.faults self.new.engine.faults result }
         ensures claims { self.new ≡ record self.old { engine = self.new.engine } }
@@ -193,7 +206,8 @@ impl<O: Operator, S: SnapshotStore, X: Transactions, P: Partitions<Record = O::R
     /// number are discarded. It takes no memory.
     pub fn trigger(&mut self) -> Result<u64, CoreFault>
         ensures ends { Triggers self.old.engine self.new.engine result }
-        ensures step { IsStep ⟦<O as Rules>⟧.lang ⟦<O as Rules>⟧.RecordFits self.old.engine self.new.engine }
+        ensures step { IsStep ⟦<O as Rules>⟧.lang ⟦<O as Rules>⟧.RecordFits self.old.engine
+            self.new.engine }
         ensures stays { Stays ⟦<O as Rules>⟧.lang self.old.engine self.new.engine }
         ensures counted { IsCounted self.old.engine.faults self.new.engine.faults result }
         ensures claims { self.new ≡ record self.old { engine = self.new.engine } }
@@ -204,8 +218,10 @@ impl<O: Operator, S: SnapshotStore, X: Transactions, P: Partitions<Record = O::R
 
     /// The part of a task that has copied is put in the store and acknowledged.
     pub fn persist(&mut self, task: u32) -> Result<(), CoreFault>
-        ensures ends { Persists self.old.engine self.new.engine ⟦<O as Rules>⟧.spelling task result }
-        ensures step { IsStep ⟦<O as Rules>⟧.lang ⟦<O as Rules>⟧.RecordFits self.old.engine self.new.engine }
+        ensures ends { Persists self.old.engine self.new.engine
+            ⟦<O as Rules>⟧.spelling task result }
+        ensures step { IsStep ⟦<O as Rules>⟧.lang ⟦<O as Rules>⟧.RecordFits self.old.engine
+            self.new.engine }
         ensures stays { Stays ⟦<O as Rules>⟧.lang self.old.engine self.new.engine }
         ensures counted { IsCounted self.old.engine.faults self.new.engine.faults result }
         ensures claims { self.new ≡ record self.old { engine = self.new.engine } }
@@ -214,19 +230,21 @@ impl<O: Operator, S: SnapshotStore, X: Transactions, P: Partitions<Record = O::R
         engine.persist(task)
     }
 
-    /// The pending checkpoint, of which the store has every task's part, becomes complete: the parts say
-    /// the cut that the attempt has made. Of a sound core a plain run comes to that cut, where each
-    /// sink's output is what it has committed or has pre-committed for a complete checkpoint. It takes
-    /// no memory.
+    /// The pending checkpoint, of which the store has every task's part, becomes complete: the
+    /// parts say the cut that the attempt has made. Of a sound core a plain run comes to that cut,
+    /// where each sink's output is what it has committed or has pre-committed for a complete
+    /// checkpoint. It takes no memory.
     pub fn complete(&mut self) -> Result<u64, CoreFault>
         ensures ends { Completes self.old.engine self.new.engine result }
-        ensures whole { IfOk result (λ number. stores.has_all_parts self.new.engine.stored number ≡ true) }
+        ensures whole { IfOk result (λ number. stores.has_all_parts self.new.engine.stored
+            number ≡ true) }
         ensures cut { IfOk result (λ number. MatchOption self.old.engine.held ⊥
             (λ h. HasTheCut ⟦<O as Rules>⟧.lang self.old.engine h self.new.engine.stored number)) }
         ensures reached { IsSound ⟦<O as Rules>⟧.lang ⟦<O as Rules>⟧.RecordFits self.old.engine
             → IfOk result (IsReachedCut (job_of ⟦<O as Rules>⟧.lang self.new.engine)
             O.Record.spelling (devices_of ⟦<O as Rules>⟧.lang self.new.engine)) }
-        ensures step { IsStep ⟦<O as Rules>⟧.lang ⟦<O as Rules>⟧.RecordFits self.old.engine self.new.engine }
+        ensures step { IsStep ⟦<O as Rules>⟧.lang ⟦<O as Rules>⟧.RecordFits self.old.engine
+            self.new.engine }
         ensures stays { Stays ⟦<O as Rules>⟧.lang self.old.engine self.new.engine }
         ensures counted { IsCounted self.old.engine.faults self.new.engine.faults result }
         ensures claims { self.new ≡ record self.old { engine = self.new.engine } }
@@ -235,14 +253,15 @@ impl<O: Operator, S: SnapshotStore, X: Transactions, P: Partitions<Record = O::R
         engine.complete()
     }
 
-    /// The pending transactions of a sink subtask up to the last complete checkpoint are committed, the
-    /// oldest first. It takes no memory.
+    /// The pending transactions of a sink subtask up to the last complete checkpoint are committed,
+    /// the oldest first. It takes no memory.
     pub fn commit(&mut self, sink: u32) -> Result<(), CoreFault>
         ensures ends { Commits self.old.engine self.new.engine sink result }
         ensures reaches { IsSound ⟦<O as Rules>⟧.lang ⟦<O as Rules>⟧.RecordFits self.old.engine
             → OnOk result (length (committed_of self.new.engine.ledger sink)
             ≡ length (complete_numbers self.new.engine.stored)) }
-        ensures step { IsStep ⟦<O as Rules>⟧.lang ⟦<O as Rules>⟧.RecordFits self.old.engine self.new.engine }
+        ensures step { IsStep ⟦<O as Rules>⟧.lang ⟦<O as Rules>⟧.RecordFits self.old.engine
+            self.new.engine }
         ensures stays { Stays ⟦<O as Rules>⟧.lang self.old.engine self.new.engine }
         ensures counted { IsCounted self.old.engine.faults self.new.engine.faults result }
         ensures claims { self.new ≡ record self.old { engine = self.new.engine } }
@@ -251,8 +270,8 @@ impl<O: Operator, S: SnapshotStore, X: Transactions, P: Partitions<Record = O::R
         engine.commit(sink)
     }
 
-    /// Puts a record last in a partition. It is served whether the job runs or not, and does not take it
-    /// down.
+    /// Puts a record last in a partition. It is served whether the job runs or not, and does not
+    /// take it down.
     pub fn append(&mut self, partition: u32, row: O::Record) -> Result<(), SourceFault>
         requires { Fits O.Record.HasSpelling O.Record.spelling row }
         ensures ends { Appends self.old.engine self.new.engine partition row result }
@@ -265,9 +284,9 @@ impl<O: Operator, S: SnapshotStore, X: Transactions, P: Partitions<Record = O::R
         engine.append(partition, row)
     }
 
-    /// The partitions and the devices, as they stand. Those of a sound core are legal: a core of the
-    /// same graph and operators that is opened over them is sound, though the partitions may have grown
-    /// since.
+    /// The partitions and the devices, as they stand. Those of a sound core are legal: a core of
+    /// the same graph and operators that is opened over them is sound, though the partitions may
+    /// have grown since.
     pub fn into_durable(self) -> (P, S, X)
         ensures partitions { P.records result.0 ≡ self.engine.partitions }
         ensures stored { S.state result.1 ≡ self.engine.stored }
@@ -297,15 +316,17 @@ impl<O: Operator, S: SnapshotStore, X: Transactions, P: Partitions<Record = O::R
         self.engine.committed_len(subtask)
     }
 
-    /// A copy of a committed record of a sink subtask, or `None` past the last. Records are numbered
-    /// from 0, in the order of commit.
+    /// A copy of a committed record of a sink subtask, or `None` past the last. Records are
+    /// numbered from 0, in the order of commit.
     pub fn committed(&self, subtask: u32, number: u64) -> Result<Option<Vec<u8>>, CoreFault>
         ensures ok { IfOk result (λ row. (subtask < count_by is_sink self.now.engine.graph.tasks)
             × (option_map (λ bytes. bytes.items) row
             ≡ slice_get (committed_rows self.now.engine.ledger subtask) number)) }
         ensures err { IfErr result (λ fault.
-            ((fault ≡ CoreFault.NoSuchTask) × (count_by is_sink self.now.engine.graph.tasks ≤ subtask))
-            ⊎ ((fault ≡ CoreFault.Memory) × (subtask < count_by is_sink self.now.engine.graph.tasks))) }
+            ((fault ≡ CoreFault.NoSuchTask) × (count_by is_sink
+            self.now.engine.graph.tasks ≤ subtask))
+            ⊎ ((fault ≡ CoreFault.Memory) × (subtask
+            < count_by is_sink self.now.engine.graph.tasks))) }
     {
         self.engine.committed(subtask, number)
     }

@@ -64,12 +64,13 @@ impl<O: Operator, S: SnapshotStore, X: Transactions, P: Partitions<Record = O::R
         offered
     }
 
-    /// A task claims the record at the head of its input, which stays there. The job carries all that
-    /// its work needs. Serials are below 2^63, and rise over all attempts.
+    /// A task claims the record at the head of its input, which stays there. The job carries all
+    /// that its work needs. Serials are below 2^63, and rise over all attempts.
     pub fn claim(&mut self, task: u32, input: u32) -> Result<Job<O>, CoreFault>
         ensures ok { IfOk result (λ job. Claims self.old task input ⟦<O as Rules>⟧.lang self.new
             job.attempt job.serial job.work) }
-        ensures err { IfErr result (λ fault. Refuses self.old task input fault × (self.new ≡ self.old)) }
+        ensures err { IfErr result (λ fault. Refuses self.old task input fault
+            × (self.new ≡ self.old)) }
     {
         let work = self.offered(task, input)?;
         let Core {
@@ -118,13 +119,16 @@ impl<O: Operator, S: SnapshotStore, X: Transactions, P: Partitions<Record = O::R
     }
 
     /// Takes what was done of a job: the record is taken, and the claim ends. A result that is no
-    /// fresh ticket is stale. One whose operator, state or record differ from the core's is wrong, and
-    /// leaves the claim. Where memory was refused the claim ends, and its record is still at the head.
+    /// fresh ticket is stale. One whose operator, state or record differ from the core's is wrong,
+    /// and leaves the claim. Where memory was refused the claim ends, and its record is still at
+    /// the head.
     pub fn finish(&mut self, done: Done<O>) -> Result<(), CoreFault>
         ensures ends { EndsFinish self.old ⟦<O as Rules>⟧.lang self.new
             done.attempt done.serial done.worked result }
-        ensures step { IsStep ⟦<O as Rules>⟧.lang ⟦<O as Rules>⟧.RecordFits self.old.engine self.new.engine }
-        ensures plain { FinishMoves self.old ⟦<O as Rules>⟧.lang self.new done.attempt done.serial result }
+        ensures step { IsStep ⟦<O as Rules>⟧.lang ⟦<O as Rules>⟧.RecordFits self.old.engine
+            self.new.engine }
+        ensures plain { FinishMoves self.old ⟦<O as Rules>⟧.lang self.new done.attempt
+            done.serial result }
         ensures counted { IsCounted self.old.engine.faults self.new.engine.faults result }
     {
         let Done {
@@ -147,11 +151,12 @@ impl<O: Operator, S: SnapshotStore, X: Transactions, P: Partitions<Record = O::R
     }
 
     /// A task that holds no claim takes the barrier at the head of its input. At the last of its
-    /// unmarked inputs it copies what it holds; a sink then begins a transaction and pre-commits the
-    /// old one.
+    /// unmarked inputs it copies what it holds; a sink then begins a transaction and pre-commits
+    /// the old one.
     pub fn take_barrier(&mut self, task: u32, input: u32) -> Result<Effect, CoreFault>
         ensures ends { TakesBarrierUnclaimed self.old task input self.new result }
-        ensures step { IsStep ⟦<O as Rules>⟧.lang ⟦<O as Rules>⟧.RecordFits self.old.engine self.new.engine }
+        ensures step { IsStep ⟦<O as Rules>⟧.lang ⟦<O as Rules>⟧.RecordFits self.old.engine
+            self.new.engine }
         ensures stays { Stays ⟦<O as Rules>⟧.lang self.old.engine self.new.engine }
         ensures counted { IsCounted self.old.engine.faults self.new.engine.faults result }
         ensures claims { self.new ≡ record self.old { engine = self.new.engine } }

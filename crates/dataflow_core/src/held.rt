@@ -32,7 +32,8 @@ pub(crate) fn is_busy(claims: &[Claim], task: u32) -> bool
 /// The claim of a serial, and its place.
 pub(crate) fn claim_of(claims: &[Claim], serial: u64) -> Option<(usize, Claim)>
     ensures some { IfSome result (λ found. IsClaimAt claims.now serial found.0 found.1) }
-    ensures none { IfNone result ((at : ℕ) (claim : Claim) → ¬ IsClaimAt claims.now serial at claim) }
+    ensures none { IfNone result ((at : ℕ) (claim : Claim)
+        → ¬ IsClaimAt claims.now serial at claim) }
 {
     for at in 0..claims.len() {
         let claim = claims[at];
@@ -47,7 +48,8 @@ pub(crate) fn claim_of(claims: &[Claim], serial: u64) -> Option<(usize, Claim)>
 pub(crate) fn drop_claims<T>(claims: &mut Vec<Claim>, outcome: &Result<T, CoreFault>)
     ensures claims { claims.new.items ≡ claims_after outcome.now claims.old.items }
     ensures fewer { length claims.new.items ≤ length claims.old.items }
-    ensures below { (bound : ℕ) → All (λ claim. claim.serial < bound) claims.old.items → All (λ claim. claim.serial < bound) claims.new.items }
+    ensures below { (bound : ℕ) → All (λ claim. claim.serial < bound) claims.old.items
+        → All (λ claim. claim.serial < bound) claims.new.items }
 {
     if outcome.is_ok() {
         claims.clear();
@@ -57,7 +59,8 @@ pub(crate) fn drop_claims<T>(claims: &mut Vec<Claim>, outcome: &Result<T, CoreFa
 /// Keeps one claim more.
 pub(crate) fn keep_claim(claims: &mut Vec<Claim>, claim: Claim) -> Result<(), CoreFault>
     ensures ok { OnOk result (claims.new.items ≡ claims.old.items ++ claim ∷ []) }
-    ensures err { IfErr result (λ fault. (fault ≡ CoreFault.Memory) × (claims.new.items ≡ claims.old.items)) }
+    ensures err { IfErr result (λ fault. (fault ≡ CoreFault.Memory)
+        × (claims.new.items ≡ claims.old.items)) }
 {
     if claims.push(claim).is_err() {
         return Err(CoreFault::Memory);
@@ -70,7 +73,8 @@ pub(crate) fn end_claim(claims: &mut Vec<Claim>, at: usize, outcome: &Result<(),
     requires { at < length claims.old.items }
     ensures claims { claims.new.items ≡ claims_left at outcome.now claims.old.items }
     ensures fewer { length claims.new.items ≤ length claims.old.items }
-    ensures below { (bound : ℕ) → All (λ claim. claim.serial < bound) claims.old.items → All (λ claim. claim.serial < bound) claims.new.items }
+    ensures below { (bound : ℕ) → All (λ claim. claim.serial < bound) claims.old.items
+        → All (λ claim. claim.serial < bound) claims.new.items }
 {
     match outcome {
         Err(CoreFault::WrongResult) => {}

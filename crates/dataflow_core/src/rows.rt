@@ -18,7 +18,9 @@ impl<S: SnapshotStore, X: Transactions, P: Partitions<Record = Row>> Core<RowOp,
     /// checkpoint was committed, and as many as the source's part of the last committed one spells,
     /// where the store still has it.
     pub fn lines_commit_sums(&self)
-        ensures { self.now.engine.is_fresh ≡ true → IsLine self.now.engine.graph → (n : ℤ) → slice_get self.now.engine.operators 0 ≡ Some (RowOp.Add n) → CommitsABeginning row_language self.now.engine (λ rows. map (added n) rows) }
+        ensures { self.now.engine.is_fresh ≡ true → IsLine self.now.engine.graph → (n : ℤ)
+            → slice_get self.now.engine.operators 0 ≡ Some (RowOp.Add n)
+            → CommitsABeginning row_language self.now.engine (λ rows. map (added n) rows) }
     {
         self.engine.lines_commit_sums();
     }

@@ -27,7 +27,8 @@ pub trait Rules: Operator {
 }
 
 impl<O: Operator> Rules for O {
-    ghost lang = { language O.meaning O.Key.cmp O.Record.spelling O.Record.reading O.Key.reading O.State.reading };
+    ghost lang = { language O.meaning O.Key.cmp O.Record.spelling O.Record.reading O.Key.reading
+        O.State.reading };
 
     ghost RecordFits = { Fits O.Record.HasSpelling O.Record.spelling };
 

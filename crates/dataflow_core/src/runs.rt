@@ -63,7 +63,8 @@ impl<O: Operator, S: SnapshotStore, X: Transactions, P: Partitions<Record = O::R
 
     /// A task claims, and the job is put last at the desk. The desk's room is taken first.
     fn claim_at(&mut self, desk: &mut Desk<O>, task: u32, input: u32) -> Reply
-        ensures ends { EndsClaim self.old desk.old self.new desk.new result ⟦<O as Rules>⟧.lang task input }
+        ensures ends { EndsClaim self.old desk.old self.new desk.new result
+            ⟦<O as Rules>⟧.lang task input }
         ensures stays { self.new.engine ≡ self.old.engine }
     {
         let Desk { jobs } = desk;
@@ -82,8 +83,10 @@ impl<O: Operator, S: SnapshotStore, X: Transactions, P: Partitions<Record = O::R
 
     /// A job leaves the desk, is done, and what was done is handed in.
     fn finish_at(&mut self, desk: &mut Desk<O>, number: u32) -> Reply
-        ensures ends { EndsFinishing self.old desk.old self.new desk.new result ⟦<O as Rules>⟧.lang number }
-        ensures step { Preserves ⟦<O as Rules>⟧.lang ⟦<O as Rules>⟧.RecordFits self.old.engine self.new.engine }
+        ensures ends { EndsFinishing self.old desk.old self.new desk.new result
+            ⟦<O as Rules>⟧.lang number }
+        ensures step { Preserves ⟦<O as Rules>⟧.lang ⟦<O as Rules>⟧.RecordFits self.old.engine
+            self.new.engine }
     {
         let Some(job) = desk.take(number) else {
             return Reply::NoJob;
@@ -95,7 +98,8 @@ impl<O: Operator, S: SnapshotStore, X: Transactions, P: Partitions<Record = O::R
     fn append_copy(&mut self, partition: u32, row: &O::Record) -> Reply
         requires { ⟦<O as Rules>⟧.RecordFits row.now }
         ensures ends { EndsAppend self.old [] self.new [] result partition row.now }
-        ensures step { Preserves ⟦<O as Rules>⟧.lang ⟦<O as Rules>⟧.RecordFits self.old.engine self.new.engine }
+        ensures step { Preserves ⟦<O as Rules>⟧.lang ⟦<O as Rules>⟧.RecordFits self.old.engine
+            self.new.engine }
     {
         match row.copied() {
             Ok(row) => appended(self.append(partition, row)),
@@ -103,15 +107,16 @@ impl<O: Operator, S: SnapshotStore, X: Transactions, P: Partitions<Record = O::R
         }
     }
 
-    /// Makes one call. What is appended has to fit, as `append` asks. A record that finds no memory for
-    /// its copy is answered as `append` would, and a claim for which the desk finds none as `claim`
-    /// would; then nothing has changed.
+    /// Makes one call. What is appended has to fit, as `append` asks. A record that finds no memory
+    /// for its copy is answered as `append` would, and a claim for which the desk finds none as
+    /// `claim` would; then nothing has changed.
     pub fn step(&mut self, desk: &mut Desk<O>, step: &Step<O::Record>) -> Reply
         requires { StepFits ⟦<O as Rules>⟧.RecordFits step.now }
         ensures ends { EndsStep ⟦<O as Rules>⟧.lang ⟦<O as Rules>⟧.KeyFits ⟦<O as Rules>⟧.RecordFits
             ⟦<O as Rules>⟧.IsGood ⟦<O as Rules>⟧.spelling
             step.now self.old desk.old self.new desk.new result }
-        ensures step { Preserves ⟦<O as Rules>⟧.lang ⟦<O as Rules>⟧.RecordFits self.old.engine self.new.engine }
+        ensures step { Preserves ⟦<O as Rules>⟧.lang ⟦<O as Rules>⟧.RecordFits self.old.engine
+            self.new.engine }
     {
         match step {
             Step::Read(task) => accepted(self.read(*task)),
@@ -130,9 +135,9 @@ impl<O: Operator, S: SnapshotStore, X: Transactions, P: Partitions<Record = O::R
     }
 
     /// Makes the calls in order, refused or not, with a reply for each. The replies' room is taken
-    /// first; where that is refused, `K11 Memory`, no call is made. Of a sound core, and one over new
-    /// devices is sound, what each sink has committed is exactly what one run of the plain machine has
-    /// put out at the moment of that sink's own last committed checkpoint.
+    /// first; where that is refused, `K11 Memory`, no call is made. Of a sound core, and one over
+    /// new devices is sound, what each sink has committed is exactly what one run of the plain
+    /// machine has put out at the moment of that sink's own last committed checkpoint.
     pub fn run_steps(
         &mut self,
         desk: &mut Desk<O>,
@@ -144,7 +149,8 @@ impl<O: Operator, S: SnapshotStore, X: Transactions, P: Partitions<Record = O::R
             self.old desk.old steps.now replies.items self.new desk.new) }
         ensures exact { IsSound ⟦<O as Rules>⟧.lang ⟦<O as Rules>⟧.RecordFits self.old.engine
             → IsExactlyOnce ⟦<O as Rules>⟧.lang self.new.engine }
-        ensures step { Preserves ⟦<O as Rules>⟧.lang ⟦<O as Rules>⟧.RecordFits self.old.engine self.new.engine }
+        ensures step { Preserves ⟦<O as Rules>⟧.lang ⟦<O as Rules>⟧.RecordFits self.old.engine
+            self.new.engine }
         ensures err { IfErr result (λ fault.
             (fault ≡ CoreFault.Memory) × (self.new ≡ self.old) × (desk.new ≡ desk.old)) }
     {

@@ -2,14 +2,17 @@
 //! different tasks change places, runs join and part, and growing partitions keep runs
 //! (`steps_are_unique`, `steps_change_places`, `steps_come_earlier`, ..).
 //!
-//! A job is a directed graph of sources, operators and sinks, what its operators mean, and the partitions that its sources read. The plain machine moves
-//! one record at a time: a source reads its next one, or a task works off the first record of an input. It knows no barriers, checkpoints or failures:
-//! it says what a job's sinks are to put out.
+//! A job is a directed graph of sources, operators and sinks, what its operators mean, and the
+//! partitions that its sources read. The plain machine moves one record at a time: a source reads
+//! its next one, or a task works off the first record of an input. It knows no barriers,
+//! checkpoints or failures: it says what a job's sinks are to put out.
 //!
-//! Steps are unique, steps of different tasks change places, runs can be joined and parted, and stay runs when partitions grow. Nothing here runs. Each
-//! public function has an empty body, and its contract is the law.
+//! Steps are unique, steps of different tasks change places, runs can be joined and parted, and
+//! stay runs when partitions grow. Nothing here runs. Each public function has an empty body, and
+//! its contract is the law.
 //!
-//! Source: the execution graphs of Carbone, Fóra, Ewen, Haridi and Tzoumas, "Lightweight Asynchronous Snapshots for Distributed Dataflows", 2015.
+//! Source: the execution graphs of Carbone, Fóra, Ewen, Haridi and Tzoumas, "Lightweight
+//! Asynchronous Snapshots for Distributed Dataflows", 2015.
 #![tactic(auto)]
 
 ghost use Rattle.dataflow_model.specs.Graph.{Job};

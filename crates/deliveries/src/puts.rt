@@ -9,7 +9,8 @@ use job_graph::Graph;
 use operators::Operator;
 use std::alloc::Global;
 
-/// Adds that a record goes into each channel that takes it from the task's port: the record itself into the last of them, copies into the others.
+/// Adds that a record goes into each channel that takes it from the task's port: the record itself
+/// into the last of them, copies into the others.
 fn deliver_one<O: Operator>(
     graph: &Graph,
     task: u32,
@@ -17,7 +18,8 @@ fn deliver_one<O: Operator>(
     row: O::Record,
     puts: &mut Vec<(u32, Item<O::Record>)>,
 ) -> Result<(), NoMemory>
-    ensures { OnOk result (puts.new.items ≡ puts.old.items ++ deliveries_of_one O.meaning graph.now task (port, row)) }
+    ensures { OnOk result (puts.new.items ≡ puts.old.items
+        ++ deliveries_of_one O.meaning graph.now task (port, row)) }
 {
     let lane = O::lane(&row);
     let mut last = None;

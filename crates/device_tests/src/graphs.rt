@@ -13,7 +13,8 @@ const LINE: &str =
 const FORK: &str =
     r#"{"vertices":[{"name":"s","kind":"source"},{"name":"f","kind":"add","n":0,"parallelism":2},{"name":"g","kind":"add","n":0,"parallelism":2},{"name":"o","kind":"sink","parallelism":2}],"edges":[{"from":"s","to":"f","route":"hash"},{"from":"s","to":"g","route":"broadcast"},{"from":"f","to":"o"}]}"#;
 
-/// A loop that counts down, by way of a second operator: a source, the operator that counts, the one that sends back, and a sink.
+/// A loop that counts down, by way of a second operator: a source, the operator that counts, the
+/// one that sends back, and a sink.
 const LONG_LOOP: &str =
     r#"{"vertices":[{"name":"s","kind":"source"},{"name":"d","kind":"loop_down"},{"name":"r","kind":"add","n":0},{"name":"out","kind":"sink"}],"edges":[{"from":"s","to":"d"},{"from":"d","to":"r","port":1},{"from":"r","to":"d","back":true},{"from":"d","to":"out"}]}"#;
 
@@ -22,7 +23,8 @@ fn graph(alloc: Global, job: &str) -> Result<Graph, Fail> {
     Ok(Graph::expand(alloc, &spec)?)
 }
 
-/// The line's vertices, each its name, its kind, its number to add where it has one, and its parallelism, and then its two edges.
+/// The line's vertices, each its name, its kind, its number to add where it has one, and its
+/// parallelism, and then its two edges.
 const LINE_SPELLED: [u8; 79] = [
     0, 0, 0, 3, 0, 0, 0, 1, 0x73, 0, 0, 0, 0, 1, 0, 0, 0, 4, 0x70, 0x6c, 0x75, 0x73, 2, 0, 0, 0, 0,
     0, 0, 0, 0x0a, 0, 0, 0, 1, 0, 0, 0, 3, 0x6f, 0x75, 0x74, 1, 0, 0, 0, 1, 0, 0, 0, 2, 0, 0, 0, 0,
@@ -36,7 +38,8 @@ fn a_graph_is_spelled(rt: HostRuntime) -> Result<(), Fail> {
     Ok(())
 }
 
-/// A task behind those that it waits for: the first in the file's order whose unmarked senders are there.
+/// A task behind those that it waits for: the first in the file's order whose unmarked senders are
+/// there.
 const BACKWARDS: &str =
     r#"{"vertices":[{"name":"out","kind":"sink"},{"name":"b","kind":"add","n":0,"parallelism":2},{"name":"a","kind":"add","n":0},{"name":"s","kind":"source"}],"edges":[{"from":"b","to":"out","route":"hash"},{"from":"a","to":"b","route":"broadcast"},{"from":"s","to":"a"},{"from":"b","to":"a","route":"hash","back":true}]}"#;
 

@@ -27,7 +27,8 @@ fn store_of_lists(alloc: Global, parts: Map<(u64, u32), Bytes>) -> Result<Memory
     Ok(MemoryStore::from_lists(alloc, 3, 3, only(alloc, 1)?, parts)?)
 }
 
-/// What the lists are: the complete checkpoint has lost its parts, and the other has that of task 1.
+/// What the lists are: the complete checkpoint has lost its parts, and the other has that of task
+/// 1.
 fn expect_lists(rt: &impl Abort, store: &MemoryStore) {
     let part: &[u8] = &[7];
     assert_eq!(rt; store.tasks(), 3);

@@ -50,8 +50,8 @@ use source_log::{Partitions, SourceFault};
 use std::alloc::Global;
 use std::marker::Model;
 
-/// A job with its devices: the partitions that its sources read, the snapshot store, and the transactions of its sinks. While the job runs, it
-/// has an attempt.
+/// A job with its devices: the partitions that its sources read, the snapshot store, and the
+/// transactions of its sinks. While the job runs, it has an attempt.
 #[derive(Drop)]
 pub struct Engine<
     O: Operator,
@@ -98,17 +98,19 @@ impl<O: Operator, S: SnapshotStore, X: Transactions, P: Partitions<Record = O::R
       attempts = c.attempts;
     } };
 
-    ghost invariant = { λ c. Keeps (language O.meaning O.Key.cmp O.Record.spelling O.Record.reading O.Key.reading O.State.reading) (Fits O.Record.HasSpelling O.Record.spelling) (IsGoodState (Fits O.State.HasSpelling O.State.spelling) O.Suits) (record {
-      graph = c.graph;
-      operators = c.operators.items;
-      partitions = P.records c.log;
-      stored = S.state c.store;
-      ledger = X.state c.transactions;
-      held = c.attempt;
-      is_fresh = c.is_fresh;
-      faults = P.fault_count c.log + S.fault_count c.store + X.fault_count c.transactions;
-      attempts = c.attempts;
-    }) };
+    ghost invariant = { λ c. Keeps (language O.meaning O.Key.cmp O.Record.spelling O.Record.reading
+        O.Key.reading O.State.reading) (Fits O.Record.HasSpelling O.Record.spelling)
+        (IsGoodState (Fits O.State.HasSpelling O.State.spelling) O.Suits) (record {
+          graph = c.graph;
+          operators = c.operators.items;
+          partitions = P.records c.log;
+          stored = S.state c.store;
+          ledger = X.state c.transactions;
+          held = c.attempt;
+          is_fresh = c.is_fresh;
+          faults = P.fault_count c.log + S.fault_count c.store + X.fault_count c.transactions;
+          attempts = c.attempts;
+        }) };
 }
 
 /// No attempt has a greater number.
@@ -154,7 +156,8 @@ fn raise<A: Drop>(
 
 /// Whether both devices are new.
 fn are_new<S: SnapshotStore, X: Transactions>(store: &S, transactions: &X) -> bool
-    ensures { IsTrue result ↔ ((S.state store.now ≡ stores.blank (S.state store.now).tasks) × (X.state transactions.now ≡ ledgers.blank (X.state transactions.now).subtasks)) }
+    ensures { IsTrue result ↔ ((S.state store.now ≡ stores.blank (S.state store.now).tasks)
+        × (X.state transactions.now ≡ ledgers.blank (X.state transactions.now).subtasks)) }
 {
     store.is_new() && transactions.is_new()
 }
@@ -165,8 +168,9 @@ impl<O: Operator, S: SnapshotStore, X: Transactions, P: Partitions<Record = O::R
     X,
     P,
 > {
-    /// A job that is down, over these devices, with no attempt made. Over legal devices, as new ones are, and those that a sound core has handed out, though
-    /// the partitions may have grown since, it is sound.
+    /// A job that is down, over these devices, with no attempt made. Over legal devices, as new
+    /// ones are, and those that a sound core has handed out, though the partitions may have grown
+    /// since, it is sound.
     pub fn open(
         alloc: Global,
         graph: Graph,
@@ -190,8 +194,15 @@ impl<O: Operator, S: SnapshotStore, X: Transactions, P: Partitions<Record = O::R
           faults = P.fault_count log + S.fault_count store + X.fault_count transactions;
           attempts = 0;
         } }
-        ensures legal { (former : List (List O.Record)) → HaveGrown former (P.records log) → AreLegal (language O.meaning O.Key.cmp O.Record.spelling O.Record.reading O.Key.reading O.State.reading) (Fits O.Record.HasSpelling O.Record.spelling) graph operators.items former (S.state store) (X.state transactions) → IsSound (language O.meaning O.Key.cmp O.Record.spelling O.Record.reading O.Key.reading O.State.reading) (Fits O.Record.HasSpelling O.Record.spelling) result }
-        ensures fresh { IsTrue result.is_fresh ↔ ((S.state store ≡ stores.blank (length graph.tasks)) × (X.state transactions ≡ ledgers.blank (count_by is_sink graph.tasks))) }
+        ensures legal { (former : List (List O.Record)) → HaveGrown former (P.records log)
+            → AreLegal (language O.meaning O.Key.cmp O.Record.spelling O.Record.reading
+            O.Key.reading O.State.reading) (Fits O.Record.HasSpelling O.Record.spelling) graph
+            operators.items former (S.state store) (X.state transactions)
+            → IsSound (language O.meaning O.Key.cmp O.Record.spelling O.Record.reading O.Key.reading
+            O.State.reading) (Fits O.Record.HasSpelling O.Record.spelling) result }
+        ensures fresh { IsTrue result.is_fresh
+            ↔ ((S.state store ≡ stores.blank (length graph.tasks))
+            × (X.state transactions ≡ ledgers.blank (count_by is_sink graph.tasks))) }
     {
         let _ = graph.tasks();
         let is_fresh = are_new(&store, &transactions);
@@ -208,27 +219,46 @@ impl<O: Operator, S: SnapshotStore, X: Transactions, P: Partitions<Record = O::R
         }
     }
 
-    /// Whether both devices were new when the core was opened. No call changes it. What every core keeps is handed out (`kept`): among it, that the last
-    /// complete number of a running job is the store's, and that what a commit takes is of a complete checkpoint. Of a core over new devices one run of the plain machine, without barriers,
-    /// checkpoints or failures, has a moment for each complete checkpoint, in order, and the rows that each sink has committed, as `committed` answers them,
-    /// are exactly its output at the moment of its own last committed checkpoint; on a line, what the operator makes of a beginning of the partition.
+    /// Whether both devices were new when the core was opened. No call changes it. What every core
+    /// keeps is handed out (`kept`): among it, that the last complete number of a running job is
+    /// the store's, and that what a commit takes is of a complete checkpoint. Of a core over new
+    /// devices one run of the plain machine, without barriers, checkpoints or failures, has a
+    /// moment for each complete checkpoint, in order, and the rows that each sink has committed, as
+    /// `committed` answers them, are exactly its output at the moment of its own last committed
+    /// checkpoint; on a line, what the operator makes of a beginning of the partition.
     pub fn is_fresh(&self) -> bool
         ensures value { result ≡ self.now.is_fresh }
-        ensures kept { Keeps (language O.meaning O.Key.cmp O.Record.spelling O.Record.reading O.Key.reading O.State.reading) (Fits O.Record.HasSpelling O.Record.spelling) (IsGoodState (Fits O.State.HasSpelling O.State.spelling) O.Suits) self.now }
-        ensures sound { IsTrue result → IsSound (language O.meaning O.Key.cmp O.Record.spelling O.Record.reading O.Key.reading O.State.reading) (Fits O.Record.HasSpelling O.Record.spelling) self.now }
-        ensures exact { IsTrue result → IsExactlyOnce (language O.meaning O.Key.cmp O.Record.spelling O.Record.reading O.Key.reading O.State.reading) self.now }
-        ensures line { IsTrue result → (operator : O) → IsLine self.now.graph → slice_get self.now.operators 0 ≡ Some operator → CommitsABeginning (language O.meaning O.Key.cmp O.Record.spelling O.Record.reading O.Key.reading O.State.reading) self.now (λ rows. applied O.meaning operator rows) }
+        ensures kept { Keeps (language O.meaning O.Key.cmp O.Record.spelling O.Record.reading
+            O.Key.reading O.State.reading) (Fits O.Record.HasSpelling O.Record.spelling)
+            (IsGoodState (Fits O.State.HasSpelling O.State.spelling) O.Suits) self.now }
+        ensures sound { IsTrue result → IsSound
+            (language O.meaning O.Key.cmp O.Record.spelling O.Record.reading O.Key.reading
+            O.State.reading) (Fits O.Record.HasSpelling O.Record.spelling) self.now }
+        ensures exact { IsTrue result → IsExactlyOnce
+            (language O.meaning O.Key.cmp O.Record.spelling O.Record.reading O.Key.reading
+            O.State.reading) self.now }
+        ensures line { IsTrue result → (operator : O) → IsLine self.now.graph
+            → slice_get self.now.operators 0 ≡ Some operator
+            → CommitsABeginning (language O.meaning O.Key.cmp O.Record.spelling O.Record.reading
+            O.Key.reading O.State.reading) self.now (λ rows. applied O.meaning operator rows) }
     {
         self.is_fresh
     }
 
     /// The job is down, and what it held is lost.
     pub fn fail(&mut self) -> Result<(), CoreFault>
-        ensures ok { OnOk result ((self.old.held ≢ None) × (self.new ≡ record self.old { held = None })) }
-        ensures err { IfErr result (λ fault. (fault ≡ CoreFault.NotRunning) × (self.old.held ≡ None) × (self.new ≡ self.old)) }
-        ensures goes { Goes (language O.meaning O.Key.cmp O.Record.spelling O.Record.reading O.Key.reading O.State.reading) self.old self.new }
-        ensures sound { IsSound (language O.meaning O.Key.cmp O.Record.spelling O.Record.reading O.Key.reading O.State.reading) (Fits O.Record.HasSpelling O.Record.spelling) self.old → IsSound (language O.meaning O.Key.cmp O.Record.spelling O.Record.reading O.Key.reading O.State.reading) (Fits O.Record.HasSpelling O.Record.spelling) self.new }
-        ensures stays { Stays (language O.meaning O.Key.cmp O.Record.spelling O.Record.reading O.Key.reading O.State.reading) self.old self.new }
+        ensures ok { OnOk result ((self.old.held ≢ None)
+            × (self.new ≡ record self.old { held = None })) }
+        ensures err { IfErr result (λ fault. (fault ≡ CoreFault.NotRunning) × (self.old.held ≡ None)
+            × (self.new ≡ self.old)) }
+        ensures goes { Goes (language O.meaning O.Key.cmp O.Record.spelling O.Record.reading
+            O.Key.reading O.State.reading) self.old self.new }
+        ensures sound { IsSound (language O.meaning O.Key.cmp O.Record.spelling O.Record.reading
+            O.Key.reading O.State.reading) (Fits O.Record.HasSpelling O.Record.spelling) self.old
+            → IsSound (language O.meaning O.Key.cmp O.Record.spelling O.Record.reading O.Key.reading
+            O.State.reading) (Fits O.Record.HasSpelling O.Record.spelling) self.new }
+        ensures stays { Stays (language O.meaning O.Key.cmp O.Record.spelling O.Record.reading
+            O.Key.reading O.State.reading) self.old self.new }
         ensures counted { IsCounted self.old.faults self.new.faults result }
         ensures same { IsSameJob self.old self.new }
         ensures ledger { self.new.ledger ≡ self.old.ledger }
@@ -240,16 +270,37 @@ impl<O: Operator, S: SnapshotStore, X: Transactions, P: Partitions<Record = O::R
         Ok(())
     }
 
-    /// The next attempt runs from the last complete checkpoint, whose number is answered, or anew where there is none. Each sink has committed the transactions
-    /// that its part names, all others that were open or pre-committed are aborted, and a new one is open. A refused restart leaves the job down; transactions
-    /// may be settled in part, and the next one does the rest. Attempts have numbers below 2^63.
+    /// The next attempt runs from the last complete checkpoint, whose number is answered, or anew
+    /// where there is none. Each sink has committed the transactions that its part names, all
+    /// others that were open or pre-committed are aborted, and a new one is open. A refused restart
+    /// leaves the job down; transactions may be settled in part, and the next one does the rest.
+    /// Attempts have numbers below 2^63.
     pub fn restart(&mut self) -> Result<Option<u64>, CoreFault>
-        ensures ends { OnDown self.old self.new (EndsRestart (language O.meaning O.Key.cmp O.Record.spelling O.Record.reading O.Key.reading O.State.reading) (Fits O.Key.HasSpelling O.Key.spelling) (Fits O.Record.HasSpelling O.Record.spelling) (IsGoodState (Fits O.State.HasSpelling O.State.spelling) O.Suits) self.old.graph self.old.operators self.old.partitions self.old.stored self.old.ledger self.new.ledger) result }
-        ensures goes { IsSound (language O.meaning O.Key.cmp O.Record.spelling O.Record.reading O.Key.reading O.State.reading) (Fits O.Record.HasSpelling O.Record.spelling) self.old → Goes (language O.meaning O.Key.cmp O.Record.spelling O.Record.reading O.Key.reading O.State.reading) self.old self.new }
-        ensures sound { IsSound (language O.meaning O.Key.cmp O.Record.spelling O.Record.reading O.Key.reading O.State.reading) (Fits O.Record.HasSpelling O.Record.spelling) self.old → IsSound (language O.meaning O.Key.cmp O.Record.spelling O.Record.reading O.Key.reading O.State.reading) (Fits O.Record.HasSpelling O.Record.spelling) self.new }
-        ensures begins { (subtask : ℕ) → Begins (committed_rows self.old.ledger subtask) (committed_rows self.new.ledger subtask) }
-        ensures cut { IsSound (language O.meaning O.Key.cmp O.Record.spelling O.Record.reading O.Key.reading O.State.reading) (Fits O.Record.HasSpelling O.Record.spelling) self.old → IfOk result (λ last. MatchOption self.new.held ⊥ (λ k. GoesOnFromCut (language O.meaning O.Key.cmp O.Record.spelling O.Record.reading O.Key.reading O.State.reading) self.new last k)) }
-        ensures good { IsSound (language O.meaning O.Key.cmp O.Record.spelling O.Record.reading O.Key.reading O.State.reading) (Fits O.Record.HasSpelling O.Record.spelling) self.old → result ≢ Err CoreFault.BadSnapshot }
+        ensures ends { OnDown self.old self.new
+            (EndsRestart (language O.meaning O.Key.cmp O.Record.spelling O.Record.reading
+            O.Key.reading O.State.reading) (Fits O.Key.HasSpelling O.Key.spelling)
+            (Fits O.Record.HasSpelling O.Record.spelling)
+            (IsGoodState (Fits O.State.HasSpelling O.State.spelling) O.Suits) self.old.graph
+            self.old.operators self.old.partitions self.old.stored self.old.ledger self.new.ledger)
+            result }
+        ensures goes { IsSound (language O.meaning O.Key.cmp O.Record.spelling O.Record.reading
+            O.Key.reading O.State.reading) (Fits O.Record.HasSpelling O.Record.spelling) self.old
+            → Goes (language O.meaning O.Key.cmp O.Record.spelling O.Record.reading O.Key.reading
+            O.State.reading) self.old self.new }
+        ensures sound { IsSound (language O.meaning O.Key.cmp O.Record.spelling O.Record.reading
+            O.Key.reading O.State.reading) (Fits O.Record.HasSpelling O.Record.spelling) self.old
+            → IsSound (language O.meaning O.Key.cmp O.Record.spelling O.Record.reading O.Key.reading
+            O.State.reading) (Fits O.Record.HasSpelling O.Record.spelling) self.new }
+        ensures begins { (subtask : ℕ) → Begins (committed_rows self.old.ledger subtask)
+            (committed_rows self.new.ledger subtask) }
+        ensures cut { IsSound (language O.meaning O.Key.cmp O.Record.spelling O.Record.reading
+            O.Key.reading O.State.reading) (Fits O.Record.HasSpelling O.Record.spelling) self.old
+            → IfOk result (λ last. MatchOption self.new.held ⊥
+            (λ k. GoesOnFromCut (language O.meaning O.Key.cmp O.Record.spelling O.Record.reading
+            O.Key.reading O.State.reading) self.new last k)) }
+        ensures good { IsSound (language O.meaning O.Key.cmp O.Record.spelling O.Record.reading
+            O.Key.reading O.State.reading) (Fits O.Record.HasSpelling O.Record.spelling) self.old
+            → result ≢ Err CoreFault.BadSnapshot }
         ensures counted { IsCounted self.old.faults self.new.faults result }
         ensures same { IsSameJob self.old self.new }
     {
@@ -274,10 +325,18 @@ impl<O: Operator, S: SnapshotStore, X: Transactions, P: Partitions<Record = O::R
 
     /// Source `task` sends its next record.
     pub fn read(&mut self, task: u32) -> Result<(), CoreFault>
-        ensures ends { OnAttempt self.old self.new (λ h k. EndsRead self.old.graph task h k (language O.meaning O.Key.cmp O.Record.spelling O.Record.reading O.Key.reading O.State.reading) self.old.partitions) result }
-        ensures goes { Goes (language O.meaning O.Key.cmp O.Record.spelling O.Record.reading O.Key.reading O.State.reading) self.old self.new }
-        ensures sound { IsSound (language O.meaning O.Key.cmp O.Record.spelling O.Record.reading O.Key.reading O.State.reading) (Fits O.Record.HasSpelling O.Record.spelling) self.old → IsSound (language O.meaning O.Key.cmp O.Record.spelling O.Record.reading O.Key.reading O.State.reading) (Fits O.Record.HasSpelling O.Record.spelling) self.new }
-        ensures plain { StepsIfOk result (language O.meaning O.Key.cmp O.Record.spelling O.Record.reading O.Key.reading O.State.reading) (machine.Read task) self.old self.new }
+        ensures ends { OnAttempt self.old self.new
+            (λ h k. EndsRead self.old.graph task h k
+            (language O.meaning O.Key.cmp O.Record.spelling O.Record.reading O.Key.reading
+            O.State.reading) self.old.partitions) result }
+        ensures goes { Goes (language O.meaning O.Key.cmp O.Record.spelling O.Record.reading
+            O.Key.reading O.State.reading) self.old self.new }
+        ensures sound { IsSound (language O.meaning O.Key.cmp O.Record.spelling O.Record.reading
+            O.Key.reading O.State.reading) (Fits O.Record.HasSpelling O.Record.spelling) self.old
+            → IsSound (language O.meaning O.Key.cmp O.Record.spelling O.Record.reading O.Key.reading
+            O.State.reading) (Fits O.Record.HasSpelling O.Record.spelling) self.new }
+        ensures plain { StepsIfOk result (language O.meaning O.Key.cmp O.Record.spelling
+            O.Record.reading O.Key.reading O.State.reading) (machine.Read task) self.old self.new }
         ensures counted { IsCounted self.old.faults self.new.faults result }
         ensures same { IsSameJob self.old self.new }
         ensures ledger { self.new.ledger ≡ self.old.ledger }
@@ -289,14 +348,23 @@ impl<O: Operator, S: SnapshotStore, X: Transactions, P: Partitions<Record = O::R
         leave(&mut self.attempt, outcome)
     }
 
-    /// A task takes the barrier at the head of its input. At the last of its unmarked inputs it copies what it holds; a sink then begins a transaction and
-    /// pre-commits the old one.
+    /// A task takes the barrier at the head of its input. At the last of its unmarked inputs it
+    /// copies what it holds; a sink then begins a transaction and pre-commits the old one.
     pub fn take_barrier(&mut self, task: u32, input: u32) -> Result<Effect, CoreFault>
-        ensures ends { OnTransactions self.old self.new (λ h k. EndsBarrier self.old.graph task input h k self.old.ledger self.new.ledger) result }
-        ensures goes { Goes (language O.meaning O.Key.cmp O.Record.spelling O.Record.reading O.Key.reading O.State.reading) self.old self.new }
-        ensures sound { IsSound (language O.meaning O.Key.cmp O.Record.spelling O.Record.reading O.Key.reading O.State.reading) (Fits O.Record.HasSpelling O.Record.spelling) self.old → IsSound (language O.meaning O.Key.cmp O.Record.spelling O.Record.reading O.Key.reading O.State.reading) (Fits O.Record.HasSpelling O.Record.spelling) self.new }
-        ensures begins { (task subtask : ℕ) → slice_get self.old.graph.tasks task ≡ Some (Role.Sink subtask) → Begins (committed_rows self.old.ledger subtask) (committed_rows self.new.ledger subtask) }
-        ensures stays { Stays (language O.meaning O.Key.cmp O.Record.spelling O.Record.reading O.Key.reading O.State.reading) self.old self.new }
+        ensures ends { OnTransactions self.old self.new
+            (λ h k. EndsBarrier self.old.graph task input h k self.old.ledger self.new.ledger)
+            result }
+        ensures goes { Goes (language O.meaning O.Key.cmp O.Record.spelling O.Record.reading
+            O.Key.reading O.State.reading) self.old self.new }
+        ensures sound { IsSound (language O.meaning O.Key.cmp O.Record.spelling O.Record.reading
+            O.Key.reading O.State.reading) (Fits O.Record.HasSpelling O.Record.spelling) self.old
+            → IsSound (language O.meaning O.Key.cmp O.Record.spelling O.Record.reading O.Key.reading
+            O.State.reading) (Fits O.Record.HasSpelling O.Record.spelling) self.new }
+        ensures begins { (task subtask : ℕ) → slice_get self.old.graph.tasks task
+            ≡ Some (Role.Sink subtask) → Begins (committed_rows self.old.ledger subtask)
+            (committed_rows self.new.ledger subtask) }
+        ensures stays { Stays (language O.meaning O.Key.cmp O.Record.spelling O.Record.reading
+            O.Key.reading O.State.reading) self.old self.new }
         ensures counted { IsCounted self.old.faults self.new.faults result }
         ensures same { IsSameJob self.old self.new }
     {
@@ -316,10 +384,16 @@ impl<O: Operator, S: SnapshotStore, X: Transactions, P: Partitions<Record = O::R
 
     /// Source `task` copies its offset for the pending checkpoint, and sends the barrier.
     pub fn inject(&mut self, task: u32) -> Result<(), CoreFault>
-        ensures ends { OnAttempt self.old self.new (λ h k. EndsInject self.old.graph task h k) result }
-        ensures goes { Goes (language O.meaning O.Key.cmp O.Record.spelling O.Record.reading O.Key.reading O.State.reading) self.old self.new }
-        ensures sound { IsSound (language O.meaning O.Key.cmp O.Record.spelling O.Record.reading O.Key.reading O.State.reading) (Fits O.Record.HasSpelling O.Record.spelling) self.old → IsSound (language O.meaning O.Key.cmp O.Record.spelling O.Record.reading O.Key.reading O.State.reading) (Fits O.Record.HasSpelling O.Record.spelling) self.new }
-        ensures stays { Stays (language O.meaning O.Key.cmp O.Record.spelling O.Record.reading O.Key.reading O.State.reading) self.old self.new }
+        ensures ends { OnAttempt self.old self.new
+            (λ h k. EndsInject self.old.graph task h k) result }
+        ensures goes { Goes (language O.meaning O.Key.cmp O.Record.spelling O.Record.reading
+            O.Key.reading O.State.reading) self.old self.new }
+        ensures sound { IsSound (language O.meaning O.Key.cmp O.Record.spelling O.Record.reading
+            O.Key.reading O.State.reading) (Fits O.Record.HasSpelling O.Record.spelling) self.old
+            → IsSound (language O.meaning O.Key.cmp O.Record.spelling O.Record.reading O.Key.reading
+            O.State.reading) (Fits O.Record.HasSpelling O.Record.spelling) self.new }
+        ensures stays { Stays (language O.meaning O.Key.cmp O.Record.spelling O.Record.reading
+            O.Key.reading O.State.reading) self.old self.new }
         ensures counted { IsCounted self.old.faults self.new.faults result }
         ensures same { IsSameJob self.old self.new }
         ensures ledger { self.new.ledger ≡ self.old.ledger }
@@ -331,12 +405,19 @@ impl<O: Operator, S: SnapshotStore, X: Transactions, P: Partitions<Record = O::R
         leave(&mut self.attempt, outcome)
     }
 
-    /// A checkpoint begins, under a number that was never used. The parts below the last complete number are discarded. It takes no memory.
+    /// A checkpoint begins, under a number that was never used. The parts below the last complete
+    /// number are discarded. It takes no memory.
     pub fn trigger(&mut self) -> Result<u64, CoreFault>
-        ensures ends { OnStore self.old self.new (λ h k. EndsTrigger h k self.old.stored self.new.stored) result }
-        ensures goes { Goes (language O.meaning O.Key.cmp O.Record.spelling O.Record.reading O.Key.reading O.State.reading) self.old self.new }
-        ensures sound { IsSound (language O.meaning O.Key.cmp O.Record.spelling O.Record.reading O.Key.reading O.State.reading) (Fits O.Record.HasSpelling O.Record.spelling) self.old → IsSound (language O.meaning O.Key.cmp O.Record.spelling O.Record.reading O.Key.reading O.State.reading) (Fits O.Record.HasSpelling O.Record.spelling) self.new }
-        ensures stays { Stays (language O.meaning O.Key.cmp O.Record.spelling O.Record.reading O.Key.reading O.State.reading) self.old self.new }
+        ensures ends { OnStore self.old self.new
+            (λ h k. EndsTrigger h k self.old.stored self.new.stored) result }
+        ensures goes { Goes (language O.meaning O.Key.cmp O.Record.spelling O.Record.reading
+            O.Key.reading O.State.reading) self.old self.new }
+        ensures sound { IsSound (language O.meaning O.Key.cmp O.Record.spelling O.Record.reading
+            O.Key.reading O.State.reading) (Fits O.Record.HasSpelling O.Record.spelling) self.old
+            → IsSound (language O.meaning O.Key.cmp O.Record.spelling O.Record.reading O.Key.reading
+            O.State.reading) (Fits O.Record.HasSpelling O.Record.spelling) self.new }
+        ensures stays { Stays (language O.meaning O.Key.cmp O.Record.spelling O.Record.reading
+            O.Key.reading O.State.reading) self.old self.new }
         ensures counted { IsCounted self.old.faults self.new.faults result }
         ensures same { IsSameJob self.old self.new }
         ensures ledger { self.new.ledger ≡ self.old.ledger }
@@ -350,10 +431,17 @@ impl<O: Operator, S: SnapshotStore, X: Transactions, P: Partitions<Record = O::R
 
     /// The part of a task that has copied is put in the store and acknowledged.
     pub fn persist(&mut self, task: u32) -> Result<(), CoreFault>
-        ensures ends { OnStore self.old self.new (λ h k. EndsPersist self.old.graph task h k self.old.stored self.new.stored (part_spelling O.Record.spelling O.Key.spelling O.State.spelling)) result }
-        ensures goes { Goes (language O.meaning O.Key.cmp O.Record.spelling O.Record.reading O.Key.reading O.State.reading) self.old self.new }
-        ensures sound { IsSound (language O.meaning O.Key.cmp O.Record.spelling O.Record.reading O.Key.reading O.State.reading) (Fits O.Record.HasSpelling O.Record.spelling) self.old → IsSound (language O.meaning O.Key.cmp O.Record.spelling O.Record.reading O.Key.reading O.State.reading) (Fits O.Record.HasSpelling O.Record.spelling) self.new }
-        ensures stays { Stays (language O.meaning O.Key.cmp O.Record.spelling O.Record.reading O.Key.reading O.State.reading) self.old self.new }
+        ensures ends { OnStore self.old self.new
+            (λ h k. EndsPersist self.old.graph task h k self.old.stored self.new.stored
+            (part_spelling O.Record.spelling O.Key.spelling O.State.spelling)) result }
+        ensures goes { Goes (language O.meaning O.Key.cmp O.Record.spelling O.Record.reading
+            O.Key.reading O.State.reading) self.old self.new }
+        ensures sound { IsSound (language O.meaning O.Key.cmp O.Record.spelling O.Record.reading
+            O.Key.reading O.State.reading) (Fits O.Record.HasSpelling O.Record.spelling) self.old
+            → IsSound (language O.meaning O.Key.cmp O.Record.spelling O.Record.reading O.Key.reading
+            O.State.reading) (Fits O.Record.HasSpelling O.Record.spelling) self.new }
+        ensures stays { Stays (language O.meaning O.Key.cmp O.Record.spelling O.Record.reading
+            O.Key.reading O.State.reading) self.old self.new }
         ensures counted { IsCounted self.old.faults self.new.faults result }
         ensures same { IsSameJob self.old self.new }
         ensures ledger { self.new.ledger ≡ self.old.ledger }
@@ -365,16 +453,32 @@ impl<O: Operator, S: SnapshotStore, X: Transactions, P: Partitions<Record = O::R
         leave(&mut self.attempt, outcome)
     }
 
-    /// The pending checkpoint, of which the store has every task's part, becomes complete: the parts say the cut that the attempt has made. Of a sound core a plain
-    /// run comes to that cut, where each sink's output is what it has committed or has pre-committed for a complete checkpoint. It takes no memory.
+    /// The pending checkpoint, of which the store has every task's part, becomes complete: the
+    /// parts say the cut that the attempt has made. Of a sound core a plain run comes to that cut,
+    /// where each sink's output is what it has committed or has pre-committed for a complete
+    /// checkpoint. It takes no memory.
     pub fn complete(&mut self) -> Result<u64, CoreFault>
-        ensures ends { OnStore self.old self.new (λ h k. EndsComplete h k self.old.stored self.new.stored) result }
+        ensures ends { OnStore self.old self.new
+            (λ h k. EndsComplete h k self.old.stored self.new.stored) result }
         ensures whole { IfOk result (λ number. stores.has_all_parts self.new.stored number ≡ true) }
-        ensures cut { IfOk result (λ number. MatchOption self.old.held ⊥ (λ h. HasTheCut (language O.meaning O.Key.cmp O.Record.spelling O.Record.reading O.Key.reading O.State.reading) self.old h self.new.stored number)) }
-        ensures reached { IsSound (language O.meaning O.Key.cmp O.Record.spelling O.Record.reading O.Key.reading O.State.reading) (Fits O.Record.HasSpelling O.Record.spelling) self.old → IfOk result (IsReachedCut (job_of (language O.meaning O.Key.cmp O.Record.spelling O.Record.reading O.Key.reading O.State.reading) self.new) O.Record.spelling (devices_of (language O.meaning O.Key.cmp O.Record.spelling O.Record.reading O.Key.reading O.State.reading) self.new)) }
-        ensures goes { Goes (language O.meaning O.Key.cmp O.Record.spelling O.Record.reading O.Key.reading O.State.reading) self.old self.new }
-        ensures sound { IsSound (language O.meaning O.Key.cmp O.Record.spelling O.Record.reading O.Key.reading O.State.reading) (Fits O.Record.HasSpelling O.Record.spelling) self.old → IsSound (language O.meaning O.Key.cmp O.Record.spelling O.Record.reading O.Key.reading O.State.reading) (Fits O.Record.HasSpelling O.Record.spelling) self.new }
-        ensures stays { Stays (language O.meaning O.Key.cmp O.Record.spelling O.Record.reading O.Key.reading O.State.reading) self.old self.new }
+        ensures cut { IfOk result (λ number. MatchOption self.old.held ⊥
+            (λ h. HasTheCut (language O.meaning O.Key.cmp O.Record.spelling O.Record.reading
+            O.Key.reading O.State.reading) self.old h self.new.stored number)) }
+        ensures reached { IsSound (language O.meaning O.Key.cmp O.Record.spelling O.Record.reading
+            O.Key.reading O.State.reading) (Fits O.Record.HasSpelling O.Record.spelling) self.old
+            → IfOk result (IsReachedCut (job_of
+            (language O.meaning O.Key.cmp O.Record.spelling O.Record.reading O.Key.reading
+            O.State.reading) self.new) O.Record.spelling
+            (devices_of (language O.meaning O.Key.cmp O.Record.spelling O.Record.reading
+            O.Key.reading O.State.reading) self.new)) }
+        ensures goes { Goes (language O.meaning O.Key.cmp O.Record.spelling O.Record.reading
+            O.Key.reading O.State.reading) self.old self.new }
+        ensures sound { IsSound (language O.meaning O.Key.cmp O.Record.spelling O.Record.reading
+            O.Key.reading O.State.reading) (Fits O.Record.HasSpelling O.Record.spelling) self.old
+            → IsSound (language O.meaning O.Key.cmp O.Record.spelling O.Record.reading O.Key.reading
+            O.State.reading) (Fits O.Record.HasSpelling O.Record.spelling) self.new }
+        ensures stays { Stays (language O.meaning O.Key.cmp O.Record.spelling O.Record.reading
+            O.Key.reading O.State.reading) self.old self.new }
         ensures counted { IsCounted self.old.faults self.new.faults result }
         ensures same { IsSameJob self.old self.new }
         ensures ledger { self.new.ledger ≡ self.old.ledger }
@@ -386,15 +490,27 @@ impl<O: Operator, S: SnapshotStore, X: Transactions, P: Partitions<Record = O::R
         leave(&mut self.attempt, outcome)
     }
 
-    /// The pending transactions of a sink subtask up to the last complete checkpoint are committed, the oldest first. It takes no memory.
+    /// The pending transactions of a sink subtask up to the last complete checkpoint are committed,
+    /// the oldest first. It takes no memory.
     pub fn commit(&mut self, sink: u32) -> Result<(), CoreFault>
-        ensures ends { OnTransactions self.old self.new (λ h k. EndsCommit self.old.graph sink h k self.old.ledger self.new.ledger) result }
-        ensures goes { Goes (language O.meaning O.Key.cmp O.Record.spelling O.Record.reading O.Key.reading O.State.reading) self.old self.new }
-        ensures sound { IsSound (language O.meaning O.Key.cmp O.Record.spelling O.Record.reading O.Key.reading O.State.reading) (Fits O.Record.HasSpelling O.Record.spelling) self.old → IsSound (language O.meaning O.Key.cmp O.Record.spelling O.Record.reading O.Key.reading O.State.reading) (Fits O.Record.HasSpelling O.Record.spelling) self.new }
-        ensures begins { (task subtask : ℕ) → slice_get self.old.graph.tasks task ≡ Some (Role.Sink subtask) → Begins (committed_rows self.old.ledger subtask) (committed_rows self.new.ledger subtask) }
-        ensures stays { Stays (language O.meaning O.Key.cmp O.Record.spelling O.Record.reading O.Key.reading O.State.reading) self.old self.new }
+        ensures ends { OnTransactions self.old self.new
+            (λ h k. EndsCommit self.old.graph sink h k self.old.ledger self.new.ledger) result }
+        ensures goes { Goes (language O.meaning O.Key.cmp O.Record.spelling O.Record.reading
+            O.Key.reading O.State.reading) self.old self.new }
+        ensures sound { IsSound (language O.meaning O.Key.cmp O.Record.spelling O.Record.reading
+            O.Key.reading O.State.reading) (Fits O.Record.HasSpelling O.Record.spelling) self.old
+            → IsSound (language O.meaning O.Key.cmp O.Record.spelling O.Record.reading O.Key.reading
+            O.State.reading) (Fits O.Record.HasSpelling O.Record.spelling) self.new }
+        ensures begins { (task subtask : ℕ) → slice_get self.old.graph.tasks task
+            ≡ Some (Role.Sink subtask) → Begins (committed_rows self.old.ledger subtask)
+            (committed_rows self.new.ledger subtask) }
+        ensures stays { Stays (language O.meaning O.Key.cmp O.Record.spelling O.Record.reading
+            O.Key.reading O.State.reading) self.old self.new }
         ensures counted { IsCounted self.old.faults self.new.faults result }
-        ensures reaches { IsSound (language O.meaning O.Key.cmp O.Record.spelling O.Record.reading O.Key.reading O.State.reading) (Fits O.Record.HasSpelling O.Record.spelling) self.old → OnOk result (length (committed_of self.new.ledger sink) ≡ length (complete_numbers self.new.stored)) }
+        ensures reaches { IsSound (language O.meaning O.Key.cmp O.Record.spelling O.Record.reading
+            O.Key.reading O.State.reading) (Fits O.Record.HasSpelling O.Record.spelling) self.old
+            → OnOk result (length (committed_of self.new.ledger sink)
+            ≡ length (complete_numbers self.new.stored)) }
         ensures same { IsSameJob self.old self.new }
     {
         let Some(attempt) = &mut self.attempt else {
@@ -404,27 +520,43 @@ impl<O: Operator, S: SnapshotStore, X: Transactions, P: Partitions<Record = O::R
         leave(&mut self.attempt, outcome)
     }
 
-    /// Puts a record last in a partition. It is served whether the job runs or not, and does not take it down.
+    /// Puts a record last in a partition. It is served whether the job runs or not, and does not
+    /// take it down.
     pub fn append(&mut self, partition: u32, row: O::Record) -> Result<(), SourceFault>
         requires { Fits O.Record.HasSpelling O.Record.spelling row }
-        ensures ends { partitions.Ends (self.old.partitions, self.old.faults) (self.new.partitions, self.new.faults) (partitions.append_refusal self.old.partitions partition) (partitions.appended self.old.partitions partition row) result }
+        ensures ends { partitions.Ends (self.old.partitions, self.old.faults)
+            (self.new.partitions, self.new.faults)
+            (partitions.append_refusal self.old.partitions partition)
+            (partitions.appended self.old.partitions partition row) result }
         ensures told { result ≢ Err SourceFault.Fault → self.new.faults ≡ self.old.faults }
-        ensures same { self.new ≡ record self.old { partitions = self.new.partitions; faults = self.new.faults } }
-        ensures stays { Stays (language O.meaning O.Key.cmp O.Record.spelling O.Record.reading O.Key.reading O.State.reading) self.old self.new }
+        ensures same { self.new ≡ record self.old {
+          partitions = self.new.partitions;
+          faults = self.new.faults;
+        } }
+        ensures stays { Stays (language O.meaning O.Key.cmp O.Record.spelling O.Record.reading
+            O.Key.reading O.State.reading) self.old self.new }
         ensures kept { IsSameJob self.old self.new }
-        ensures sound { IsSound (language O.meaning O.Key.cmp O.Record.spelling O.Record.reading O.Key.reading O.State.reading) (Fits O.Record.HasSpelling O.Record.spelling) self.old → IsSound (language O.meaning O.Key.cmp O.Record.spelling O.Record.reading O.Key.reading O.State.reading) (Fits O.Record.HasSpelling O.Record.spelling) self.new }
+        ensures sound { IsSound (language O.meaning O.Key.cmp O.Record.spelling O.Record.reading
+            O.Key.reading O.State.reading) (Fits O.Record.HasSpelling O.Record.spelling) self.old
+            → IsSound (language O.meaning O.Key.cmp O.Record.spelling O.Record.reading O.Key.reading
+            O.State.reading) (Fits O.Record.HasSpelling O.Record.spelling) self.new }
         ensures ledger { self.new.ledger ≡ self.old.ledger }
     {
         self.log.append(partition, row)
     }
 
-    /// The partitions and the devices, as they stand. Those of a sound core are legal: a core of the same graph and operators that is opened over them is
-    /// the partitions may have grown since, it is sound.
+    /// The partitions and the devices, as they stand. Those of a sound core are legal: a core of
+    /// the same graph and operators that is opened over them is the partitions may have grown
+    /// since, it is sound.
     pub fn into_durable(self) -> (P, S, X)
         ensures partitions { P.records result.0 ≡ self.partitions }
         ensures stored { S.state result.1 ≡ self.stored }
         ensures ledger { X.state result.2 ≡ self.ledger }
-        ensures legal { IsSound (language O.meaning O.Key.cmp O.Record.spelling O.Record.reading O.Key.reading O.State.reading) (Fits O.Record.HasSpelling O.Record.spelling) self → AreLegal (language O.meaning O.Key.cmp O.Record.spelling O.Record.reading O.Key.reading O.State.reading) (Fits O.Record.HasSpelling O.Record.spelling) self.graph self.operators (P.records result.0) (S.state result.1) (X.state result.2) }
+        ensures legal { IsSound (language O.meaning O.Key.cmp O.Record.spelling O.Record.reading
+            O.Key.reading O.State.reading) (Fits O.Record.HasSpelling O.Record.spelling) self
+            → AreLegal (language O.meaning O.Key.cmp O.Record.spelling O.Record.reading
+            O.Key.reading O.State.reading) (Fits O.Record.HasSpelling O.Record.spelling) self.graph
+            self.operators (P.records result.0) (S.state result.1) (X.state result.2) }
     {
         let Engine {
             log,
@@ -444,8 +576,10 @@ impl<O: Operator, S: SnapshotStore, X: Transactions, P: Partitions<Record = O::R
 
     /// How many records of a sink subtask are committed.
     pub fn committed_len(&self, subtask: u32) -> Result<u64, CoreFault>
-        ensures ok { IfOk result (λ len. (subtask < count_by is_sink self.now.graph.tasks) × (len ≡ length (committed_rows self.now.ledger subtask))) }
-        ensures err { IfErr result (λ fault. (fault ≡ CoreFault.NoSuchTask) × (count_by is_sink self.now.graph.tasks ≤ subtask)) }
+        ensures ok { IfOk result (λ len. (subtask < count_by is_sink self.now.graph.tasks)
+            × (len ≡ length (committed_rows self.now.ledger subtask))) }
+        ensures err { IfErr result (λ fault. (fault ≡ CoreFault.NoSuchTask)
+            × (count_by is_sink self.now.graph.tasks ≤ subtask)) }
     {
         if subtask >= self.graph.sinks() {
             return Err(CoreFault::NoSuchTask);
@@ -453,10 +587,15 @@ impl<O: Operator, S: SnapshotStore, X: Transactions, P: Partitions<Record = O::R
         Ok(self.transactions.committed_len(subtask))
     }
 
-    /// A copy of a committed record of a sink subtask, or `None` past the last. Records are numbered from 0, in the order of commit.
+    /// A copy of a committed record of a sink subtask, or `None` past the last. Records are
+    /// numbered from 0, in the order of commit.
     pub fn committed(&self, subtask: u32, number: u64) -> Result<Option<Vec<u8>>, CoreFault>
-        ensures ok { IfOk result (λ row. (subtask < count_by is_sink self.now.graph.tasks) × (option_map (λ bytes. bytes.items) row ≡ slice_get (committed_rows self.now.ledger subtask) number)) }
-        ensures err { IfErr result (λ fault. ((fault ≡ CoreFault.NoSuchTask) × (count_by is_sink self.now.graph.tasks ≤ subtask)) ⊎ ((fault ≡ CoreFault.Memory) × (subtask < count_by is_sink self.now.graph.tasks))) }
+        ensures ok { IfOk result (λ row. (subtask < count_by is_sink self.now.graph.tasks)
+            × (option_map (λ bytes. bytes.items) row
+            ≡ slice_get (committed_rows self.now.ledger subtask) number)) }
+        ensures err { IfErr result (λ fault. ((fault ≡ CoreFault.NoSuchTask)
+            × (count_by is_sink self.now.graph.tasks ≤ subtask))
+            ⊎ ((fault ≡ CoreFault.Memory) × (subtask < count_by is_sink self.now.graph.tasks))) }
     {
         if subtask >= self.graph.sinks() {
             return Err(CoreFault::NoSuchTask);

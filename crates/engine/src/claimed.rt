@@ -43,9 +43,11 @@ impl<O: Operator, S: SnapshotStore, X: Transactions, P: Partitions<Record = O::R
         self.attempt.is_some()
     }
 
-    /// Whether a task is an operator or a sink that has such an input: `K1` where the job is down, `K2` where it is not.
+    /// Whether a task is an operator or a sink that has such an input: `K1` where the job is down,
+    /// `K2` where it is not.
     pub fn has_input(&self, task: u32, input: u32) -> Result<(), CoreFault>
-        ensures { MatchOption self.now.held (result ≡ Err CoreFault.NotRunning) (λ _. EndsAsking self.now.graph task input result) }
+        ensures { MatchOption self.now.held (result ≡ Err CoreFault.NotRunning)
+            (λ _. EndsAsking self.now.graph task input result) }
     {
         if self.attempt.is_none() {
             return Err(CoreFault::NotRunning);
@@ -58,7 +60,9 @@ impl<O: Operator, S: SnapshotStore, X: Transactions, P: Partitions<Record = O::R
 
     /// Offers the work that a task is to do at an input now, and changes nothing.
     pub fn offer(&self, task: u32, input: u32) -> Result<Work<O>, CoreFault>
-        ensures { MatchOption self.now.held (result ≡ Err CoreFault.NotRunning) (λ h. EndsOffer (language O.meaning O.Key.cmp O.Record.spelling O.Record.reading O.Key.reading O.State.reading) self.now.graph self.now.operators task input h result) }
+        ensures { MatchOption self.now.held (result ≡ Err CoreFault.NotRunning)
+            (λ h. EndsOffer (language O.meaning O.Key.cmp O.Record.spelling O.Record.reading
+            O.Key.reading O.State.reading) self.now.graph self.now.operators task input h result) }
     {
         let Some(attempt) = &self.attempt else {
             return Err(CoreFault::NotRunning);
@@ -73,14 +77,29 @@ impl<O: Operator, S: SnapshotStore, X: Transactions, P: Partitions<Record = O::R
         )
     }
 
-    /// Takes what was made of a task's work, which ends as the task's own work would. Where that work is not what the task is to do now, it is
-    /// refused by `K7`, and where memory was refused for it by `K11`; then nothing has changed.
+    /// Takes what was made of a task's work, which ends as the task's own work would. Where that
+    /// work is not what the task is to do now, it is refused by `K7`, and where memory was refused
+    /// for it by `K11`; then nothing has changed.
     pub fn accept(&mut self, task: u32, input: u32, worked: Worked<O>) -> Result<(), CoreFault>
-        ensures ends { OnTransactions self.old self.new (λ h k. EndsAccept (language O.meaning O.Key.cmp O.Record.spelling O.Record.reading O.Key.reading O.State.reading) self.old.graph self.old.operators task input h k self.old.ledger self.new.ledger worked) result }
-        ensures goes { Goes (language O.meaning O.Key.cmp O.Record.spelling O.Record.reading O.Key.reading O.State.reading) self.old self.new }
-        ensures sound { IsSound (language O.meaning O.Key.cmp O.Record.spelling O.Record.reading O.Key.reading O.State.reading) (Fits O.Record.HasSpelling O.Record.spelling) self.old → IsSound (language O.meaning O.Key.cmp O.Record.spelling O.Record.reading O.Key.reading O.State.reading) (Fits O.Record.HasSpelling O.Record.spelling) self.new }
-        ensures begins { (task subtask : ℕ) → slice_get self.old.graph.tasks task ≡ Some (Role.Sink subtask) → Begins (committed_rows self.old.ledger subtask) (committed_rows self.new.ledger subtask) }
-        ensures plain { MatchOption (input_at self.old.graph task input) (Stays (language O.meaning O.Key.cmp O.Record.spelling O.Record.reading O.Key.reading O.State.reading) self.old self.new) (λ channel. StepsIfOk result (language O.meaning O.Key.cmp O.Record.spelling O.Record.reading O.Key.reading O.State.reading) (machine.Work task channel) self.old self.new) }
+        ensures ends { OnTransactions self.old self.new
+            (λ h k. EndsAccept (language O.meaning O.Key.cmp O.Record.spelling O.Record.reading
+            O.Key.reading O.State.reading) self.old.graph self.old.operators task input h k
+            self.old.ledger self.new.ledger worked) result }
+        ensures goes { Goes (language O.meaning O.Key.cmp O.Record.spelling O.Record.reading
+            O.Key.reading O.State.reading) self.old self.new }
+        ensures sound { IsSound (language O.meaning O.Key.cmp O.Record.spelling O.Record.reading
+            O.Key.reading O.State.reading) (Fits O.Record.HasSpelling O.Record.spelling) self.old
+            → IsSound (language O.meaning O.Key.cmp O.Record.spelling O.Record.reading O.Key.reading
+            O.State.reading) (Fits O.Record.HasSpelling O.Record.spelling) self.new }
+        ensures begins { (task subtask : ℕ) → slice_get self.old.graph.tasks task
+            ≡ Some (Role.Sink subtask) → Begins (committed_rows self.old.ledger subtask)
+            (committed_rows self.new.ledger subtask) }
+        ensures plain { MatchOption (input_at self.old.graph task input)
+            (Stays (language O.meaning O.Key.cmp O.Record.spelling O.Record.reading O.Key.reading
+            O.State.reading) self.old self.new)
+            (λ channel. StepsIfOk result (language O.meaning O.Key.cmp O.Record.spelling
+            O.Record.reading O.Key.reading O.State.reading) (machine.Work task channel)
+            self.old self.new) }
         ensures counted { IsCounted self.old.faults self.new.faults result }
         ensures same { IsSameJob self.old self.new }
     {

@@ -23,7 +23,8 @@ impl<
     X: FaultlessTransactions,
     P: FaultlessLog + Partitions<Record = O::Record>,
 > Engine<O, FlakyStore<S>, FlakyTransactions<X>, FlakyLog<P>> {
-    /// The next call of the kind fails, before its work or after it. Nothing but the device's plan changes.
+    /// The next call of the kind fails, before its work or after it. Nothing but the device's plan
+    /// changes.
     pub fn arm(&mut self, call: DeviceCall, when: When)
         ensures { self.new ≡ self.old }
     {

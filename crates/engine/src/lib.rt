@@ -6,9 +6,10 @@
 //! plain machine has a moment for each complete checkpoint, in order, and each sink has committed
 //! exactly its output at the moment of its own last committed checkpoint (`exact`).
 //!
-//! An [`Engine`] holds a job's graph and operators, its partitions, the snapshot store and the transactions, and, while the job runs, the attempt.
-//! What every core keeps is core_model's `Keeps`: that its data are one state of the checkpoint model's engine, and, of a core that was opened
-//! over new devices, that this engine is sound.
+//! An [`Engine`] holds a job's graph and operators, its partitions, the snapshot store and the
+//! transactions, and, while the job runs, the attempt. What every core keeps is core_model's
+//! `Keeps`: that its data are one state of the checkpoint model's engine, and, of a core that was
+//! opened over new devices, that this engine is sound.
 #![tactic(auto)]
 
 mod calls;

@@ -13,11 +13,14 @@ use snapshot_store::SnapshotStore;
 use source_log::Partitions;
 
 impl<S: SnapshotStore, X: Transactions, P: Partitions<Record = Row>> Engine<RowOp, S, X, P> {
-    /// A law, with nothing to do: a line of `add n` over devices that were new has committed the first so many rows of its partition with `n` added
-    /// to each, saturating. It is none where no checkpoint was committed, and as many as the source's part of the last committed one spells, where the store
-    /// still has it.
+    /// A law, with nothing to do: a line of `add n` over devices that were new has committed the
+    /// first so many rows of its partition with `n` added to each, saturating. It is none where no
+    /// checkpoint was committed, and as many as the source's part of the last committed one spells,
+    /// where the store still has it.
     pub fn lines_commit_sums(&self)
-        ensures { self.now.is_fresh ≡ true → IsLine self.now.graph → (n : ℤ) → slice_get self.now.operators 0 ≡ Some (RowOp.Add n) → CommitsABeginning row_language self.now (λ rows. map (added n) rows) }
+        ensures { self.now.is_fresh ≡ true → IsLine self.now.graph → (n : ℤ)
+            → slice_get self.now.operators 0 ≡ Some (RowOp.Add n)
+            → CommitsABeginning row_language self.now (λ rows. map (added n) rows) }
     {
         let _ = &self.is_fresh;
     }

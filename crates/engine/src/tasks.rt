@@ -15,7 +15,8 @@ use job_graph::{Graph, Role};
 use job_state::Attempt;
 use operators::Operator;
 
-/// A task takes the barrier at the head of its input, and copies what it holds at the last of its unmarked inputs.
+/// A task takes the barrier at the head of its input, and copies what it holds at the last of its
+/// unmarked inputs.
 pub(crate) fn take_barrier<O: Operator, X: Transactions>(
     attempt: &mut Attempt<O>,
     graph: &Graph,
@@ -24,10 +25,15 @@ pub(crate) fn take_barrier<O: Operator, X: Transactions>(
     task: u32,
     input: u32,
 ) -> Result<Effect, CoreFault>
-    requires serves { Serves O.Key.cmp (Fits O.Record.HasSpelling O.Record.spelling) (IsGoodState (Fits O.State.HasSpelling O.State.spelling) O.Suits) graph.now operators.now (X.state transactions.old) attempt.old }
-    ensures ends { EndsBarrier graph.now task input attempt.old attempt.new (X.state transactions.old) (X.state transactions.new) result }
-    ensures counted { result ≡ Err CoreFault.Device → X.fault_count transactions.old < X.fault_count transactions.new }
-    ensures told { result ≢ Err CoreFault.Device → X.fault_count transactions.new ≡ X.fault_count transactions.old }
+    requires serves { Serves O.Key.cmp (Fits O.Record.HasSpelling O.Record.spelling)
+        (IsGoodState (Fits O.State.HasSpelling O.State.spelling) O.Suits) graph.now operators.now
+        (X.state transactions.old) attempt.old }
+    ensures ends { EndsBarrier graph.now task input attempt.old attempt.new
+        (X.state transactions.old) (X.state transactions.new) result }
+    ensures counted { result ≡ Err CoreFault.Device
+        → X.fault_count transactions.old < X.fault_count transactions.new }
+    ensures told { result ≢ Err CoreFault.Device
+        → X.fault_count transactions.new ≡ X.fault_count transactions.old }
 {
     match graph.role(task) {
         Some(Role::Operator(_)) => {

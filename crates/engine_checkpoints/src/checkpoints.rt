@@ -21,14 +21,18 @@ use snapshot_store::{SnapshotStore, StoreFault};
 use std::alloc::Global;
 use task_part::{Part, write_with_logs};
 
-/// A checkpoint begins under a number of its own. The parts below the last complete number are discarded first.
+/// A checkpoint begins under a number of its own. The parts below the last complete number are
+/// discarded first.
 pub fn trigger<O: Operator, S: SnapshotStore>(
     attempt: &mut Attempt<O>,
     store: &mut S,
 ) -> Result<u64, CoreFault>
-    ensures ends { EndsTrigger attempt.old attempt.new (S.state store.old) (S.state store.new) result }
-    ensures counted { result ≡ Err CoreFault.Device → S.fault_count store.old < S.fault_count store.new }
-    ensures told { result ≢ Err CoreFault.Device → S.fault_count store.new ≡ S.fault_count store.old }
+    ensures ends { EndsTrigger attempt.old attempt.new (S.state store.old)
+        (S.state store.new) result }
+    ensures counted { result ≡ Err CoreFault.Device
+        → S.fault_count store.old < S.fault_count store.new }
+    ensures told { result ≢ Err CoreFault.Device
+        → S.fault_count store.new ≡ S.fault_count store.old }
 {
     if attempt.pending().is_some() {
         return Err(CoreFault::CheckpointPending);
@@ -66,7 +70,8 @@ fn logs_of<'a, O: Operator>(
     Ok(logs)
 }
 
-/// The spelling of the part that a task's copy is with the task's logs, from which the part is read again.
+/// The spelling of the part that a task's copy is with the task's logs, from which the part is read
+/// again.
 fn spelled<O: Operator>(
     alloc: Global,
     attempt: &Attempt<O>,
@@ -74,8 +79,13 @@ fn spelled<O: Operator>(
     task: u32,
     copy: &Part<O::Record, O::Key, O::State>,
 ) -> Result<Vec<u8>, CoreFault>
-    ensures ok { IfOk result (λ bytes. bytes.items ≡ part_spelling O.Record.spelling O.Key.spelling O.State.spelling (with_logs (logs_of graph.now attempt.now task) copy.now)) }
-    ensures readable { OnOk result (whole_of (part_at O.Record.reading O.Key.cmp O.Key.reading O.State.reading) (part_spelling O.Record.spelling O.Key.spelling O.State.spelling (with_logs (logs_of graph.now attempt.now task) copy.now)) ≡ Ok (with_logs (logs_of graph.now attempt.now task) copy.now)) }
+    ensures ok { IfOk result (λ bytes. bytes.items
+        ≡ part_spelling O.Record.spelling O.Key.spelling O.State.spelling
+        (with_logs (logs_of graph.now attempt.now task) copy.now)) }
+    ensures readable { OnOk result (whole_of (part_at O.Record.reading O.Key.cmp O.Key.reading
+        O.State.reading) (part_spelling O.Record.spelling O.Key.spelling O.State.spelling
+        (with_logs (logs_of graph.now attempt.now task) copy.now))
+        ≡ Ok (with_logs (logs_of graph.now attempt.now task) copy.now)) }
     ensures err { IfErr result (λ fault. fault ≡ CoreFault.Memory) }
 {
     let logs = logs_of(alloc, attempt, graph, task)?;
@@ -95,11 +105,22 @@ pub fn persist<O: Operator, S: SnapshotStore>(
     task: u32,
 ) -> Result<(), CoreFault>
     requires acked { length attempt.old.coordination.acked ≡ length graph.now.tasks }
-    requires may { (n : ℕ) → attempt.old.coordination.pending ≡ Some n → has_acked attempt.old.coordination task ≡ false → task < length graph.now.tasks → put_refusal (S.state store.old) n task ≡ None }
-    ensures ends { EndsPersist graph.now task attempt.old attempt.new (S.state store.old) (S.state store.new) (part_spelling O.Record.spelling O.Key.spelling O.State.spelling) result }
-    ensures counted { result ≡ Err CoreFault.Device → S.fault_count store.old < S.fault_count store.new }
-    ensures told { result ≢ Err CoreFault.Device → S.fault_count store.new ≡ S.fault_count store.old }
-    ensures readable { WhereReached result ((p : Part O.Record O.Key O.State) → copy_at attempt.old task ≡ Some p → whole_of (part_at O.Record.reading O.Key.cmp O.Key.reading O.State.reading) (part_spelling O.Record.spelling O.Key.spelling O.State.spelling (with_logs (logs_of graph.now attempt.old task) p)) ≡ Ok (with_logs (logs_of graph.now attempt.old task) p)) }
+    requires may { (n : ℕ) → attempt.old.coordination.pending ≡ Some n
+        → has_acked attempt.old.coordination task ≡ false → task < length graph.now.tasks
+        → put_refusal (S.state store.old) n task ≡ None }
+    ensures ends { EndsPersist graph.now task attempt.old attempt.new (S.state store.old)
+        (S.state store.new) (part_spelling O.Record.spelling O.Key.spelling O.State.spelling)
+        result }
+    ensures counted { result ≡ Err CoreFault.Device
+        → S.fault_count store.old < S.fault_count store.new }
+    ensures told { result ≢ Err CoreFault.Device
+        → S.fault_count store.new ≡ S.fault_count store.old }
+    ensures readable { WhereReached result ((p : Part O.Record O.Key O.State)
+        → copy_at attempt.old task ≡ Some p → whole_of
+        (part_at O.Record.reading O.Key.cmp O.Key.reading O.State.reading)
+        (part_spelling O.Record.spelling O.Key.spelling O.State.spelling
+        (with_logs (logs_of graph.now attempt.old task) p))
+        ≡ Ok (with_logs (logs_of graph.now attempt.old task) p)) }
 {
     if graph.role(task).is_none() {
         return Err(CoreFault::NoSuchTask);
@@ -129,11 +150,17 @@ pub fn complete<O: Operator, S: SnapshotStore>(
     attempt: &mut Attempt<O>,
     store: &mut S,
 ) -> Result<u64, CoreFault>
-    requires may { (n : ℕ) → attempt.old.coordination.pending ≡ Some n → IsReady attempt.old.coordination → complete_refusal (S.state store.old) n ≡ None }
-    requires ready { (n : ℕ) → attempt.old.coordination.pending ≡ Some n → IsReady attempt.old.coordination → coordination.complete_refusal attempt.old.coordination n ≡ None }
-    ensures ends { EndsComplete attempt.old attempt.new (S.state store.old) (S.state store.new) result }
-    ensures counted { result ≡ Err CoreFault.Device → S.fault_count store.old < S.fault_count store.new }
-    ensures told { result ≢ Err CoreFault.Device → S.fault_count store.new ≡ S.fault_count store.old }
+    requires may { (n : ℕ) → attempt.old.coordination.pending ≡ Some n
+        → IsReady attempt.old.coordination → complete_refusal (S.state store.old) n ≡ None }
+    requires ready { (n : ℕ) → attempt.old.coordination.pending ≡ Some n
+        → IsReady attempt.old.coordination → coordination.complete_refusal
+        attempt.old.coordination n ≡ None }
+    ensures ends { EndsComplete attempt.old attempt.new (S.state store.old)
+        (S.state store.new) result }
+    ensures counted { result ≡ Err CoreFault.Device
+        → S.fault_count store.old < S.fault_count store.new }
+    ensures told { result ≢ Err CoreFault.Device
+        → S.fault_count store.new ≡ S.fault_count store.old }
 {
     let Some(checkpoint) = attempt.pending() else {
         return Err(CoreFault::NoCheckpoint);

@@ -20,8 +20,10 @@ use operators::Operator;
 
 /// The sink that a task holds, if it holds one.
 fn sink_at<O: Operator>(attempt: &Attempt<O>, task: u32) -> Option<&Sink>
-    ensures some { IfSome result (λ sink. slice_get attempt.now.tasks task ≡ Some (Holding.Sink sink.now)) }
-    ensures none { IfNone result ((sink : Sinking) → slice_get attempt.now.tasks task ≡ Some (Holding.Sink sink) → ⊥) }
+    ensures some { IfSome result (λ sink. slice_get attempt.now.tasks task
+        ≡ Some (Holding.Sink sink.now)) }
+    ensures none { IfNone result ((sink : Sinking)
+        → slice_get attempt.now.tasks task ≡ Some (Holding.Sink sink) → ⊥) }
 {
     match attempt.holding(task) {
         Some(Holding::Sink(sink)) => Some(sink),
@@ -31,7 +33,8 @@ fn sink_at<O: Operator>(attempt: &Attempt<O>, task: u32) -> Option<&Sink>
     }
 }
 
-/// A sink's oldest pending transaction, if its checkpoint is complete: if it is not the one that is pending.
+/// A sink's oldest pending transaction, if its checkpoint is complete: if it is not the one that is
+/// pending.
 fn next_of<O: Operator>(attempt: &Attempt<O>, task: u32) -> Option<Pending>
     ensures some { IfSome result (λ p. (sink : Sinking) × IsNext task attempt.now sink p) }
     ensures none { IfNone result (NoneIsNext task attempt.now) }
@@ -44,16 +47,21 @@ fn next_of<O: Operator>(attempt: &Attempt<O>, task: u32) -> Option<Pending>
     Some(next)
 }
 
-/// Commits a sink's oldest pending transaction, if its checkpoint is complete, and answers whether there was one.
+/// Commits a sink's oldest pending transaction, if its checkpoint is complete, and answers whether
+/// there was one.
 fn commit_oldest<O: Operator, X: Transactions>(
     attempt: &mut Attempt<O>,
     transactions: &mut X,
     task: u32,
 ) -> Result<bool, CoreFault>
-    requires { (sink : Sinking) (p : Pending) → IsNext task attempt.old sink p → commit_refusal (X.state transactions.old) p.transaction ≡ None }
-    ensures ends { EndsRound task attempt.old attempt.new (X.state transactions.old) (X.state transactions.new) result }
-    ensures counted { result ≡ Err CoreFault.CommitFault → X.fault_count transactions.old < X.fault_count transactions.new }
-    ensures told { result ≢ Err CoreFault.CommitFault → X.fault_count transactions.new ≡ X.fault_count transactions.old }
+    requires { (sink : Sinking) (p : Pending) → IsNext task attempt.old sink p
+        → commit_refusal (X.state transactions.old) p.transaction ≡ None }
+    ensures ends { EndsRound task attempt.old attempt.new (X.state transactions.old)
+        (X.state transactions.new) result }
+    ensures counted { result ≡ Err CoreFault.CommitFault
+        → X.fault_count transactions.old < X.fault_count transactions.new }
+    ensures told { result ≢ Err CoreFault.CommitFault
+        → X.fault_count transactions.new ≡ X.fault_count transactions.old }
 {
     let Some(next) = next_of(attempt, task) else {
         return Ok(false);
@@ -67,7 +75,8 @@ fn commit_oldest<O: Operator, X: Transactions>(
     }
 }
 
-/// Commits the pending transactions of a sink subtask up to the last complete checkpoint, the oldest first.
+/// Commits the pending transactions of a sink subtask up to the last complete checkpoint, the
+/// oldest first.
 pub fn commit<O: Operator, X: Transactions>(
     attempt: &mut Attempt<O>,
     graph: &Graph,
@@ -75,10 +84,16 @@ pub fn commit<O: Operator, X: Transactions>(
     subtask: u32,
 ) -> Result<(), CoreFault>
     requires expanded { IsExpanded graph.now }
-    requires sinks { (task : ℕ) (sink : Sinking) → slice_get graph.now.tasks task ≡ Some (Role.Sink subtask) → slice_get attempt.old.tasks task ≡ Some (Holding.Sink sink) → SinkIn (X.state transactions.old) subtask sink }
-    ensures ends { EndsCommit graph.now subtask attempt.old attempt.new (X.state transactions.old) (X.state transactions.new) result }
-    ensures counted { result ≡ Err CoreFault.CommitFault → X.fault_count transactions.old < X.fault_count transactions.new }
-    ensures told { result ≢ Err CoreFault.CommitFault → X.fault_count transactions.new ≡ X.fault_count transactions.old }
+    requires sinks { (task : ℕ) (sink : Sinking)
+        → slice_get graph.now.tasks task ≡ Some (Role.Sink subtask)
+        → slice_get attempt.old.tasks task ≡ Some (Holding.Sink sink)
+        → SinkIn (X.state transactions.old) subtask sink }
+    ensures ends { EndsCommit graph.now subtask attempt.old attempt.new (X.state transactions.old)
+        (X.state transactions.new) result }
+    ensures counted { result ≡ Err CoreFault.CommitFault
+        → X.fault_count transactions.old < X.fault_count transactions.new }
+    ensures told { result ≢ Err CoreFault.CommitFault
+        → X.fault_count transactions.new ≡ X.fault_count transactions.old }
 {
     let Some(task) = graph.sink_task(subtask) else {
         return Err(CoreFault::NoSuchTask);

@@ -21,7 +21,8 @@ use job_graph::{Graph, Role};
 use job_state::{Attempt, Holding};
 use operators::Operator;
 
-/// The pending checkpoint, whose barrier stands at the head of an input, which is this channel, and is to be taken.
+/// The pending checkpoint, whose barrier stands at the head of an input, which is this channel, and
+/// is to be taken.
 fn barrier_at<O: Operator>(
     attempt: &Attempt<O>,
     task: u32,
@@ -29,7 +30,8 @@ fn barrier_at<O: Operator>(
     channel: u32,
 ) -> Result<u64, CoreFault>
     requires { input < length (gate_at attempt.now task).inputs }
-    ensures ok { IfOk result (λ checkpoint. IsBarrierDue task input attempt.now channel checkpoint) }
+    ensures ok { IfOk result (λ checkpoint. IsBarrierDue task input attempt.now
+        channel checkpoint) }
     ensures err { IfErr result (RefusesBarrier task input channel attempt.now) }
 {
     if attempt.is_blocked(task, input) {
@@ -55,7 +57,8 @@ fn is_copy(effect: Effect) -> bool
     }
 }
 
-/// An operator takes the barrier at the head of an input, which is this channel. Where it copies, it copies its map and sends the barrier.
+/// An operator takes the barrier at the head of an input, which is this channel. Where it copies,
+/// it copies its map and sends the barrier.
 pub fn operator_barrier<O: Operator>(
     attempt: &mut Attempt<O>,
     graph: &Graph,
@@ -65,7 +68,8 @@ pub fn operator_barrier<O: Operator>(
 ) -> Result<Effect, CoreFault>
     requires gate { GateFits graph.now attempt.old task }
     requires leads { input_at graph.now task input ≡ Some channel }
-    requires holds { (entries : List (O.Key × O.State)) × (slice_get attempt.old.tasks task ≡ Some (Holding.Operator entries)) }
+    requires holds { (entries : List (O.Key × O.State))
+        × (slice_get attempt.old.tasks task ≡ Some (Holding.Operator entries)) }
     requires copies { task < length attempt.old.copies }
     requires came { length attempt.old.came ≡ length graph.now.channels }
     requires channels { length attempt.old.channels ≡ length graph.now.channels }
@@ -90,9 +94,12 @@ fn begin_next<X: Transactions>(
 ) -> Result<u64, CoreFault>
     requires subtask { subtask < (X.state transactions.old).subtasks }
     requires last { open_refusal (X.state transactions.old) last ≡ None }
-    ensures ends { EndsBegin subtask last checkpoint (X.state transactions.old) (X.state transactions.new) result }
-    ensures counted { result ≡ Err CoreFault.Device → X.fault_count transactions.old < X.fault_count transactions.new }
-    ensures told { result ≢ Err CoreFault.Device → X.fault_count transactions.new ≡ X.fault_count transactions.old }
+    ensures ends { EndsBegin subtask last checkpoint (X.state transactions.old)
+        (X.state transactions.new) result }
+    ensures counted { result ≡ Err CoreFault.Device
+        → X.fault_count transactions.old < X.fault_count transactions.new }
+    ensures told { result ≢ Err CoreFault.Device
+        → X.fault_count transactions.new ≡ X.fault_count transactions.old }
 {
     let begun = match transactions.begin(subtask) {
         Ok(begun) => begun,
@@ -105,7 +112,8 @@ fn begin_next<X: Transactions>(
     Ok(begun)
 }
 
-/// A sink that copies begins a transaction, pre-commits the one that was open, and copies the names of those that are pre-committed.
+/// A sink that copies begins a transaction, pre-commits the one that was open, and copies the names
+/// of those that are pre-committed.
 fn copy_sink<O: Operator, X: Transactions>(
     attempt: &mut Attempt<O>,
     transactions: &mut X,
@@ -118,12 +126,17 @@ fn copy_sink<O: Operator, X: Transactions>(
     requires gate { GateAwaits task input channel checkpoint attempt.old }
     requires barrier { IsBarrierDue task input attempt.old channel checkpoint }
     requires effect { is_copy (effect_of (gate_at attempt.old task) input) ≡ true }
-    requires holds { (sink : Sinking) × (slice_get attempt.old.tasks task ≡ Some (Holding.Sink sink)) × (open_refusal (X.state transactions.old) sink.open_one ≡ None) }
+    requires holds { (sink : Sinking) × (slice_get attempt.old.tasks task
+        ≡ Some (Holding.Sink sink)) × (open_refusal (X.state transactions.old)
+        sink.open_one ≡ None) }
     requires copies { task < length attempt.old.copies }
     requires subtask { subtask < (X.state transactions.old).subtasks }
-    ensures ends { EndsSinkCopy task input attempt.old attempt.new channel subtask (X.state transactions.old) (X.state transactions.new) result }
-    ensures counted { result ≡ Err CoreFault.Device → X.fault_count transactions.old < X.fault_count transactions.new }
-    ensures told { result ≢ Err CoreFault.Device → X.fault_count transactions.new ≡ X.fault_count transactions.old }
+    ensures ends { EndsSinkCopy task input attempt.old attempt.new channel subtask
+        (X.state transactions.old) (X.state transactions.new) result }
+    ensures counted { result ≡ Err CoreFault.Device
+        → X.fault_count transactions.old < X.fault_count transactions.new }
+    ensures told { result ≢ Err CoreFault.Device
+        → X.fault_count transactions.new ≡ X.fault_count transactions.old }
 {
     let Some(Holding::Sink(sink)) = attempt.holding(task) else {
         return Err(CoreFault::NotReady);
@@ -137,8 +150,9 @@ fn copy_sink<O: Operator, X: Transactions>(
     Ok(())
 }
 
-/// A sink takes the barrier at the head of an input, which is this channel. Where it copies, it begins a transaction, pre-commits the one that was
-/// open, and copies the names of those that are pre-committed.
+/// A sink takes the barrier at the head of an input, which is this channel. Where it copies, it
+/// begins a transaction, pre-commits the one that was open, and copies the names of those that are
+/// pre-committed.
 pub fn sink_barrier<O: Operator, X: Transactions>(
     attempt: &mut Attempt<O>,
     graph: &Graph,
@@ -150,13 +164,18 @@ pub fn sink_barrier<O: Operator, X: Transactions>(
 ) -> Result<Effect, CoreFault>
     requires gate { GateFits graph.now attempt.old task }
     requires leads { input_at graph.now task input ≡ Some channel }
-    requires holds { (sink : Sinking) × (slice_get attempt.old.tasks task ≡ Some (Holding.Sink sink)) × (open_refusal (X.state transactions.old) sink.open_one ≡ None) }
+    requires holds { (sink : Sinking) × (slice_get attempt.old.tasks task
+        ≡ Some (Holding.Sink sink)) × (open_refusal (X.state transactions.old)
+        sink.open_one ≡ None) }
     requires copies { task < length attempt.old.copies }
     requires came { length attempt.old.came ≡ length graph.now.channels }
     requires subtask { subtask < (X.state transactions.old).subtasks }
-    ensures ends { EndsSinkBarrier task input attempt.old attempt.new channel subtask (X.state transactions.old) (X.state transactions.new) result }
-    ensures counted { result ≡ Err CoreFault.Device → X.fault_count transactions.old < X.fault_count transactions.new }
-    ensures told { result ≢ Err CoreFault.Device → X.fault_count transactions.new ≡ X.fault_count transactions.old }
+    ensures ends { EndsSinkBarrier task input attempt.old attempt.new channel subtask
+        (X.state transactions.old) (X.state transactions.new) result }
+    ensures counted { result ≡ Err CoreFault.Device
+        → X.fault_count transactions.old < X.fault_count transactions.new }
+    ensures told { result ≢ Err CoreFault.Device
+        → X.fault_count transactions.new ≡ X.fault_count transactions.old }
 {
     let checkpoint = barrier_at(attempt, task, input, channel)?;
     let effect = attempt.effect(task, input);

@@ -18,8 +18,10 @@ use source_log::{Partitions, SourceFault};
 
 /// The offset that a task holds, if it holds one.
 pub(crate) fn source_offset<O: Operator>(attempt: &Attempt<O>, task: u32) -> Option<u64>
-    ensures some { IfSome result (λ offset. slice_get attempt.now.tasks task ≡ Some (Holding.Source offset)) }
-    ensures none { IfNone result ((offset : ℕ) → slice_get attempt.now.tasks task ≡ Some (Holding.Source offset) → ⊥) }
+    ensures some { IfSome result (λ offset. slice_get attempt.now.tasks task
+        ≡ Some (Holding.Source offset)) }
+    ensures none { IfNone result ((offset : ℕ)
+        → slice_get attempt.now.tasks task ≡ Some (Holding.Source offset) → ⊥) }
 {
     match attempt.holding(task) {
         Some(Holding::Source(offset)) => Some(*offset),
@@ -38,13 +40,21 @@ pub fn read_next<O: Operator, P: Partitions<Record = O::Record>>(
 ) -> Result<(), CoreFault>
     requires held { AreHeld graph.now attempt.old }
     requires channels { length attempt.old.channels ≡ length graph.now.channels }
-    requires partitions { (t p : ℕ) → slice_get graph.now.tasks t ≡ Some (Role.Source p) → p < length (P.records log.old) }
-    ensures ends { EndsRead graph.now task attempt.old attempt.new (language O.meaning O.Key.cmp O.Record.spelling O.Record.reading O.Key.reading O.State.reading) (P.records log.old) result }
+    requires partitions { (t p : ℕ) → slice_get graph.now.tasks t ≡ Some (Role.Source p)
+        → p < length (P.records log.old) }
+    ensures ends { EndsRead graph.now task attempt.old attempt.new
+        (language O.meaning O.Key.cmp O.Record.spelling O.Record.reading O.Key.reading
+        O.State.reading) (P.records log.old) result }
     ensures same { P.records log.new ≡ P.records log.old }
     ensures kept { OnErr result (attempt.new ≡ attempt.old) }
-    ensures counted { result ≡ Err CoreFault.Device → P.fault_count log.old < P.fault_count log.new }
+    ensures counted { result ≡ Err CoreFault.Device
+        → P.fault_count log.old < P.fault_count log.new }
     ensures told { result ≢ Err CoreFault.Device → P.fault_count log.new ≡ P.fault_count log.old }
-    ensures fits { OnOk result ((p o : ℕ) (row : O.Record) → slice_get graph.now.tasks task ≡ Some (Role.Source p) → slice_get attempt.old.tasks task ≡ Some (Holding.Source o) → slice_get (records_at (P.records log.old) p) o ≡ Some row → Fits O.Record.HasSpelling O.Record.spelling row) }
+    ensures fits { OnOk result ((p o : ℕ) (row : O.Record)
+        → slice_get graph.now.tasks task ≡ Some (Role.Source p)
+        → slice_get attempt.old.tasks task ≡ Some (Holding.Source o)
+        → slice_get (records_at (P.records log.old) p) o ≡ Some row
+        → Fits O.Record.HasSpelling O.Record.spelling row) }
 {
     let Some(Role::Source(partition)) = graph.role(task) else {
         return Err(CoreFault::NoSuchTask);

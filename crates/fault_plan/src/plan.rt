@@ -77,7 +77,12 @@ impl<const CALLS: usize> Model for Plan<CALLS> {
 
     ghost Value = { Planned };
 
-    ghost view = { λ p. record { next = p.next; every = every_of p.every; calls = p.calls; faults = p.faults } };
+    ghost view = { λ p. record {
+      next = p.next;
+      every = every_of p.every;
+      calls = p.calls;
+      faults = p.faults;
+    } };
 
     ghost invariant = { λ p. (p.calls < 2 ^ 64) × (p.faults < 2 ^ 64) };
 }
@@ -85,7 +90,12 @@ impl<const CALLS: usize> Model for Plan<CALLS> {
 impl<const CALLS: usize> Plan<CALLS> {
     /// No call is to fail.
     pub fn new() -> Plan<CALLS>
-        ensures { result ≡ record { next = replicate CALLS None; every = None; calls = 0; faults = 0 } }
+        ensures { result ≡ record {
+          next = replicate CALLS None;
+          every = None;
+          calls = 0;
+          faults = 0;
+        } }
     {
         Plan {
             next: NextCalls::new(),
@@ -110,7 +120,8 @@ impl<const CALLS: usize> Plan<CALLS> {
         self.next.set(call, Some(when));
     }
 
-    /// Each k-th call from the device's first on fails before its work, up to the last-th. None does for a k of 0.
+    /// Each k-th call from the device's first on fails before its work, up to the last-th. None
+    /// does for a k of 0.
     pub fn every(&mut self, k: u64, last: u64)
         ensures { self.new ≡ record self.old { every = Some (k, last) } }
     {

@@ -80,7 +80,8 @@ fn push_crossed(
     requires from_fits { from + senders < 2 ^ 32 }
     requires to_fits { to + receivers < 2 ^ 32 }
     ensures { OnOk result (map channel_view channels.new.items
-        ≡ map channel_view channels.old.items ++ crossed_channels edge.now from senders to receivers) }
+        ≡ map channel_view channels.old.items
+        ++ crossed_channels edge.now from senders to receivers) }
 {
     for i in 0..senders {
         push_to_each(channels, edge, from + i, to, receivers)?;
@@ -124,8 +125,10 @@ pub fn channels(
     requires len { length firsts.now ≡ length parallelisms.now }
     requires firsts { (i : ℕ) → i < length parallelisms.now
         → slice_index firsts.now i ≡ first_task parallelisms.now i }
-    requires ends { All (λ e. (e.from < length parallelisms.now) × (e.to < length parallelisms.now)) edges.now }
-    ensures { IfOk result (λ v. map channel_view v.items ≡ flat_map (edge_channels parallelisms.now) edges.now) }
+    requires ends { All (λ e. (e.from < length parallelisms.now)
+        × (e.to < length parallelisms.now)) edges.now }
+    ensures { IfOk result (λ v. map channel_view v.items
+        ≡ flat_map (edge_channels parallelisms.now) edges.now) }
 {
     let mut channels = Vec::new(alloc);
     for edge in edges {

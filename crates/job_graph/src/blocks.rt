@@ -24,7 +24,8 @@ pub(crate) fn first_tasks(alloc: Global, parallelisms: &[u32]) -> Result<Vec<u32
 
 fn push_from(order: &mut Vec<u32>, first: u32, count: u32) -> Result<(), AllocError>
     requires { first + count < 2 ^ 32 }
-    ensures { OnOk result (order.new.items ≡ order.old.items ++ map (λ i. first + i) (range_with_len 0 count)) }
+    ensures { OnOk result (order.new.items ≡ order.old.items
+        ++ map (λ i. first + i) (range_with_len 0 count)) }
 {
     for i in 0..count {
         order.push(first + i)?;

@@ -52,7 +52,8 @@ pub(crate) fn are_fed(job: &JobSpec) -> bool
 
 /// The names of the vertices that are left, in file order.
 fn names_of(alloc: Global, job: &JobSpec, left: &[bool]) -> Result<Vec<String>, AllocError>
-    ensures { IfOk result (λ v. map string_bytes v.items ≡ names_at (at left.now) 0 job.now.vertices) }
+    ensures { IfOk result (λ v. map string_bytes v.items
+        ≡ names_at (at left.now) 0 job.now.vertices) }
 {
     let mut names = Vec::new(alloc);
     for i in 0..job.vertices() {
@@ -66,7 +67,8 @@ fn names_of(alloc: Global, job: &JobSpec, left: &[bool]) -> Result<Vec<String>, 
 
 /// Whether a vertex is left.
 fn any_left(left: &[bool]) -> bool
-    ensures { MatchBool result ((v : ℕ) × (at left.now v ≡ true)) ((v : ℕ) → at left.now v ≡ false) }
+    ensures { MatchBool result ((v : ℕ) × (at left.now v ≡ true))
+        ((v : ℕ) → at left.now v ≡ false) }
 {
     for v in 0..left.len() {
         if left[v] {
@@ -83,7 +85,9 @@ pub(crate) fn vertex_order(alloc: Global, job: &JobSpec) -> Result<Vec<usize>, J
     ensures acyclic { OnOk result (IsAcyclic (length job.now.vertices) job.now.edges) }
     ensures within { IfOk result (λ v. All (λ u. u < length job.now.vertices) v.items) }
     // What stands at all vertices is what stands at these.
-    ensures whole { IfOk result (λ v. (f : ℕ → List ℕ) → IsPermutation (flat_map f (range_with_len 0 (length job.now.vertices))) (flat_map f v.items)) }
+    ensures whole { IfOk result (λ v. (f : ℕ → List ℕ)
+        → IsPermutation (flat_map f (range_with_len 0 (length job.now.vertices)))
+        (flat_map f v.items)) }
     ensures err { IfErr result (Refuses job.now) }
 {
     let (order, left) = in_order(alloc, job.vertices(), job.edges())?;

@@ -50,8 +50,19 @@ impl Graph {
         order: Vec<u32>,
         spelling: Vec<u8>,
     ) -> Result<Graph, AllocError>
-        requires { IsExpanded (record { tasks = roles.items; channels = map channel_view channels.items; order = order.items; spelling = spelling.items }) }
-        ensures { IfOk result (λ graph. graph ≡ record { tasks = roles.items; channels = map channel_view channels.items; order = order.items; spelling = spelling.items }) }
+        requires { IsExpanded (record {
+          tasks = roles.items;
+          channels = map channel_view channels.items;
+          order = order.items;
+          spelling = spelling.items;
+        }) }
+        ensures { IfOk result (λ graph. graph
+            ≡ record {
+              tasks = roles.items;
+              channels = map channel_view channels.items;
+              order = order.items;
+              spelling = spelling.items;
+            }) }
     {
         let links = table(alloc, &channels, roles.len() as u32)?;
         Ok(Graph {
@@ -88,7 +99,8 @@ impl Graph {
     /// A channel; `None` if there is none of this number.
     pub fn channel(&self, number: u32) -> Option<Channel>
         ensures value { option_map channel_view result ≡ slice_get self.now.channels number }
-        ensures joined { IfSome result (λ channel. IsChannel self.now.tasks (channel_view channel)) }
+        ensures joined { IfSome result (λ channel. IsChannel self.now.tasks
+            (channel_view channel)) }
     {
         self.stored(number)
     }
@@ -209,14 +221,16 @@ impl Graph {
 
     /// The task that is a sink subtask; `None` if there is no such subtask.
     pub fn sink_task(&self, subtask: u32) -> Option<u32>
-        ensures found { IfSome result (λ task. slice_get self.now.tasks task ≡ Some (Role.Sink subtask)) }
+        ensures found { IfSome result (λ task. slice_get self.now.tasks task
+            ≡ Some (Role.Sink subtask)) }
         ensures none { IfNone result (count_by is_sink self.now.tasks ≤ subtask) }
     {
         self.first_subtask(subtask)
     }
 
     fn first_subtask(&self, subtask: u32) -> Option<u32>
-        ensures first { result ≡ find (is_subtask_at self.now.tasks subtask) (range_with_len 0 (length self.now.tasks)) }
+        ensures first { result ≡ find (is_subtask_at self.now.tasks subtask)
+            (range_with_len 0 (length self.now.tasks)) }
         ensures expanded { IsExpanded self.now }
     {
         (0..self.tasks()).find(|task| self.is_subtask(*task, subtask))

@@ -52,7 +52,8 @@ fn count_of(channels: &[Channel]) -> u32
 
 fn inputs(alloc: Global, channels: &[Channel], task: u32) -> Result<Vec<u32>, AllocError>
     requires { length channels.now < 2 ^ 32 }
-    ensures { IfOk result (λ v. v.items ≡ numbers_of (is_input task) (map channel_view channels.now)) }
+    ensures { IfOk result (λ v. v.items ≡ numbers_of (is_input task)
+        (map channel_view channels.now)) }
 {
     (0..count_of(channels))
         .filter(|c| leads_into(channels, *c, task))
@@ -61,7 +62,8 @@ fn inputs(alloc: Global, channels: &[Channel], task: u32) -> Result<Vec<u32>, Al
 
 fn outputs(alloc: Global, channels: &[Channel], task: u32) -> Result<Vec<u32>, AllocError>
     requires { length channels.now < 2 ^ 32 }
-    ensures { IfOk result (λ v. v.items ≡ numbers_of (is_output task) (map channel_view channels.now)) }
+    ensures { IfOk result (λ v. v.items ≡ numbers_of (is_output task)
+        (map channel_view channels.now)) }
 {
     (0..count_of(channels))
         .filter(|c| leads_from(channels, *c, task))
@@ -75,7 +77,8 @@ fn outlets(
     port: u32,
 ) -> Result<Vec<u32>, AllocError>
     requires { length channels.now < 2 ^ 32 }
-    ensures { IfOk result (λ v. v.items ≡ numbers_of (is_outlet task port) (map channel_view channels.now)) }
+    ensures { IfOk result (λ v. v.items ≡ numbers_of (is_outlet task port)
+        (map channel_view channels.now)) }
 {
     (0..count_of(channels))
         .filter(|c| leads_from_port(channels, *c, task, port))

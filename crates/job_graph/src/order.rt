@@ -31,8 +31,10 @@ fn is_ready(edges: &[EdgeSpec], left: &[bool], v: usize) -> bool
 fn next_of(edges: &[EdgeSpec], left: &[bool]) -> Option<usize>
     ensures within { IfSome result (λ v. v < length left.now) }
     ensures ready { IfSome result (λ v. is_ready edges.now (at left.now) v ≡ true) }
-    ensures first { IfSome result (λ v. (u : ℕ) → u < v → is_ready edges.now (at left.now) u ≡ false) }
-    ensures none { IfNone result ((u : ℕ) → u < length left.now → is_ready edges.now (at left.now) u ≡ false) }
+    ensures first { IfSome result (λ v. (u : ℕ) → u < v
+        → is_ready edges.now (at left.now) u ≡ false) }
+    ensures none { IfNone result ((u : ℕ) → u < length left.now
+        → is_ready edges.now (at left.now) u ≡ false) }
 {
     for v in 0..left.len() {
         if is_ready(edges, left, v) {
@@ -53,7 +55,8 @@ pub(crate) fn in_order(
     ensures apart { IfOk result (λ r. (v : ℕ) → at r.1.items v ≡ rest n r.0.items v) }
     ensures len { IfOk result (λ r. length r.1.items ≡ n) }
     // Each vertex is taken once or left: what stands at all of them is what stands at these.
-    ensures whole { IfOk result (λ r. (f : ℕ → List ℕ) → IsPermutation (flat_map f (range_with_len 0 n))
+    ensures whole { IfOk result (λ r. (f : ℕ → List ℕ)
+        → IsPermutation (flat_map f (range_with_len 0 n))
         (flat_map f r.0.items ++ flat_map f (filter (at r.1.items) (range_with_len 0 n)))) }
 {
     let mut order = Vec::new(alloc);

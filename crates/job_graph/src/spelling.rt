@@ -13,14 +13,16 @@ use operators::RowOp;
 use std::alloc::Global;
 
 fn write_with_number(tag: u8, n: &i64, out: &mut Vec<u8>) -> Result<(), CodecFault>
-    ensures { OnOk result (out.new.items ≡ out.old.items ++ (tag ∷ [] ++ signed_spelling w64 n.now)) }
+    ensures { OnOk result (out.new.items ≡ out.old.items
+        ++ (tag ∷ [] ++ signed_spelling w64 n.now)) }
 {
     out.push(tag)?;
     n.write(out)
 }
 
 fn write_operator(operator: &RowOp, out: &mut Vec<u8>) -> Result<(), CodecFault>
-    ensures { OnOk result (out.new.items ≡ out.old.items ++ kind_spelling (operator_view operator.now)) }
+    ensures { OnOk result (out.new.items ≡ out.old.items
+        ++ kind_spelling (operator_view operator.now)) }
 {
     match operator {
         RowOp::Add { n } => write_with_number(2, n, out),
@@ -57,7 +59,8 @@ fn write_vertex(
     spec: &VertexSpec,
     out: &mut Vec<u8>,
 ) -> Result<(), CodecFault>
-    ensures { OnOk result (out.new.items ≡ out.old.items ++ vertex_spelling (vertex_view (name.now, spec.now))) }
+    ensures { OnOk result (out.new.items ≡ out.old.items
+        ++ vertex_spelling (vertex_view (name.now, spec.now))) }
 {
     Text::from_str(alloc, name.as_str())?.write(out)?;
     write_kind(&spec.kind, out)?;
@@ -65,7 +68,8 @@ fn write_vertex(
 }
 
 fn write_vertices(alloc: Global, job: &JobSpec, out: &mut Vec<u8>) -> Result<(), CodecFault>
-    ensures { OnOk result (out.new.items ≡ out.old.items ++ flat_map vertex_spelling job.now.vertices) }
+    ensures { OnOk result (out.new.items ≡ out.old.items
+        ++ flat_map vertex_spelling job.now.vertices) }
 {
     for i in 0..job.vertices() {
         let (name, spec) = job.vertex(i);

@@ -20,7 +20,8 @@ fn kind_of(kind: &Kind) -> TaskKind
 }
 
 fn push_subtasks(kinds: &mut Vec<TaskKind>, spec: &VertexSpec) -> Result<(), AllocError>
-    ensures { OnOk result (kinds.new.items ≡ kinds.old.items ++ replicate spec.now.parallelism (kind_of (kind_view spec.now.kind))) }
+    ensures { OnOk result (kinds.new.items ≡ kinds.old.items
+        ++ replicate spec.now.parallelism (kind_of (kind_view spec.now.kind))) }
 {
     push_copies(kinds, kind_of(&spec.kind), spec.parallelism)
 }

@@ -28,7 +28,8 @@ pub enum LineFault {
 }
 
 impl From<ItemFault> for LineFault {
-    ghost from_gives = { λ fault e. (fault ≡ ItemFault.Bad → e ≡ one.BadRow) × (fault ≡ ItemFault.Memory → e ≡ one.Memory) };
+    ghost from_gives = { λ fault e. (fault ≡ ItemFault.Bad → e ≡ one.BadRow)
+        × (fault ≡ ItemFault.Memory → e ≡ one.Memory) };
 
     ghost use Rattle.script_file.specs.declared.fault.ItemFault.TheVariants as ItemFault;
 
@@ -43,7 +44,8 @@ impl From<ItemFault> for LineFault {
 impl From<SourceFault> for LineFault {
     ghost use Rattle.source_log.specs.declared.partitions.SourceFault.TheVariants as SourceFault;
 
-    ghost from_gives = { λ fault e. (fault ≡ SourceFault.Memory → e ≡ one.Memory) × (fault ≢ SourceFault.Memory → e ≡ one.Source fault) };
+    ghost from_gives = { λ fault e. (fault ≡ SourceFault.Memory → e ≡ one.Memory)
+        × (fault ≢ SourceFault.Memory → e ≡ one.Source fault) };
 
     fn from(fault: SourceFault) -> LineFault {
         match fault {

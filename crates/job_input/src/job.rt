@@ -42,7 +42,8 @@ fn read_input<'a, R: Read + Drop>(
     input: Input<'a, R>,
     line: &mut Vec<u8>,
 ) -> Result<(), InputFault<'a>>
-    ensures { PutsRows number (⟦<MemoryLog<Row> as Partitions>⟧.records log.old) (⟦<MemoryLog<Row> as Partitions>⟧.records log.new) }
+    ensures { PutsRows number (⟦<MemoryLog<Row> as Partitions>⟧.records log.old)
+        (⟦<MemoryLog<Row> as Partitions>⟧.records log.new) }
 {
     let name = input.name;
     let mut file = match input.into_buffered(alloc) {
@@ -83,7 +84,8 @@ pub fn judge<'a, J: Read + Drop, R: Read + Drop>(
     job: Input<'a, J>,
     inputs: Vec<Input<'a, R>>,
 ) -> Result<JobInput, InputFault<'a>>
-    ensures { IfOk result (λ j. IsJudged j.job j.graph (⟦<MemoryLog<Row> as Partitions>⟧.records j.log)) }
+    ensures { IfOk result (λ j. IsJudged j.job j.graph
+        (⟦<MemoryLog<Row> as Partitions>⟧.records j.log)) }
 {
     let bytes = job.into_bytes(alloc)?;
     let (job, graph) = expanded(alloc, &bytes)?;

@@ -33,10 +33,14 @@ fn len_through_end(bytes: &[u8]) -> usize
 fn append_ready<R: BufRead>(file: &mut R, line: &mut Vec<u8>) -> io::Result<bool>
     ensures appends { StartsWith line.new.items line.old.items }
     ensures stops { StopsAt (appended_bytes line.old.items line.new.items) 10 }
-    ensures bytes { Consumes (R.remaining file.old) (R.remaining file.new) (appended_bytes line.old.items line.new.items) }
-    ensures end { result ≡ Ok true → length (appended_bytes line.old.items line.new.items) ≡ 0 → OnSome (R.remaining file.old) (IsAtEnd (R.remaining file.new)) }
-    ensures no_end_unless_done { result ≢ Ok true → All (λ x. x ≢ 10) (appended_bytes line.old.items line.new.items) }
-    ensures done_at_end { result ≡ Ok true → IsEmptyOrEndsWith (appended_bytes line.old.items line.new.items) 10 }
+    ensures bytes { Consumes (R.remaining file.old) (R.remaining file.new)
+        (appended_bytes line.old.items line.new.items) }
+    ensures end { result ≡ Ok true → length (appended_bytes line.old.items line.new.items) ≡ 0
+        → OnSome (R.remaining file.old) (IsAtEnd (R.remaining file.new)) }
+    ensures no_end_unless_done { result ≢ Ok true
+        → All (λ x. x ≢ 10) (appended_bytes line.old.items line.new.items) }
+    ensures done_at_end { result ≡ Ok true → IsEmptyOrEndsWith
+        (appended_bytes line.old.items line.new.items) 10 }
 {
     let available = match file.fill_buf() {
         Ok(available) => available,
@@ -65,7 +69,8 @@ fn is_too_long(line: &[u8]) -> bool {
 /// has one. False: the file has no more.
 pub fn next_line<R: BufRead>(file: &mut R, line: &mut Vec<u8>) -> Result<bool, LineFault>
     // Where the reader's bytes are known, these are those up to the first end of a line.
-    ensures line { OnOk result (IfSome (R.remaining file.old) (λ xs. line.new.items ≡ take_through 10 xs)) }
+    ensures line { OnOk result (IfSome (R.remaining file.old)
+        (λ xs. line.new.items ≡ take_through 10 xs)) }
     ensures rest { OnOk result (DropsThrough (R.remaining file.old) (R.remaining file.new) 10) }
     ensures end { result ≡ Ok false → length line.new.items ≡ 0 }
     ensures more { IfOk result (λ more. more ≡ nat_lt 0 (length line.new.items)) }

@@ -41,8 +41,11 @@ pub fn put_line(
     partition: u32,
     line: &[u8],
 ) -> Result<(), LineFault>
-    ensures ok { OnOk result (PutsLine partition line.now (⟦<MemoryLog<Row> as Partitions>⟧.records log.old) (⟦<MemoryLog<Row> as Partitions>⟧.records log.new)) }
-    ensures err { OnErr result (⟦<MemoryLog<Row> as Partitions>⟧.records log.new ≡ ⟦<MemoryLog<Row> as Partitions>⟧.records log.old) }
+    ensures ok { OnOk result (PutsLine partition line.now
+        (⟦<MemoryLog<Row> as Partitions>⟧.records log.old)
+        (⟦<MemoryLog<Row> as Partitions>⟧.records log.new)) }
+    ensures err { OnErr result (⟦<MemoryLog<Row> as Partitions>⟧.records log.new
+        ≡ ⟦<MemoryLog<Row> as Partitions>⟧.records log.old) }
 {
     if is_blank(line) {
         return Ok(());
@@ -61,8 +64,12 @@ fn take_line<R: BufRead>(
     file: &mut R,
     line: &mut Vec<u8>,
 ) -> Result<bool, LineFault>
-    ensures puts { PutsRows partition (⟦<MemoryLog<Row> as Partitions>⟧.records log.old) (⟦<MemoryLog<Row> as Partitions>⟧.records log.new) }
-    ensures line { OnOk result (IfSome (R.remaining file.old) (λ bytes. PutsLine partition (take_through 10 bytes) (⟦<MemoryLog<Row> as Partitions>⟧.records log.old) (⟦<MemoryLog<Row> as Partitions>⟧.records log.new))) }
+    ensures puts { PutsRows partition (⟦<MemoryLog<Row> as Partitions>⟧.records log.old)
+        (⟦<MemoryLog<Row> as Partitions>⟧.records log.new) }
+    ensures line { OnOk result (IfSome (R.remaining file.old)
+        (λ bytes. PutsLine partition (take_through 10 bytes)
+        (⟦<MemoryLog<Row> as Partitions>⟧.records log.old)
+        (⟦<MemoryLog<Row> as Partitions>⟧.records log.new))) }
     ensures rest { OnOk result (DropsThrough (R.remaining file.old) (R.remaining file.new) 10) }
     ensures end { result ≡ Ok false → IfSome (R.remaining file.old) (λ bytes. bytes ≡ []) }
 {
@@ -81,9 +88,12 @@ pub fn read_rows<R: BufRead>(
     file: &mut R,
     line: &mut Vec<u8>,
 ) -> Result<(), (u64, LineFault)>
-    ensures puts { PutsRows partition (⟦<MemoryLog<Row> as Partitions>⟧.records log.old) (⟦<MemoryLog<Row> as Partitions>⟧.records log.new) }
+    ensures puts { PutsRows partition (⟦<MemoryLog<Row> as Partitions>⟧.records log.old)
+        (⟦<MemoryLog<Row> as Partitions>⟧.records log.new) }
     // Where the reader's bytes are known, these are the rows of their lines, each in its turn.
-    ensures text { OnOk result (IfSome (R.remaining file.old) (λ bytes. PutsText partition bytes (⟦<MemoryLog<Row> as Partitions>⟧.records log.old) (⟦<MemoryLog<Row> as Partitions>⟧.records log.new))) }
+    ensures text { OnOk result (IfSome (R.remaining file.old)
+        (λ bytes. PutsText partition bytes (⟦<MemoryLog<Row> as Partitions>⟧.records log.old)
+        (⟦<MemoryLog<Row> as Partitions>⟧.records log.new))) }
 {
     for number in 1..u64::MAX {
         match take_line(alloc, log, partition, file, line) {

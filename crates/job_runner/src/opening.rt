@@ -28,7 +28,8 @@ pub(crate) fn open(
 ) -> Result<(JobCore, Schedule), Refusal>
     requires tasks { 1 ≤ length graph.tasks }
     requires operators { HaveOperators graph (operators_of job.now) }
-    requires partitions { length (⟦<MemoryLog<Row> as Partitions>⟧.records log) ≡ count_by is_source graph.tasks }
+    requires partitions { length (⟦<MemoryLog<Row> as Partitions>⟧.records log)
+        ≡ count_by is_source graph.tasks }
 {
     let tasks = graph.tasks();
     let sinks = graph.sinks();

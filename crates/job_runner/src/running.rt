@@ -25,8 +25,8 @@ use thread_runner::{NoPause, Pause, Report, Schedule, Station, run};
 /// A job that goes down is restarted so often.
 const RESTARTS: u64 = 8;
 
-/// Takes the job of this core to rest and prints what is committed, also where the run is refused. A
-/// job that goes down is restarted so often. It answers how many jobs the workers have finished.
+/// Takes the job of this core to rest and prints what is committed, also where the run is refused.
+/// A job that goes down is restarted so often. It answers how many jobs the workers have finished.
 pub fn run_core<
     O: Operator + Send,
     S: SnapshotStore + Drop + Send,
@@ -88,7 +88,8 @@ fn run_judged<L: Ledger + Send + Sync, R: Threads + Wait + Clock + Sync, W: Writ
     options: Options,
     out: &mut W,
 ) -> Result<(), RunRefusal<'static>>
-    requires judged { IsJudged input.job input.graph (⟦<MemoryLog<Row> as Partitions>⟧.records input.log) }
+    requires judged { IsJudged input.job input.graph
+        (⟦<MemoryLog<Row> as Partitions>⟧.records input.log) }
     requires name { blank.name ≡ L.name }
     requires parts { (blank.parts ≡ L.parts) × (L.parts ≡ 65) }
 {

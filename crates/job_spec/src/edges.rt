@@ -27,7 +27,8 @@ fn route(value: &Value) -> Result<EdgeRoute, JobFault>
 }
 
 fn route_of(value: &Value) -> Result<EdgeRoute, JobFault>
-    ensures { Gives (λ r. r) result (optional route EdgeRoute.Forward (get (codes "route") (view value.now))) }
+    ensures { Gives (λ r. r) result (optional route EdgeRoute.Forward
+        (get (codes "route") (view value.now))) }
 {
     match value.get("route") {
         Some(found) => route(found),
@@ -36,7 +37,8 @@ fn route_of(value: &Value) -> Result<EdgeRoute, JobFault>
 }
 
 fn port_of(value: &Value) -> Result<u32, JobFault>
-    ensures { Gives (λ n. n) result (optional (number 0 4294967295) 0 (get (codes "port") (view value.now))) }
+    ensures { Gives (λ n. n) result (optional (number 0 4294967295) 0
+        (get (codes "port") (view value.now))) }
 {
     match value.get("port") {
         Some(found) => number(found, 0, u32::MAX),
@@ -92,7 +94,8 @@ fn checked(
 
 #[tactic(auto, unfolding(crate::specs::Reading::edge_at))]
 fn edge(vertices: &IndexMap<String, VertexSpec>, value: &Value) -> Result<EdgeSpec, JobFault>
-    ensures { Gives (λ e. e) result (edge_at (vertices_view vertices.now.entries) (view value.now)) }
+    ensures { Gives (λ e. e) result (edge_at (vertices_view vertices.now.entries)
+        (view value.now)) }
 {
     let from = text(member(value, "from")?)?;
     let to = text(member(value, "to")?)?;

@@ -67,7 +67,8 @@ impl JobSpec {
     /// The name of a vertex, and what it is.
     pub fn vertex(&self, number: usize) -> (&String, &VertexSpec)
         requires { number < length self.now.vertices }
-        ensures { slice_get self.now.vertices number ≡ Some (vertex_view (result.0.now, result.1.now)) }
+        ensures { slice_get self.now.vertices number
+            ≡ Some (vertex_view (result.0.now, result.1.now)) }
     {
         vertex_at(&self.vertices, number)
     }

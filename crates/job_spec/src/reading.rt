@@ -69,7 +69,8 @@ fn parts_at(
     alloc: Global,
     value: &Value,
 ) -> Result<(IndexMap<String, VertexSpec>, Vec<EdgeSpec>), JobFault>
-    ensures { Gives (λ j. record { vertices = vertices_view j.0.entries; edges = j.1.items }) result (job_at (view value.now)) }
+    ensures { Gives (λ j. record { vertices = vertices_view j.0.entries; edges = j.1.items }) result
+        (job_at (view value.now)) }
 {
     let (vertex_items, edge_items) = lists(value)?;
     let vertices = vertices(alloc, vertex_items)?;
@@ -82,8 +83,12 @@ pub(crate) fn job_at(
     alloc: Global,
     value: &Value,
 ) -> Result<(IndexMap<String, VertexSpec>, Vec<EdgeSpec>), JobFault>
-    ensures exact { Gives (λ j. record { vertices = vertices_view j.0.entries; edges = j.1.items }) result (job_at (view value.now)) }
-    ensures job { IfOk result (λ j. IsJob (record { vertices = vertices_view j.0.entries; edges = j.1.items })) }
+    ensures exact { Gives (λ j. record { vertices = vertices_view j.0.entries; edges = j.1.items })
+        result (job_at (view value.now)) }
+    ensures job { IfOk result (λ j. IsJob (record {
+      vertices = vertices_view j.0.entries;
+      edges = j.1.items;
+    })) }
 {
     parts_at(alloc, value)
 }

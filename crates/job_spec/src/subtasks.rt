@@ -26,7 +26,8 @@ fn push_operators(
     spec: &VertexSpec,
 ) -> Result<(), NoMemory>
     ensures { OnOk result (map operator_view operators.new.items
-        ≡ map operator_view operators.old.items ++ operators_in (vertex_view (name.now, spec.now))) }
+        ≡ map operator_view operators.old.items
+        ++ operators_in (vertex_view (name.now, spec.now))) }
 {
     match &spec.kind {
         Kind::Operator(operator) => push_copies(operators, operator, spec.parallelism),
@@ -37,7 +38,8 @@ fn push_operators(
 /// The name of a vertex, and what it is.
 pub(crate) fn vertex_at(vertices: &IndexMap<String, VertexSpec>, i: usize) -> (&String, &VertexSpec)
     requires { i < length vertices.now.entries }
-    ensures { slice_get (vertices_view vertices.now.entries) i ≡ Some (vertex_view (result.0.now, result.1.now)) }
+    ensures { slice_get (vertices_view vertices.now.entries) i
+        ≡ Some (vertex_view (result.0.now, result.1.now)) }
 {
     vertices.get_index(i).unwrap()
 }
@@ -46,7 +48,8 @@ pub(crate) fn operators_of(
     alloc: Global,
     vertices: &IndexMap<String, VertexSpec>,
 ) -> Result<Vec<RowOp>, NoMemory>
-    ensures { IfOk result (λ v. map operator_view v.items ≡ flat_map operators_in (vertices_view vertices.now.entries)) }
+    ensures { IfOk result (λ v. map operator_view v.items
+        ≡ flat_map operators_in (vertices_view vertices.now.entries)) }
 {
     let mut operators = Vec::new(alloc);
     for i in 0..vertices.len() {

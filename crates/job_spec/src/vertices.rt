@@ -124,7 +124,8 @@ pub(crate) fn vertices(
     alloc: Global,
     items: &[Value],
 ) -> Result<IndexMap<String, VertexSpec>, JobFault>
-    ensures { Gives (λ m. vertices_view m.entries) result (vertices_after [] (items_view items.now)) }
+    ensures { Gives (λ m. vertices_view m.entries) result
+        (vertices_after [] (items_view items.now)) }
 {
     let mut found = IndexMap::new(alloc);
     for item in items {

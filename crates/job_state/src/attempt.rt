@@ -61,7 +61,8 @@ impl<O: Operator> Attempt<O> {
     ghost use Rattle.job_state.specs.Sending.{items_at};
     ghost use Rattle.job_state.specs.Held.{copy_at, gate_at, came_at, logged_at, begun, oldest_forgotten, with_started, with_acknowledged, with_completed};
 
-    /// An attempt that begins: these tasks, these records in the channels, and no checkpoint pending. Records that are for no channel are dropped.
+    /// An attempt that begins: these tasks, these records in the channels, and no checkpoint
+    /// pending. Records that are for no channel are dropped.
     pub fn new(
         alloc: Global,
         graph: &Graph,
@@ -187,15 +188,18 @@ impl<O: Operator> Attempt<O> {
         self.coordinator.ready()
     }
 
-    /// A sink's oldest pre-committed transaction is committed, and forgotten here. It takes no memory.
+    /// A sink's oldest pre-committed transaction is committed, and forgotten here. It takes no
+    /// memory.
     pub fn forget_oldest(&mut self, task: u32)
         requires { task < length self.old.tasks }
-        ensures { (sink : Sinking) → slice_get self.old.tasks task ≡ Some (Holding.Sink sink) → self.new ≡ oldest_forgotten task sink self.old }
+        ensures { (sink : Sinking) → slice_get self.old.tasks task ≡ Some (Holding.Sink sink)
+            → self.new ≡ oldest_forgotten task sink self.old }
     {
         forget_oldest(&mut self.tasks[task as usize]);
     }
 
-    /// A checkpoint is pending from now on, for which no task has copied and no barrier has come. It takes no memory.
+    /// A checkpoint is pending from now on, for which no task has copied and no barrier has come.
+    /// It takes no memory.
     pub fn start(&mut self, checkpoint: u64)
         requires { self.old.coordination.pending ≡ None }
         ensures { self.new ≡ with_started checkpoint self.old }

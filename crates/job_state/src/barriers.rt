@@ -21,7 +21,8 @@ impl<O: Operator> Attempt<O> {
     ghost use Rattle.job_state.specs.Sending.{items_at};
     ghost use Rattle.job_state.specs.Held.{gate_at, barrier_taken, CopiesSource, CopiesOperator, sink_copied};
 
-    /// A task takes the barrier at the head of an input, which is this channel, and its gate notes it. It takes no memory.
+    /// A task takes the barrier at the head of an input, which is this channel, and its gate notes
+    /// it. It takes no memory.
     pub fn take_barrier(&mut self, task: u32, input: u32, channel: u32, checkpoint: u64)
         requires gates { task < length self.old.gates }
         requires within { input < length (gate_at self.old task).inputs }
@@ -54,7 +55,8 @@ impl<O: Operator> Attempt<O> {
         Ok(())
     }
 
-    /// An operator takes the barrier at the head of an input, which is this channel, copies its map, and sends the barrier.
+    /// An operator takes the barrier at the head of an input, which is this channel, copies its
+    /// map, and sends the barrier.
     pub fn copy_operator(
         &mut self,
         graph: &Graph,
@@ -63,7 +65,8 @@ impl<O: Operator> Attempt<O> {
         channel: u32,
         checkpoint: u64,
     ) -> Result<(), NoMemory>
-        requires holds { (entries : List (O.Key × O.State)) × (slice_get self.old.tasks task ≡ Some (Holding.Operator entries)) }
+        requires holds { (entries : List (O.Key × O.State))
+            × (slice_get self.old.tasks task ≡ Some (Holding.Operator entries)) }
         requires gates { task < length self.old.gates }
         requires within { input < length (gate_at self.old task).inputs }
         requires awaited { (gates.input_at (gate_at self.old task).inputs input).came ≡ false }
@@ -71,7 +74,8 @@ impl<O: Operator> Attempt<O> {
         requires came { channel < length self.old.came }
         requires copies { task < length self.old.copies }
         requires channels { length self.old.channels ≡ length graph.now.channels }
-        ensures ok { OnOk result (CopiesOperator graph.now task input channel checkpoint self.old self.new) }
+        ensures ok { OnOk result (CopiesOperator graph.now task input channel checkpoint
+            self.old self.new) }
         ensures err { OnErr result (self.new ≡ self.old) }
     {
         let states = copied_states(self.alloc, &self.tasks[task as usize])?;
@@ -89,7 +93,8 @@ impl<O: Operator> Attempt<O> {
         Ok(())
     }
 
-    /// A sink takes the barrier at the head of an input, which is this channel, and copies the numbers of its transactions. It takes no memory.
+    /// A sink takes the barrier at the head of an input, which is this channel, and copies the
+    /// numbers of its transactions. It takes no memory.
     pub fn copy_sink(
         &mut self,
         task: u32,

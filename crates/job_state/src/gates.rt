@@ -15,7 +15,8 @@ use std::alloc::Global;
 
 /// Of each input of a task, whether it is a back-edge.
 fn marks(alloc: Global, graph: &Graph, task: u32) -> Result<Vec<bool>, NoMemory>
-    ensures { IfOk result (λ marks. marks.items ≡ map (meets is_marked graph.now.channels) (inputs_of graph.now task)) }
+    ensures { IfOk result (λ marks. marks.items
+        ≡ map (meets is_marked graph.now.channels) (inputs_of graph.now task)) }
 {
     let mut marks = Vec::new(alloc);
     for number in graph.inputs(task) {
@@ -34,7 +35,8 @@ fn fresh_gate(alloc: Global, graph: &Graph, task: u32) -> Result<Gate, NoMemory>
 
 /// The gates of so many tasks, at rest.
 pub(crate) fn fresh_gates(alloc: Global, graph: &Graph, count: u32) -> Result<Vec<Gate>, NoMemory>
-    ensures { IfOk result (λ gates. gates.items ≡ map (fresh_gate graph.now) (range_with_len 0 count)) }
+    ensures { IfOk result (λ gates. gates.items
+        ≡ map (fresh_gate graph.now) (range_with_len 0 count)) }
 {
     let mut gates = Vec::new(alloc);
     for task in 0..count {
@@ -61,7 +63,8 @@ pub(crate) fn note_barrier(gates: &mut [Gate], task: u32, input: u32, checkpoint
     requires awaited { (input_at (gate_in gates.old task).inputs input).came ≡ false }
     requires number { IsFor (gate_in gates.old task).phase checkpoint }
     ensures { let gate = gate_in gates.old task in
-        gates.new ≡ slice_set gates.old task (after (effect_of gate input) checkpoint (with_barrier gate.inputs input)) }
+        gates.new ≡ slice_set gates.old task (after (effect_of gate input) checkpoint
+        (with_barrier gate.inputs input)) }
 {
     gates[task as usize].barrier(input, checkpoint);
 }

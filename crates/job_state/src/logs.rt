@@ -56,7 +56,8 @@ pub(crate) fn log_taken<R: Drop>(
     requires within { channel < length logs.old }
     requires room { is_logged ≡ true → 0 < (log_at logs.old channel).room }
     ensures came { came_of logs.new ≡ came_of logs.old }
-    ensures logged { (row : R) → taken ≡ Some (Record row) → records_of logs.new ≡ log_with is_logged channel row (records_of logs.old) }
+    ensures logged { (row : R) → taken ≡ Some (Record row)
+        → records_of logs.new ≡ log_with is_logged channel row (records_of logs.old) }
 {
     if let Some(Item::Record(row)) = taken {
         if is_logged {
@@ -69,7 +70,8 @@ pub(crate) fn log_taken<R: Drop>(
 pub(crate) fn log_copy<R: Codec>(logs: &mut Logs<R>, channel: u32, row: &R) -> Result<(), NoMemory>
     requires { channel < length logs.old }
     ensures came { came_of logs.new ≡ came_of logs.old }
-    ensures ok { OnOk result (records_of logs.new ≡ log_with true channel row.now (records_of logs.old)) }
+    ensures ok { OnOk result (records_of logs.new
+        ≡ log_with true channel row.now (records_of logs.old)) }
     ensures err { OnErr result (records_of logs.new ≡ records_of logs.old) }
 {
     let row = row.copied()?;
@@ -82,7 +84,8 @@ pub(crate) fn log_copy<R: Codec>(logs: &mut Logs<R>, channel: u32, row: &R) -> R
 pub(crate) fn drop_last<R: Drop>(logs: &mut Logs<R>, channel: u32)
     requires { channel < length logs.old }
     ensures came { came_of logs.new ≡ came_of logs.old }
-    ensures logged { records_of logs.new ≡ slice_set (records_of logs.old) channel (without_last (unwrap_or (slice_get (records_of logs.old) channel) [])) }
+    ensures logged { records_of logs.new ≡ slice_set (records_of logs.old) channel
+        (without_last (unwrap_or (slice_get (records_of logs.old) channel) [])) }
 {
     logs.drop_last(channel);
 }

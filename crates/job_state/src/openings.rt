@@ -32,13 +32,15 @@ fn fill<R: Drop>(channel: &mut Channel<R>, records: Items<R>) -> Result<(), NoMe
     Ok(())
 }
 
-/// So many channels, each with the records that stand first in it. Records that are for no channel are dropped.
+/// So many channels, each with the records that stand first in it. Records that are for no channel
+/// are dropped.
 pub(crate) fn opened_channels<R: Drop>(
     alloc: Global,
     count: u32,
     openings: Vec<(u32, Items<R>)>,
 ) -> Result<Vec<Channel<R>>, NoMemory>
-    ensures { IfOk result (λ channels. contents_items channels.items ≡ map (λ number. map Record (opened openings.items number)) (range_with_len 0 count)) }
+    ensures { IfOk result (λ channels. contents_items channels.items
+        ≡ map (λ number. map Record (opened openings.items number)) (range_with_len 0 count)) }
 {
     let mut channels = empty_channels(alloc, count)?;
     for (number, records) in openings {

@@ -42,7 +42,9 @@ fn keep_under<O: Operator>(
     key: Option<O::Key>,
     state: O::State,
 ) -> Result<(), NoMemory>
-    ensures ok { OnOk result ((other : O.Key) → value_at O.Key.cmp states.new other ≡ kept_under O.meaning.same_key key state (value_at O.Key.cmp states.old) other) }
+    ensures ok { OnOk result ((other : O.Key)
+        → value_at O.Key.cmp states.new other
+        ≡ kept_under O.meaning.same_key key state (value_at O.Key.cmp states.old) other) }
     ensures err { OnErr result (states.new ≡ states.old) }
 {
     if let Some(key) = key {
@@ -72,7 +74,8 @@ pub(crate) fn copied_states<K: Codec + Ord, S: Codec>(
     alloc: Global,
     holding: &Holding<K, S>,
 ) -> Result<Map<K, S>, NoMemory>
-    ensures { IfOk result (λ states. (entries : List (K × S)) → holding.now ≡ Holding.Operator entries → states ≡ entries) }
+    ensures { IfOk result (λ states. (entries : List (K × S))
+        → holding.now ≡ Holding.Operator entries → states ≡ entries) }
 {
     match holding {
         Holding::Operator(states) => states.copied(),
@@ -82,7 +85,8 @@ pub(crate) fn copied_states<K: Codec + Ord, S: Codec>(
 
 /// A sink's oldest pre-committed transaction is forgotten.
 pub(crate) fn forget_oldest<K: Ord, S>(holding: &mut Holding<K, S>)
-    ensures { (sink : Sinking) → holding.old ≡ Holding.Sink sink → holding.new ≡ Holding.Sink (record sink { pending = drop 1 sink.pending }) }
+    ensures { (sink : Sinking) → holding.old ≡ Holding.Sink sink
+        → holding.new ≡ Holding.Sink (record sink { pending = drop 1 sink.pending }) }
 {
     if let Holding::Sink(sink) = holding {
         sink.forget_oldest();

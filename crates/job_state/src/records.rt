@@ -40,8 +40,9 @@ impl<O: Operator> Attempt<O> {
         Ok(())
     }
 
-    /// An operator takes the record at the head of an input, which is this channel, keeps the state under the key, if there is one, and sends.
-    /// The record is logged where the task's gate logs the input.
+    /// An operator takes the record at the head of an input, which is this channel, keeps the state
+    /// under the key, if there is one, and sends. The record is logged where the task's gate logs
+    /// the input.
     pub fn operate(
         &mut self,
         graph: &Graph,
@@ -52,13 +53,17 @@ impl<O: Operator> Attempt<O> {
         state: O::State,
         sent: Vec<(u32, O::Record)>,
     ) -> Result<(), NoMemory>
-        requires holds { (entries : List (O.Key × O.State)) × (slice_get self.old.tasks task ≡ Some (Holding.Operator entries)) }
+        requires holds { (entries : List (O.Key × O.State))
+            × (slice_get self.old.tasks task ≡ Some (Holding.Operator entries)) }
         requires within { input < length (gate_at self.old task).inputs }
         requires logs { channel < length self.old.logs }
-        requires taken { (row : O.Record) × (slice_get (items_at self.old.channels channel) 0 ≡ Some (Item.Record row)) }
+        requires taken { (row : O.Record) × (slice_get (items_at self.old.channels channel) 0
+            ≡ Some (Item.Record row)) }
         requires channels { length self.old.channels ≡ length graph.now.channels }
-        ensures ok { OnOk result ((row : O.Record) → slice_get (items_at self.old.channels channel) 0 ≡ Some (Item.Record row)
-            → Operates O.meaning O.Key.cmp graph.now task input channel row key state sent.items self.old self.new) }
+        ensures ok { OnOk result ((row : O.Record)
+            → slice_get (items_at self.old.channels channel) 0 ≡ Some (Item.Record row)
+            → Operates O.meaning O.Key.cmp graph.now task input channel row key state sent.items
+            self.old self.new) }
         ensures err { OnErr result (self.new ≡ self.old) }
     {
         let logged = is_logged(&self.gates, task, input);
@@ -70,11 +75,13 @@ impl<O: Operator> Attempt<O> {
         Ok(())
     }
 
-    /// Logs a copy of the record at the head of an input, which is this channel, where the task's gate logs the input.
+    /// Logs a copy of the record at the head of an input, which is this channel, where the task's
+    /// gate logs the input.
     pub fn log_head(&mut self, task: u32, input: u32, channel: u32) -> Result<(), NoMemory>
         requires within { input < length (gate_at self.old task).inputs }
         requires logs { channel < length self.old.logs }
-        ensures ok { OnOk result ((row : O.Record) → slice_get (items_at self.old.channels channel) 0 ≡ Some (Item.Record row)
+        ensures ok { OnOk result ((row : O.Record)
+            → slice_get (items_at self.old.channels channel) 0 ≡ Some (Item.Record row)
             → self.new ≡ record_logged task input channel row self.old) }
         ensures err { OnErr result (self.new ≡ self.old) }
     {
@@ -90,7 +97,8 @@ impl<O: Operator> Attempt<O> {
     pub fn unlog(&mut self, task: u32, input: u32, channel: u32)
         requires within { input < length (gate_at self.old task).inputs }
         requires logs { channel < length self.old.logs }
-        ensures { (before : Held O.Record O.Key O.State) (row : O.Record) → self.old ≡ record_logged task input channel row before → self.new ≡ before }
+        ensures { (before : Held O.Record O.Key O.State) (row : O.Record)
+            → self.old ≡ record_logged task input channel row before → self.new ≡ before }
     {
         if is_logged(&self.gates, task, input) {
             drop_last(&mut self.logs, channel);

@@ -33,7 +33,8 @@ pub(crate) fn reserve_all<R: Drop>(
 pub(crate) fn push_all<R: Drop>(channels: &mut [Channel<R>], puts: Vec<(u32, Item<R>)>)
     requires there { AreChannels (length channels.old) puts.items }
     requires room { HasRoom channels.old puts.items }
-    ensures { (number : ℕ) → items_at (contents_items channels.new) number ≡ items_at (contents_items channels.old) number ++ put_into number puts.items }
+    ensures { (number : ℕ) → items_at (contents_items channels.new) number
+        ≡ items_at (contents_items channels.old) number ++ put_into number puts.items }
 {
     for (number, item) in puts {
         channels[number as usize].push_reserved(item);
@@ -49,7 +50,8 @@ pub(crate) fn reserve_deliveries<O: Operator>(
     sent: Vec<(u32, O::Record)>,
 ) -> Result<Vec<(u32, Item<O::Record>)>, NoMemory>
     requires { length channels.old ≡ length graph.now.channels }
-    ensures puts { IfOk result (λ puts. puts.items ≡ deliveries_of O.meaning graph.now task sent.items) }
+    ensures puts { IfOk result (λ puts. puts.items
+        ≡ deliveries_of O.meaning graph.now task sent.items) }
     ensures there { IfOk result (λ puts. AreChannels (length channels.old) puts.items) }
     ensures room { IfOk result (λ puts. HasRoom channels.new puts.items) }
     ensures same { contents_items channels.new ≡ contents_items channels.old }
@@ -88,7 +90,8 @@ pub(crate) fn first<R: Drop>(channels: &[Channel<R>], channel: u32) -> Option<&I
 /// Takes the first item of a channel, if there is one. Its room is left.
 pub(crate) fn take_head<R: Drop>(channels: &mut [Channel<R>], channel: u32) -> Option<Item<R>>
     ensures taken { result ≡ slice_get (items_at (contents_items channels.old) channel) 0 }
-    ensures rest { contents_items channels.new ≡ without_head channel (contents_items channels.old) }
+    ensures rest { contents_items channels.new
+        ≡ without_head channel (contents_items channels.old) }
     ensures room { (number : ℕ) → room_at channels.old number ≤ room_at channels.new number }
 {
     let place = channel as usize;
@@ -99,7 +102,8 @@ pub(crate) fn take_head<R: Drop>(channels: &mut [Channel<R>], channel: u32) -> O
     }
 }
 
-/// Takes the first item of a channel, and puts each of these last in its channel. It takes no memory.
+/// Takes the first item of a channel, and puts each of these last in its channel. It takes no
+/// memory.
 pub(crate) fn pass_on<R: Drop>(
     channels: &mut [Channel<R>],
     channel: u32,
@@ -108,7 +112,8 @@ pub(crate) fn pass_on<R: Drop>(
     requires there { AreChannels (length channels.old) puts.items }
     requires room { HasRoom channels.old puts.items }
     ensures taken { result ≡ slice_get (items_at (contents_items channels.old) channel) 0 }
-    ensures puts { Puts (λ number. put_into number puts.items) (without_head channel (contents_items channels.old)) (contents_items channels.new) }
+    ensures puts { Puts (λ number. put_into number puts.items)
+        (without_head channel (contents_items channels.old)) (contents_items channels.new) }
 {
     let taken = take_head(channels, channel);
     push_all(channels, puts);
@@ -124,7 +129,9 @@ pub(crate) fn send_records<O: Operator>(
     sent: Vec<(u32, O::Record)>,
 ) -> Result<(), NoMemory>
     requires { length channels.old ≡ length graph.now.channels }
-    ensures ok { OnOk result (Puts (λ number. map Record (received O.meaning task sent.items (slice_get graph.now.channels number))) (contents_items channels.old) (contents_items channels.new)) }
+    ensures ok { OnOk result (Puts (λ number. map Record
+        (received O.meaning task sent.items (slice_get graph.now.channels number)))
+        (contents_items channels.old) (contents_items channels.new)) }
     ensures err { OnErr result (contents_items channels.new ≡ contents_items channels.old) }
 {
     let puts = reserve_deliveries::<O>(alloc, channels, graph, task, sent)?;
@@ -141,7 +148,9 @@ pub(crate) fn send_barriers<R: Drop>(
     checkpoint: u64,
 ) -> Result<(), NoMemory>
     requires { length channels.old ≡ length graph.now.channels }
-    ensures ok { OnOk result (Puts (λ number. barrier_into checkpoint task (slice_get graph.now.channels number)) (contents_items channels.old) (contents_items channels.new)) }
+    ensures ok { OnOk result (Puts (λ number. barrier_into checkpoint task
+        (slice_get graph.now.channels number)) (contents_items channels.old)
+        (contents_items channels.new)) }
     ensures err { OnErr result (contents_items channels.new ≡ contents_items channels.old) }
 {
     let puts = reserve_barriers(alloc, channels, graph, task, checkpoint)?;
@@ -159,7 +168,9 @@ pub(crate) fn forward_barriers<R: Drop>(
     checkpoint: u64,
 ) -> Result<(), NoMemory>
     requires { length channels.old ≡ length graph.now.channels }
-    ensures ok { OnOk result (Puts (λ number. barrier_into checkpoint task (slice_get graph.now.channels number)) (without_head channel (contents_items channels.old)) (contents_items channels.new)) }
+    ensures ok { OnOk result (Puts (λ number. barrier_into checkpoint task
+        (slice_get graph.now.channels number)) (without_head channel (contents_items channels.old))
+        (contents_items channels.new)) }
     ensures err { OnErr result (contents_items channels.new ≡ contents_items channels.old) }
 {
     let puts = reserve_barriers(alloc, channels, graph, task, checkpoint)?;

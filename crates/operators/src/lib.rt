@@ -1,10 +1,12 @@
 //! Operators: what each makes of a record in the state of the record's key. Proved: the trait's
 //! laws for the nine row operators; `apply` is the operator's meaning.
 //!
-//! An [`Operator`] is a value with a ghost `meaning`: a function of that value, a state and a record, which gives the next state and the records to send, each with its
-//! port. Every method is specified by the meaning, and the trait's laws say what a caller relies on: records that fit, and states that fit and have the operator's
-//! form, lead to such again, on the operator's own ports; records with one key have one lane; what compares equal is the same value. So a record that is worked off
-//! again after a failure, in the state of then, gives the same again.
+//! An [`Operator`] is a value with a ghost `meaning`: a function of that value, a state and a
+//! record, which gives the next state and the records to send, each with its port. Every method is
+//! specified by the meaning, and the trait's laws say what a caller relies on: records that fit,
+//! and states that fit and have the operator's form, lead to such again, on the operator's own
+//! ports; records with one key have one lane; what compares equal is the same value. So a record
+//! that is worked off again after a failure, in the state of then, gives the same again.
 //!
 //! There are nine operators on rows ([`RowOp`]).
 #![tactic(auto)]

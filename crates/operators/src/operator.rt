@@ -10,7 +10,8 @@ ghost use Rattle.operators.specs.Operator.{OrderIsExact, KeysFit, KeysHaveLanes,
 use abs_codec::{Codec, NoMemory};
 use std::alloc::Global;
 
-/// What an operator makes of a record: its key's new state, and the records that it sends, each with its port.
+/// What an operator makes of a record: its key's new state, and the records that it sends, each
+/// with its port.
 #[derive(Debug, Drop)]
 pub struct Outcome<S, R> {
     pub state: S,
@@ -19,7 +20,8 @@ pub struct Outcome<S, R> {
 
 /// An operator: a function of its value, of the state of a record's key, and of the record.
 ///
-/// It looks at nothing else, so that what is worked off again after a failure gives the same again. Each call refuses only where memory was refused.
+/// It looks at nothing else, so that what is worked off again after a failure gives the same again.
+/// Each call refuses only where memory was refused.
 pub trait Operator: Eq + Drop {
     type Record: Codec + Eq;
 
@@ -60,10 +62,13 @@ pub trait Operator: Eq + Drop {
         state: &Self::State,
         item: &Self::Record,
     ) -> Result<Outcome<Self::State, Self::Record>, NoMemory>
-        requires state { IsGoodState (Fits Self.State.HasSpelling Self.State.spelling) Suits self.now state.now }
+        requires state { IsGoodState (Fits Self.State.HasSpelling Self.State.spelling) Suits
+            self.now state.now }
         requires fits { Fits Self.Record.HasSpelling Self.Record.spelling item.now }
-        ensures state { IfOk result (λ outcome. outcome.state ≡ (meaning.apply self.now state.now item.now).state) }
-        ensures sent { IfOk result (λ outcome. outcome.sent.items ≡ (meaning.apply self.now state.now item.now).sent) };
+        ensures state { IfOk result (λ outcome. outcome.state
+            ≡ (meaning.apply self.now state.now item.now).state) }
+        ensures sent { IfOk result (λ outcome. outcome.sent.items
+            ≡ (meaning.apply self.now state.now item.now).sent) };
 
     /// The same operator.
     fn copy(&self) -> Result<Self, NoMemory>
@@ -85,19 +90,24 @@ pub trait Operator: Eq + Drop {
     ghost operator_is_exact: { EqualIsSame Self.eq };
 
     /// The key of a record that fits, fits.
-    ghost key_fits: { KeysFit meaning (Fits Self.Record.HasSpelling Self.Record.spelling) (Fits Self.Key.HasSpelling Self.Key.spelling) };
+    ghost key_fits: { KeysFit meaning (Fits Self.Record.HasSpelling Self.Record.spelling)
+        (Fits Self.Key.HasSpelling Self.Key.spelling) };
 
     /// Records with one key have one lane.
     ghost key_has_lane: { KeysHaveLanes meaning };
 
     /// The fresh state fits and has the operator's form.
-    ghost fresh_is_good: { FreshIsGood meaning (Fits Self.State.HasSpelling Self.State.spelling) Suits };
+    ghost fresh_is_good: { FreshIsGood meaning
+        (Fits Self.State.HasSpelling Self.State.spelling) Suits };
 
     /// A state and a record that fit give a state that fits, of the operator's form.
-    ghost state_stays_good: { StatesStayGood meaning (Fits Self.Record.HasSpelling Self.Record.spelling) (Fits Self.State.HasSpelling Self.State.spelling) Suits };
+    ghost state_stays_good: { StatesStayGood meaning
+        (Fits Self.Record.HasSpelling Self.Record.spelling)
+        (Fits Self.State.HasSpelling Self.State.spelling) Suits };
 
     /// They send records that fit, on the operator's ports.
-    ghost sent_fits: { SentFits meaning (Fits Self.Record.HasSpelling Self.Record.spelling) (Fits Self.State.HasSpelling Self.State.spelling) Suits };
+    ghost sent_fits: { SentFits meaning (Fits Self.Record.HasSpelling Self.Record.spelling)
+        (Fits Self.State.HasSpelling Self.State.spelling) Suits };
 
     /// A record without a key leaves the fresh state as it is.
     ghost keyless_keeps_fresh: { KeylessKeepsFresh meaning };

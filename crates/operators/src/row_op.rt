@@ -10,7 +10,8 @@ use crate::row_state::RowState;
 use abs_codec::{Codec, Items, NoMemory, Text};
 use std::alloc::Global;
 
-/// An operator on rows, with its parameter. Sums and differences stop at the least and the greatest `i64`.
+/// An operator on rows, with its parameter. Sums and differences stop at the least and the greatest
+/// `i64`.
 #[derive(Debug, PartialEq, Eq, Drop)]
 pub enum RowOp {
     /// Adds a number to each value.
@@ -42,7 +43,8 @@ fn send(
     v: i64,
 ) -> Result<Outcome<RowState, Row>, NoMemory>
     ensures state { IfOk result (λ outcome. outcome.state ≡ state) }
-    ensures sent { IfOk result (λ outcome. outcome.sent.items ≡ (port, record { k = key.now; v = v }) ∷ []) }
+    ensures sent { IfOk result (λ outcome. outcome.sent.items
+        ≡ (port, record { k = key.now; v = v }) ∷ []) }
 {
     let mut sent = Vec::new(alloc);
     let k = key.copied()?;
@@ -87,8 +89,10 @@ fn collect(
     row: &Row,
     values: Vec<i64>,
 ) -> Result<Outcome<RowState, Row>, NoMemory>
-    ensures state { IfOk result (λ outcome. outcome.state ≡ (collect size row.now values.items).state) }
-    ensures sent { IfOk result (λ outcome. outcome.sent.items ≡ (collect size row.now values.items).sent) }
+    ensures state { IfOk result (λ outcome. outcome.state
+        ≡ (collect size row.now values.items).state) }
+    ensures sent { IfOk result (λ outcome. outcome.sent.items
+        ≡ (collect size row.now values.items).sent) }
 {
     if values.len() < size as usize {
         return Ok(keep(alloc, RowState::Numbers(Items::from_vec(values))));

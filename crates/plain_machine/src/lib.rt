@@ -2,10 +2,11 @@
 //! Proved: each call is the plain machine's step, or says that it is not possible, and a run goes
 //! where its moves lead.
 //!
-//! It runs a job record by record, without barriers, checkpoints or failures, and with all channels copied at each step. Its contract is the
-//! machine of `dataflow_model`: `PlainMachine::step` makes exactly the step that a move asks for, or answers that the move is not possible, and
-//! `PlainMachine::run` goes where the moves lead. So it says what the sinks of a job are to put out. Jobs worked out by hand run on it
-//! (`worked_flows`), and nothing that runs imports it.
+//! It runs a job record by record, without barriers, checkpoints or failures, and with all channels
+//! copied at each step. Its contract is the machine of `dataflow_model`: `PlainMachine::step` makes
+//! exactly the step that a move asks for, or answers that the move is not possible, and
+//! `PlainMachine::run` goes where the moves lead. So it says what the sinks of a job are to put
+//! out. Jobs worked out by hand run on it (`worked_flows`), and nothing that runs imports it.
 #![tactic(auto)]
 
 mod fault;

@@ -72,7 +72,8 @@ fn put_admitted<O: Operator>(
     sent: &[(u32, O::Record)],
     queue: &mut Vec<O::Record>,
 ) -> Result<(), PlainFault>
-    ensures ok { IfOk result (λ _. queue.new.items ≡ queue.old.items ++ admitted O.meaning (channel_of channel.now) sent.now) }
+    ensures ok { IfOk result (λ _. queue.new.items
+        ≡ queue.old.items ++ admitted O.meaning (channel_of channel.now) sent.now) }
     ensures memory { IfErr result (λ f. f ≡ PlainFault.Memory) }
 {
     for (port, record) in sent {
@@ -90,9 +91,13 @@ fn apply_to<O: Operator>(
     state: &O::State,
     taken: &O::Record,
 ) -> Result<Outcome<O::State, O::Record>, PlainFault>
-    ensures state { IfOk result (λ outcome. outcome.state ≡ (O.meaning.apply operator.now state.now taken.now).state) }
-    ensures sent { IfOk result (λ outcome. outcome.sent.items ≡ (O.meaning.apply operator.now state.now taken.now).sent) }
-    ensures unfit { IfErr result (λ f. f ≡ PlainFault.Unfit → ¬ (Fits O.Record.HasSpelling O.Record.spelling taken.now × IsGoodState (Fits O.State.HasSpelling O.State.spelling) O.Suits operator.now state.now)) }
+    ensures state { IfOk result (λ outcome. outcome.state
+        ≡ (O.meaning.apply operator.now state.now taken.now).state) }
+    ensures sent { IfOk result (λ outcome. outcome.sent.items
+        ≡ (O.meaning.apply operator.now state.now taken.now).sent) }
+    ensures unfit { IfErr result (λ f. f ≡ PlainFault.Unfit
+        → ¬ (Fits O.Record.HasSpelling O.Record.spelling taken.now
+        × IsGoodState (Fits O.State.HasSpelling O.State.spelling) O.Suits operator.now state.now)) }
 {
     if taken.fits() && state.fits() && operator.suits(state) {
         Ok(operator.apply(alloc, state, taken)?)
@@ -109,9 +114,16 @@ fn apply_under<O: Operator>(
     states: &BTreeMap<O::Key, O::State>,
     taken: &O::Record,
 ) -> Result<Outcome<O::State, O::Record>, PlainFault>
-    ensures state { IfOk result (λ outcome. outcome.state ≡ (O.meaning.apply operator.now (state_under key.now (O.meaning.fresh operator.now) (tree.get O.Key.cmp states.now)) taken.now).state) }
-    ensures sent { IfOk result (λ outcome. outcome.sent.items ≡ (O.meaning.apply operator.now (state_under key.now (O.meaning.fresh operator.now) (tree.get O.Key.cmp states.now)) taken.now).sent) }
-    ensures unfit { IfErr result (λ f. f ≡ PlainFault.Unfit → ¬ (Fits O.Record.HasSpelling O.Record.spelling taken.now × IsGoodState (Fits O.State.HasSpelling O.State.spelling) O.Suits operator.now (state_under key.now (O.meaning.fresh operator.now) (tree.get O.Key.cmp states.now)))) }
+    ensures state { IfOk result (λ outcome. outcome.state
+        ≡ (O.meaning.apply operator.now (state_under key.now (O.meaning.fresh operator.now)
+        (tree.get O.Key.cmp states.now)) taken.now).state) }
+    ensures sent { IfOk result (λ outcome. outcome.sent.items
+        ≡ (O.meaning.apply operator.now (state_under key.now (O.meaning.fresh operator.now)
+        (tree.get O.Key.cmp states.now)) taken.now).sent) }
+    ensures unfit { IfErr result (λ f. f ≡ PlainFault.Unfit
+        → ¬ (Fits O.Record.HasSpelling O.Record.spelling taken.now
+        × IsGoodState (Fits O.State.HasSpelling O.State.spelling) O.Suits operator.now
+        (state_under key.now (O.meaning.fresh operator.now) (tree.get O.Key.cmp states.now)))) }
 {
     if let Some(key) = key {
         if let Some(state) = states.get(key) {
@@ -128,8 +140,11 @@ fn keep_under<O: Operator>(
     key: Option<O::Key>,
     state: O::State,
 ) -> Result<(), AllocError>
-    ensures ok { IfOk result (λ _. (other : O.Key) → tree.get O.Key.cmp states.new other ≡ kept_under O.meaning.same_key key state (tree.get O.Key.cmp states.old) other) }
-    ensures err { OnErr result ((other : O.Key) → tree.get O.Key.cmp states.new other ≡ tree.get O.Key.cmp states.old other) }
+    ensures ok { IfOk result (λ _. (other : O.Key)
+        → tree.get O.Key.cmp states.new other
+        ≡ kept_under O.meaning.same_key key state (tree.get O.Key.cmp states.old) other) }
+    ensures err { OnErr result ((other : O.Key)
+        → tree.get O.Key.cmp states.new other ≡ tree.get O.Key.cmp states.old other) }
 {
     if let Some(key) = key {
         states.insert(key, state)?;
@@ -141,7 +156,8 @@ impl<O: Operator> PlainMachine<O, O::Record, O::Key, O::State> {
     /// The machine at the start of its job.
     pub fn new(alloc: Global, job: Job<O, O::Record>) -> Result<Self, AllocError>
         ensures job { IfOk result (λ machine. machine.job ≡ job) }
-        ensures starts { IfOk result (λ machine. configuration_of O.Key.cmp machine.configuration ≡ start) }
+        ensures starts { IfOk result (λ machine. configuration_of O.Key.cmp
+            machine.configuration ≡ start) }
     {
         let mut tasks = Vec::new(alloc);
         for task in 0..job.tasks.len() {
@@ -161,7 +177,8 @@ impl<O: Operator> PlainMachine<O, O::Record, O::Key, O::State> {
 
     /// What the task has put out, which is nothing unless it is a sink.
     pub fn output(&self, task: usize) -> &[O::Record]
-        ensures { result.now ≡ ((configuration_of O.Key.cmp self.now.configuration).tasks task).output }
+        ensures { result.now ≡ ((configuration_of O.Key.cmp self.now.configuration).tasks
+            task).output }
     {
         match self.configuration.tasks.get(task) {
             Some(held) => &held.output,
@@ -181,7 +198,8 @@ impl<O: Operator> PlainMachine<O, O::Record, O::Key, O::State> {
 
     /// A source's next record.
     fn next_record(&self, task: usize) -> Option<&O::Record>
-        ensures { option_copied result ≡ offered (job_of O.meaning self.now.job) (Read task) (configuration_of O.Key.cmp self.now.configuration) }
+        ensures { option_copied result ≡ offered (job_of O.meaning self.now.job) (Read task)
+            (configuration_of O.Key.cmp self.now.configuration) }
     {
         match self.job.tasks.get(task) {
             Some(Task::Source(partition)) => {
@@ -194,7 +212,8 @@ impl<O: Operator> PlainMachine<O, O::Record, O::Key, O::State> {
 
     /// The first record of an input, if it is one of the task.
     fn first_record(&self, task: usize, input: usize) -> Option<&O::Record>
-        ensures { option_copied result ≡ offered (job_of O.meaning self.now.job) (Work task input) (configuration_of O.Key.cmp self.now.configuration) }
+        ensures { option_copied result ≡ offered (job_of O.meaning self.now.job) (Work task input)
+            (configuration_of O.Key.cmp self.now.configuration) }
     {
         let kind = self.job.tasks.get(task)?;
         let channel = self.job.channels.get(input)?;
@@ -208,7 +227,8 @@ impl<O: Operator> PlainMachine<O, O::Record, O::Key, O::State> {
     /// What the move leaves in a channel.
     fn rest(&self, step: &Move, channel: usize) -> &[O::Record]
         requires { channel < length self.now.configuration.channels.items }
-        ensures { result.now ≡ left (move_of step.now) channel (records_of (slice_get self.now.configuration.channels.items channel)) }
+        ensures { result.now ≡ left (move_of step.now) channel
+            (records_of (slice_get self.now.configuration.channels.items channel)) }
     {
         let queue = &self.configuration.channels[channel];
         match step {
@@ -226,7 +246,8 @@ impl<O: Operator> PlainMachine<O, O::Record, O::Key, O::State> {
         sent: &[(u32, O::Record)],
     ) -> Result<Vec<O::Record>, PlainFault>
         requires { number < length self.now.job.channels.items }
-        ensures ok { IfOk result (λ queue. IsQueueAfter O.meaning self.now.job self.now.configuration (move_of step.now) sent.now number queue.items) }
+        ensures ok { IfOk result (λ queue. IsQueueAfter O.meaning self.now.job
+            self.now.configuration (move_of step.now) sent.now number queue.items) }
         ensures memory { IfErr result (λ f. f ≡ PlainFault.Memory) }
     {
         let mut queue = copy_all(alloc, self.rest(step, number))?;
@@ -244,8 +265,11 @@ impl<O: Operator> PlainMachine<O, O::Record, O::Key, O::State> {
         step: &Move,
         sent: &[(u32, O::Record)],
     ) -> Result<Vec<Vec<O::Record>>, PlainFault>
-        ensures len { IfOk result (λ queues. length queues.items ≡ length self.now.job.channels.items) }
-        ensures each { IfOk result (λ queues. (channel : ℕ) → IsQueueAfter O.meaning self.now.job self.now.configuration (move_of step.now) sent.now channel (records_of (slice_get queues.items channel))) }
+        ensures len { IfOk result (λ queues. length queues.items
+            ≡ length self.now.job.channels.items) }
+        ensures each { IfOk result (λ queues. (channel : ℕ)
+            → IsQueueAfter O.meaning self.now.job self.now.configuration (move_of step.now) sent.now
+            channel (records_of (slice_get queues.items channel))) }
         ensures memory { IfErr result (λ f. f ≡ PlainFault.Memory) }
     {
         let mut queues = Vec::new(alloc);
@@ -257,8 +281,12 @@ impl<O: Operator> PlainMachine<O, O::Record, O::Key, O::State> {
 
     /// A source reads.
     fn read(&mut self, alloc: Global, task: usize) -> Result<bool, PlainFault>
-        ensures made { IfOk result (λ made. made ≡ true → MakesStep O.meaning O.Key.cmp self.old.job (Read task) self.old.configuration self.new.configuration) }
-        ensures not_made { IfOk result (λ made. made ≡ false → IsImpossible O.meaning O.Key.cmp self.old.job (Read task) self.old.configuration × (self.new ≡ self.old)) }
+        ensures made { IfOk result (λ made. made ≡ true
+            → MakesStep O.meaning O.Key.cmp self.old.job (Read task) self.old.configuration
+            self.new.configuration) }
+        ensures not_made { IfOk result (λ made. made ≡ false
+            → IsImpossible O.meaning O.Key.cmp self.old.job (Read task) self.old.configuration
+            × (self.new ≡ self.old)) }
         ensures job { self.new.job ≡ self.old.job }
         ensures err { OnErr result (self.new ≡ self.old) }
         ensures memory { IfErr result (λ f. f ≡ PlainFault.Memory) }
@@ -283,10 +311,13 @@ impl<O: Operator> PlainMachine<O, O::Record, O::Key, O::State> {
         taken: O::Record,
     ) -> Result<(), PlainFault>
         requires sink { slice_get (job_of O.meaning self.old.job).graph.tasks task ≡ Some SinkTask }
-        requires first { offered (job_of O.meaning self.old.job) (Work task input) (configuration_of O.Key.cmp self.old.configuration) ≡ Some taken }
-        ensures made { OnOk result (MakesStep O.meaning O.Key.cmp self.old.job (Work task input) self.old.configuration self.new.configuration) }
+        requires first { offered (job_of O.meaning self.old.job) (Work task input)
+            (configuration_of O.Key.cmp self.old.configuration) ≡ Some taken }
+        ensures made { OnOk result (MakesStep O.meaning O.Key.cmp self.old.job (Work task input)
+            self.old.configuration self.new.configuration) }
         ensures job { self.new.job ≡ self.old.job }
-        ensures err { OnErr result (StaysAt O.Key.cmp self.old.configuration self.new.configuration) }
+        ensures err { OnErr result (StaysAt O.Key.cmp self.old.configuration
+            self.new.configuration) }
         ensures memory { IfErr result (λ f. f ≡ PlainFault.Memory) }
     {
         let sent = Vec::new(alloc);
@@ -305,12 +336,19 @@ impl<O: Operator> PlainMachine<O, O::Record, O::Key, O::State> {
         input: usize,
         taken: O::Record,
     ) -> Result<(), PlainFault>
-        requires operator { IsOperator (slice_get (job_of O.meaning self.old.job).graph.tasks task) }
-        requires first { offered (job_of O.meaning self.old.job) (Work task input) (configuration_of O.Key.cmp self.old.configuration) ≡ Some taken }
-        ensures made { OnOk result (MakesStep O.meaning O.Key.cmp self.old.job (Work task input) self.old.configuration self.new.configuration) }
+        requires operator { IsOperator (slice_get
+            (job_of O.meaning self.old.job).graph.tasks task) }
+        requires first { offered (job_of O.meaning self.old.job) (Work task input)
+            (configuration_of O.Key.cmp self.old.configuration) ≡ Some taken }
+        ensures made { OnOk result (MakesStep O.meaning O.Key.cmp self.old.job (Work task input)
+            self.old.configuration self.new.configuration) }
         ensures job { self.new.job ≡ self.old.job }
-        ensures err { OnErr result (StaysAt O.Key.cmp self.old.configuration self.new.configuration) }
-        ensures unfit { IfErr result (λ f. f ≡ PlainFault.Unfit → HandsUnfit O.meaning O.Key.cmp (Fits O.Record.HasSpelling O.Record.spelling) (IsGoodState (Fits O.State.HasSpelling O.State.spelling) O.Suits) self.old.job (Work task input) self.old.configuration) }
+        ensures err { OnErr result (StaysAt O.Key.cmp self.old.configuration
+            self.new.configuration) }
+        ensures unfit { IfErr result (λ f. f ≡ PlainFault.Unfit
+            → HandsUnfit O.meaning O.Key.cmp (Fits O.Record.HasSpelling O.Record.spelling)
+            (IsGoodState (Fits O.State.HasSpelling O.State.spelling) O.Suits) self.old.job
+            (Work task input) self.old.configuration) }
     {
         let Task::Operator(operator) = &self.job.tasks[task] else {
             return Ok(());
@@ -327,11 +365,19 @@ impl<O: Operator> PlainMachine<O, O::Record, O::Key, O::State> {
 
     /// A task works off the first record of an input.
     fn work(&mut self, alloc: Global, task: usize, input: usize) -> Result<bool, PlainFault>
-        ensures made { IfOk result (λ made. made ≡ true → MakesStep O.meaning O.Key.cmp self.old.job (Work task input) self.old.configuration self.new.configuration) }
-        ensures not_made { IfOk result (λ made. made ≡ false → IsImpossible O.meaning O.Key.cmp self.old.job (Work task input) self.old.configuration × (self.new ≡ self.old)) }
+        ensures made { IfOk result (λ made. made ≡ true
+            → MakesStep O.meaning O.Key.cmp self.old.job (Work task input) self.old.configuration
+            self.new.configuration) }
+        ensures not_made { IfOk result (λ made. made ≡ false
+            → IsImpossible O.meaning O.Key.cmp self.old.job (Work task input) self.old.configuration
+            × (self.new ≡ self.old)) }
         ensures job { self.new.job ≡ self.old.job }
-        ensures err { OnErr result (StaysAt O.Key.cmp self.old.configuration self.new.configuration) }
-        ensures unfit { IfErr result (λ f. f ≡ PlainFault.Unfit → HandsUnfit O.meaning O.Key.cmp (Fits O.Record.HasSpelling O.Record.spelling) (IsGoodState (Fits O.State.HasSpelling O.State.spelling) O.Suits) self.old.job (Work task input) self.old.configuration) }
+        ensures err { OnErr result (StaysAt O.Key.cmp self.old.configuration
+            self.new.configuration) }
+        ensures unfit { IfErr result (λ f. f ≡ PlainFault.Unfit
+            → HandsUnfit O.meaning O.Key.cmp (Fits O.Record.HasSpelling O.Record.spelling)
+            (IsGoodState (Fits O.State.HasSpelling O.State.spelling) O.Suits) self.old.job
+            (Work task input) self.old.configuration) }
     {
         let Some(first) = self.first_record(task, input) else {
             return Ok(false);
@@ -345,13 +391,22 @@ impl<O: Operator> PlainMachine<O, O::Record, O::Key, O::State> {
         Ok(true)
     }
 
-    /// Makes the move, or answers that it is not possible. An `Err` leaves the machine where it was.
+    /// Makes the move, or answers that it is not possible. An `Err` leaves the machine where it
+    /// was.
     pub fn step(&mut self, alloc: Global, step: &Move) -> Result<bool, PlainFault>
-        ensures made { IfOk result (λ made. made ≡ true → MakesStep O.meaning O.Key.cmp self.old.job (move_of step.now) self.old.configuration self.new.configuration) }
-        ensures not_made { IfOk result (λ made. made ≡ false → IsImpossible O.meaning O.Key.cmp self.old.job (move_of step.now) self.old.configuration × (self.new ≡ self.old)) }
+        ensures made { IfOk result (λ made. made ≡ true
+            → MakesStep O.meaning O.Key.cmp self.old.job (move_of step.now) self.old.configuration
+            self.new.configuration) }
+        ensures not_made { IfOk result (λ made. made ≡ false
+            → IsImpossible O.meaning O.Key.cmp self.old.job (move_of step.now)
+            self.old.configuration × (self.new ≡ self.old)) }
         ensures job { self.new.job ≡ self.old.job }
-        ensures err { OnErr result (StaysAt O.Key.cmp self.old.configuration self.new.configuration) }
-        ensures unfit { IfErr result (λ f. f ≡ PlainFault.Unfit → HandsUnfit O.meaning O.Key.cmp (Fits O.Record.HasSpelling O.Record.spelling) (IsGoodState (Fits O.State.HasSpelling O.State.spelling) O.Suits) self.old.job (move_of step.now) self.old.configuration) }
+        ensures err { OnErr result (StaysAt O.Key.cmp self.old.configuration
+            self.new.configuration) }
+        ensures unfit { IfErr result (λ f. f ≡ PlainFault.Unfit
+            → HandsUnfit O.meaning O.Key.cmp (Fits O.Record.HasSpelling O.Record.spelling)
+            (IsGoodState (Fits O.State.HasSpelling O.State.spelling) O.Suits) self.old.job
+            (move_of step.now) self.old.configuration) }
     {
         match step {
             Move::Read(task) => self.read(alloc, *task),
@@ -359,12 +414,21 @@ impl<O: Operator> PlainMachine<O, O::Record, O::Key, O::State> {
         }
     }
 
-    /// Makes the moves, up to the first that is not possible, and answers how many it made. An `Err` leaves the machine after those before the move that was
-    /// given up.
+    /// Makes the moves, up to the first that is not possible, and answers how many it made. An
+    /// `Err` leaves the machine after those before the move that was given up.
     pub fn run(&mut self, alloc: Global, moves: &[Move]) -> Result<usize, PlainFault>
-        ensures made { IfOk result (λ made. GoesAlong O.meaning O.Key.cmp self.old.job (take made moves.now) self.old.configuration self.new.configuration) }
-        ensures stopped { IfOk result (λ made. (next : code.Move) → slice_get moves.now made ≡ Some next → IsImpossible O.meaning O.Key.cmp self.old.job (move_of next) self.new.configuration) }
-        ensures err { IfErr result (λ f. (made : ℕ) × GoesAlong O.meaning O.Key.cmp self.old.job (take made moves.now) self.old.configuration self.new.configuration × (f ≡ PlainFault.Unfit → StopsAtUnfit O.meaning O.Key.cmp (Fits O.Record.HasSpelling O.Record.spelling) (IsGoodState (Fits O.State.HasSpelling O.State.spelling) O.Suits) self.old.job moves.now made self.new.configuration)) }
+        ensures made { IfOk result (λ made. GoesAlong O.meaning O.Key.cmp self.old.job
+            (take made moves.now) self.old.configuration self.new.configuration) }
+        ensures stopped { IfOk result (λ made. (next : code.Move)
+            → slice_get moves.now made ≡ Some next
+            → IsImpossible O.meaning O.Key.cmp self.old.job (move_of next) self.new.configuration) }
+        ensures err { IfErr result (λ f. (made : ℕ)
+            × GoesAlong O.meaning O.Key.cmp self.old.job (take made moves.now)
+            self.old.configuration self.new.configuration
+            × (f ≡ PlainFault.Unfit → StopsAtUnfit O.meaning O.Key.cmp
+            (Fits O.Record.HasSpelling O.Record.spelling)
+            (IsGoodState (Fits O.State.HasSpelling O.State.spelling) O.Suits) self.old.job moves.now
+            made self.new.configuration)) }
         ensures job { self.new.job ≡ self.old.job }
     {
         for (made, step) in moves.iter().enumerate() {

@@ -4,8 +4,9 @@
 //! committed, the oldest first, every other that is neither committed nor aborted is aborted, and a
 //! new one is open; the logs stand in the back-edges.
 //!
-//! All parts are read and judged before any transaction is touched. Then each sink's transactions are settled: those that its part names are
-//! committed, the oldest first; every other that is neither committed nor aborted is aborted; and a new one is opened. The attempt begins with the
+//! All parts are read and judged before any transaction is touched. Then each sink's transactions
+//! are settled: those that its part names are committed, the oldest first; every other that is
+//! neither committed nor aborted is aborted; and a new one is opened. The attempt begins with the
 //! parts' logs in the back-edges.
 #![tactic(auto)]
 

@@ -24,7 +24,8 @@ use std::alloc::Global;
 use std::marker::Model;
 use task_part::Part;
 
-/// What a job starts from: the last complete number, if there is one, and what each task starts from.
+/// What a job starts from: the last complete number, if there is one, and what each task starts
+/// from.
 #[derive(Drop)]
 pub struct Restored<O: Operator> {
     number: Option<u64>,
@@ -72,10 +73,13 @@ fn read_part<O: Operator, S: SnapshotStore>(
     store: &mut S,
 ) -> Result<Part<O::Record, O::Key, O::State>, RecoveryFault>
     requires { is_complete (S.state store.old) number ≡ true }
-    ensures ends { EndsReading (language O.meaning O.Key.cmp O.Record.spelling O.Record.reading O.Key.reading O.State.reading) (S.state store.old) number task result }
+    ensures ends { EndsReading (language O.meaning O.Key.cmp O.Record.spelling O.Record.reading
+        O.Key.reading O.State.reading) (S.state store.old) number task result }
     ensures same { S.state store.new ≡ S.state store.old }
-    ensures counted { result ≡ Err RecoveryFault.Fault → S.fault_count store.old < S.fault_count store.new }
-    ensures told { result ≢ Err RecoveryFault.Fault → S.fault_count store.new ≡ S.fault_count store.old }
+    ensures counted { result ≡ Err RecoveryFault.Fault
+        → S.fault_count store.old < S.fault_count store.new }
+    ensures told { result ≢ Err RecoveryFault.Fault
+        → S.fault_count store.new ≡ S.fault_count store.old }
 {
     let bytes = match store.get(number, task) {
         Ok(bytes) => bytes,
@@ -101,10 +105,17 @@ fn start_at<O: Operator, S: SnapshotStore, P: Partitions<Record = O::Record>>(
     log: &P,
 ) -> Result<Start<O::Record, O::Key, O::State>, RecoveryFault>
     requires { IsLatest (S.state store.old) last }
-    ensures ends { (role : Role) → slice_get graph.now.tasks task ≡ Some role → EndsTask (language O.meaning O.Key.cmp O.Record.spelling O.Record.reading O.Key.reading O.State.reading) (Fits O.Key.HasSpelling O.Key.spelling) (Fits O.Record.HasSpelling O.Record.spelling) (IsGoodState (Fits O.State.HasSpelling O.State.spelling) O.Suits) graph.now operators.now (P.records log.now) (S.state store.old) last task role result }
+    ensures ends { (role : Role) → slice_get graph.now.tasks task ≡ Some role
+        → EndsTask (language O.meaning O.Key.cmp O.Record.spelling O.Record.reading O.Key.reading
+        O.State.reading) (Fits O.Key.HasSpelling O.Key.spelling)
+        (Fits O.Record.HasSpelling O.Record.spelling)
+        (IsGoodState (Fits O.State.HasSpelling O.State.spelling) O.Suits) graph.now operators.now
+        (P.records log.now) (S.state store.old) last task role result }
     ensures same { S.state store.new ≡ S.state store.old }
-    ensures counted { result ≡ Err RecoveryFault.Fault → S.fault_count store.old < S.fault_count store.new }
-    ensures told { result ≢ Err RecoveryFault.Fault → S.fault_count store.new ≡ S.fault_count store.old }
+    ensures counted { result ≡ Err RecoveryFault.Fault
+        → S.fault_count store.old < S.fault_count store.new }
+    ensures told { result ≢ Err RecoveryFault.Fault
+        → S.fault_count store.new ≡ S.fault_count store.old }
 {
     let Some(role) = graph.role(task) else {
         return Err(RecoveryFault::MissingPart);
@@ -129,10 +140,22 @@ fn starts_at<O: Operator, S: SnapshotStore, P: Partitions<Record = O::Record>>(
     log: &P,
 ) -> Result<Vec<Start<O::Record, O::Key, O::State>>, RecoveryFault>
     requires { IsLatest (S.state store.old) last }
-    ensures ends { MatchResult result (λ starts. AreStarts (language O.meaning O.Key.cmp O.Record.spelling O.Record.reading O.Key.reading O.State.reading) (Fits O.Key.HasSpelling O.Key.spelling) (Fits O.Record.HasSpelling O.Record.spelling) (IsGoodState (Fits O.State.HasSpelling O.State.spelling) O.Suits) graph.now operators.now (P.records log.now) (S.state store.old) last starts.items) (CannotRestore (language O.meaning O.Key.cmp O.Record.spelling O.Record.reading O.Key.reading O.State.reading) (Fits O.Key.HasSpelling O.Key.spelling) (Fits O.Record.HasSpelling O.Record.spelling) (IsGoodState (Fits O.State.HasSpelling O.State.spelling) O.Suits) graph.now operators.now (P.records log.now) (S.state store.old)) }
+    ensures ends { MatchResult result (λ starts. AreStarts
+        (language O.meaning O.Key.cmp O.Record.spelling O.Record.reading O.Key.reading
+        O.State.reading) (Fits O.Key.HasSpelling O.Key.spelling)
+        (Fits O.Record.HasSpelling O.Record.spelling)
+        (IsGoodState (Fits O.State.HasSpelling O.State.spelling) O.Suits) graph.now operators.now
+        (P.records log.now) (S.state store.old) last starts.items)
+        (CannotRestore (language O.meaning O.Key.cmp O.Record.spelling O.Record.reading
+        O.Key.reading O.State.reading) (Fits O.Key.HasSpelling O.Key.spelling)
+        (Fits O.Record.HasSpelling O.Record.spelling)
+        (IsGoodState (Fits O.State.HasSpelling O.State.spelling) O.Suits) graph.now operators.now
+        (P.records log.now) (S.state store.old)) }
     ensures same { S.state store.new ≡ S.state store.old }
-    ensures counted { result ≡ Err RecoveryFault.Fault → S.fault_count store.old < S.fault_count store.new }
-    ensures told { result ≢ Err RecoveryFault.Fault → S.fault_count store.new ≡ S.fault_count store.old }
+    ensures counted { result ≡ Err RecoveryFault.Fault
+        → S.fault_count store.old < S.fault_count store.new }
+    ensures told { result ≢ Err RecoveryFault.Fault
+        → S.fault_count store.new ≡ S.fault_count store.old }
 {
     let mut starts = Vec::new(alloc);
     for task in 0..graph.tasks() {
@@ -150,10 +173,16 @@ pub fn restore<O: Operator, S: SnapshotStore, P: Partitions<Record = O::Record>>
     store: &mut S,
     log: &P,
 ) -> Result<Restored<O>, RecoveryFault>
-    ensures ends { EndsRestore (language O.meaning O.Key.cmp O.Record.spelling O.Record.reading O.Key.reading O.State.reading) (Fits O.Key.HasSpelling O.Key.spelling) (Fits O.Record.HasSpelling O.Record.spelling) (IsGoodState (Fits O.State.HasSpelling O.State.spelling) O.Suits) graph.now operators.now (P.records log.now) (S.state store.old) result }
+    ensures ends { EndsRestore (language O.meaning O.Key.cmp O.Record.spelling O.Record.reading
+        O.Key.reading O.State.reading) (Fits O.Key.HasSpelling O.Key.spelling)
+        (Fits O.Record.HasSpelling O.Record.spelling)
+        (IsGoodState (Fits O.State.HasSpelling O.State.spelling) O.Suits) graph.now operators.now
+        (P.records log.now) (S.state store.old) result }
     ensures same { S.state store.new ≡ S.state store.old }
-    ensures counted { result ≡ Err RecoveryFault.Fault → S.fault_count store.old < S.fault_count store.new }
-    ensures told { result ≢ Err RecoveryFault.Fault → S.fault_count store.new ≡ S.fault_count store.old }
+    ensures counted { result ≡ Err RecoveryFault.Fault
+        → S.fault_count store.old < S.fault_count store.new }
+    ensures told { result ≢ Err RecoveryFault.Fault
+        → S.fault_count store.new ≡ S.fault_count store.old }
 {
     let number = match store.latest() {
         Ok(number) => number,

@@ -19,8 +19,9 @@ use snapshot_store::SnapshotStore;
 use source_log::Partitions;
 use std::alloc::Global;
 
-/// An attempt that starts from the last complete checkpoint, or anew where there is none, and that checkpoint's number. The transactions are
-/// settled. Where it is refused, they may be settled in part; the next restart does the rest.
+/// An attempt that starts from the last complete checkpoint, or anew where there is none, and that
+/// checkpoint's number. The transactions are settled. Where it is refused, they may be settled in
+/// part; the next restart does the rest.
 pub fn restarted<O: Operator, S: SnapshotStore, X: Transactions, P: Partitions<Record = O::Record>>(
     alloc: Global,
     graph: &Graph,
@@ -29,12 +30,23 @@ pub fn restarted<O: Operator, S: SnapshotStore, X: Transactions, P: Partitions<R
     store: &mut S,
     transactions: &mut X,
 ) -> Result<(Option<u64>, Attempt<O>), CoreFault>
-    requires sinks { (task subtask : ℕ) → slice_get graph.now.tasks task ≡ Some (Role.Sink subtask) → subtask < (X.state transactions.old).subtasks }
-    ensures ends { EndsRestart (language O.meaning O.Key.cmp O.Record.spelling O.Record.reading O.Key.reading O.State.reading) (Fits O.Key.HasSpelling O.Key.spelling) (Fits O.Record.HasSpelling O.Record.spelling) (IsGoodState (Fits O.State.HasSpelling O.State.spelling) O.Suits) graph.now operators.now (P.records log.now) (S.state store.old) (X.state transactions.old) (X.state transactions.new) result }
+    requires sinks { (task subtask : ℕ) → slice_get graph.now.tasks task ≡ Some (Role.Sink subtask)
+        → subtask < (X.state transactions.old).subtasks }
+    ensures ends { EndsRestart (language O.meaning O.Key.cmp O.Record.spelling O.Record.reading
+        O.Key.reading O.State.reading) (Fits O.Key.HasSpelling O.Key.spelling)
+        (Fits O.Record.HasSpelling O.Record.spelling)
+        (IsGoodState (Fits O.State.HasSpelling O.State.spelling) O.Suits) graph.now operators.now
+        (P.records log.now) (S.state store.old) (X.state transactions.old)
+        (X.state transactions.new) result }
     ensures same { S.state store.new ≡ S.state store.old }
-    ensures counted { result ≡ Err CoreFault.Device → S.fault_count store.old + X.fault_count transactions.old < S.fault_count store.new + X.fault_count transactions.new }
-    ensures told { result ≢ Err CoreFault.Device → (S.fault_count store.new ≡ S.fault_count store.old) × (X.fault_count transactions.new ≡ X.fault_count transactions.old) }
-    ensures grows { (S.fault_count store.old ≤ S.fault_count store.new) × (X.fault_count transactions.old ≤ X.fault_count transactions.new) }
+    ensures counted { result ≡ Err CoreFault.Device
+        → S.fault_count store.old + X.fault_count transactions.old
+        < S.fault_count store.new + X.fault_count transactions.new }
+    ensures told { result ≢ Err CoreFault.Device
+        → (S.fault_count store.new ≡ S.fault_count store.old)
+        × (X.fault_count transactions.new ≡ X.fault_count transactions.old) }
+    ensures grows { (S.fault_count store.old ≤ S.fault_count store.new)
+        × (X.fault_count transactions.old ≤ X.fault_count transactions.new) }
 {
     let _ = graph.tasks();
     let restored = restore::<O, S, P>(alloc, graph, operators, store, log)?;

@@ -41,10 +41,13 @@ fn commit_named<X: Transactions>(
     names: &[u64],
     transactions: &mut X,
 ) -> Result<(), RecoveryFault>
-    ensures ends { EndsCommits (X.state transactions.old) (X.state transactions.new) task names.now result }
+    ensures ends { EndsCommits (X.state transactions.old) (X.state transactions.new) task
+        names.now result }
     ensures same { (X.state transactions.new).subtasks ≡ (X.state transactions.old).subtasks }
-    ensures counted { result ≡ Err RecoveryFault.Fault → X.fault_count transactions.old < X.fault_count transactions.new }
-    ensures told { result ≢ Err RecoveryFault.Fault → X.fault_count transactions.new ≡ X.fault_count transactions.old }
+    ensures counted { result ≡ Err RecoveryFault.Fault
+        → X.fault_count transactions.old < X.fault_count transactions.new }
+    ensures told { result ≢ Err RecoveryFault.Fault
+        → X.fault_count transactions.new ≡ X.fault_count transactions.old }
 {
     for name in names {
         if let Err(fault) = transactions.commit(*name) {
@@ -61,10 +64,13 @@ fn abort_all<X: Transactions>(
     transactions: &mut X,
 ) -> Result<(), RecoveryFault>
     requires { unsettled.now ≡ unsettled_of (X.state transactions.old) subtask }
-    ensures ends { EndsAborts (X.state transactions.old) (X.state transactions.new) unsettled.now result }
+    ensures ends { EndsAborts (X.state transactions.old) (X.state transactions.new)
+        unsettled.now result }
     ensures same { (X.state transactions.new).subtasks ≡ (X.state transactions.old).subtasks }
-    ensures counted { result ≡ Err RecoveryFault.Fault → X.fault_count transactions.old < X.fault_count transactions.new }
-    ensures told { result ≢ Err RecoveryFault.Fault → X.fault_count transactions.new ≡ X.fault_count transactions.old }
+    ensures counted { result ≡ Err RecoveryFault.Fault
+        → X.fault_count transactions.old < X.fault_count transactions.new }
+    ensures told { result ≢ Err RecoveryFault.Fault
+        → X.fault_count transactions.new ≡ X.fault_count transactions.old }
 {
     for transaction in unsettled {
         if let Err(fault) = transactions.abort(transaction.0) {
@@ -82,10 +88,13 @@ fn settle_sink<X: Transactions>(
     transactions: &mut X,
 ) -> Result<u64, RecoveryFault>
     requires { subtask < (X.state transactions.old).subtasks }
-    ensures ends { EndsSettle (X.state transactions.old) (X.state transactions.new) task names.now subtask result }
+    ensures ends { EndsSettle (X.state transactions.old) (X.state transactions.new) task names.now
+        subtask result }
     ensures same { (X.state transactions.new).subtasks ≡ (X.state transactions.old).subtasks }
-    ensures counted { result ≡ Err RecoveryFault.Fault → X.fault_count transactions.old < X.fault_count transactions.new }
-    ensures told { result ≢ Err RecoveryFault.Fault → X.fault_count transactions.new ≡ X.fault_count transactions.old }
+    ensures counted { result ≡ Err RecoveryFault.Fault
+        → X.fault_count transactions.old < X.fault_count transactions.new }
+    ensures told { result ≢ Err RecoveryFault.Fault
+        → X.fault_count transactions.new ≡ X.fault_count transactions.old }
 {
     commit_named(task, names, transactions)?;
     let unsettled = match transactions.unsettled(subtask) {
@@ -99,7 +108,8 @@ fn settle_sink<X: Transactions>(
     }
 }
 
-/// What a task holds when it starts, and the logs that it starts from; a sink settles its transactions.
+/// What a task holds when it starts, and the logs that it starts from; a sink settles its
+/// transactions.
 fn take<R: Drop, K: Ord + Drop, S: Drop, X: Transactions>(
     alloc: Global,
     task: u32,
@@ -107,10 +117,13 @@ fn take<R: Drop, K: Ord + Drop, S: Drop, X: Transactions>(
     transactions: &mut X,
 ) -> Result<(Holding<K, S>, Items<(u32, Items<R>)>), RecoveryFault>
     requires { IsBelow (X.state transactions.old).subtasks start }
-    ensures ends { EndsTake (X.state transactions.old) (X.state transactions.new) task start result }
+    ensures ends { EndsTake (X.state transactions.old) (X.state transactions.new)
+        task start result }
     ensures same { (X.state transactions.new).subtasks ≡ (X.state transactions.old).subtasks }
-    ensures counted { result ≡ Err RecoveryFault.Fault → X.fault_count transactions.old < X.fault_count transactions.new }
-    ensures told { result ≢ Err RecoveryFault.Fault → X.fault_count transactions.new ≡ X.fault_count transactions.old }
+    ensures counted { result ≡ Err RecoveryFault.Fault
+        → X.fault_count transactions.old < X.fault_count transactions.new }
+    ensures told { result ≢ Err RecoveryFault.Fault
+        → X.fault_count transactions.new ≡ X.fault_count transactions.old }
 {
     match start {
         Start::Source(offset) => Ok((Holding::Source(offset), Items::new(alloc))),
@@ -122,8 +135,9 @@ fn take<R: Drop, K: Ord + Drop, S: Drop, X: Transactions>(
     }
 }
 
-/// Each task takes what it starts from, and each sink settles its transactions: what the tasks hold, and the logs of all of them. Where a sink's part
-/// names a transaction that may not be committed, that part is damaged, and what was settled before stays so.
+/// Each task takes what it starts from, and each sink settles its transactions: what the tasks
+/// hold, and the logs of all of them. Where a sink's part names a transaction that may not be
+/// committed, that part is damaged, and what was settled before stays so.
 pub fn settle_transactions<O: Operator, X: Transactions>(
     alloc: Global,
     restored: Restored<O>,
@@ -131,9 +145,13 @@ pub fn settle_transactions<O: Operator, X: Transactions>(
 ) -> Result<(Vec<Holding<O::Key, O::State>>, Vec<(u32, Items<O::Record>)>), RecoveryFault>
     requires few { length restored.1 < 2 ^ 32 }
     requires below { All (IsBelow (X.state transactions.old).subtasks) restored.1 }
-    ensures ends { MatchResult result (λ x. TakeAll (X.state transactions.old) (X.state transactions.new) restored.1 (x.0.items, x.1.items)) (StopTaking (X.state transactions.old) (X.state transactions.new) restored.1) }
-    ensures counted { result ≡ Err RecoveryFault.Fault → X.fault_count transactions.old < X.fault_count transactions.new }
-    ensures told { result ≢ Err RecoveryFault.Fault → X.fault_count transactions.new ≡ X.fault_count transactions.old }
+    ensures ends { MatchResult result (λ x. TakeAll (X.state transactions.old)
+        (X.state transactions.new) restored.1 (x.0.items, x.1.items))
+        (StopTaking (X.state transactions.old) (X.state transactions.new) restored.1) }
+    ensures counted { result ≡ Err RecoveryFault.Fault
+        → X.fault_count transactions.old < X.fault_count transactions.new }
+    ensures told { result ≢ Err RecoveryFault.Fault
+        → X.fault_count transactions.new ≡ X.fault_count transactions.old }
 {
     let mut tasks = Vec::new(alloc);
     let mut openings = Vec::new(alloc);

@@ -34,7 +34,8 @@ pub(crate) fn first_start<R, K: Ord, S>(alloc: Global, role: Role) -> Start<R, K
 
 /// Whether the partition is there, and the offset within it or at its end.
 fn is_within<P: Partitions>(log: &P, partition: u32, offset: u64) -> bool
-    ensures { IsTrue result ↔ ((partition < length (P.records log.now)) × (offset ≤ length (records_at (P.records log.now) partition))) }
+    ensures { IsTrue result ↔ ((partition < length (P.records log.now))
+        × (offset ≤ length (records_at (P.records log.now) partition))) }
 {
     match log.len(partition) {
         Ok(len) => offset <= len,
@@ -44,14 +45,17 @@ fn is_within<P: Partitions>(log: &P, partition: u32, offset: u64) -> bool
 
 /// Whether the key fits, and the operator can go on from the state.
 fn is_good<O: Operator>(operator: &O, key: &O::Key, state: &O::State) -> bool
-    ensures { IsTrue result ↔ (Fits O.Key.HasSpelling O.Key.spelling key.now × IsGoodState (Fits O.State.HasSpelling O.State.spelling) O.Suits operator.now state.now) }
+    ensures { IsTrue result ↔ (Fits O.Key.HasSpelling O.Key.spelling key.now
+        × IsGoodState (Fits O.State.HasSpelling O.State.spelling) O.Suits operator.now state.now) }
 {
     key.fits() && state.fits() && operator.suits(state)
 }
 
 /// Whether the keys fit, and the operator can go on from the states.
 fn are_good<O: Operator>(operator: &O, states: &Map<O::Key, O::State>) -> bool
-    ensures { IsTrue result ↔ ((key : O.Key) (state : O.State) → value_at O.Key.cmp states.now key ≡ Some state → Fits O.Key.HasSpelling O.Key.spelling key × IsGoodState (Fits O.State.HasSpelling O.State.spelling) O.Suits operator.now state) }
+    ensures { IsTrue result ↔ ((key : O.Key) (state : O.State)
+        → value_at O.Key.cmp states.now key ≡ Some state → Fits O.Key.HasSpelling O.Key.spelling key
+        × IsGoodState (Fits O.State.HasSpelling O.State.spelling) O.Suits operator.now state) }
 {
     for (key, state) in states.iter() {
         if !is_good(operator, key, state) {
@@ -69,8 +73,18 @@ fn source_start<O: Operator, P: Partitions<Record = O::Record>>(
     offset: u64,
     log: &P,
 ) -> Option<Start<O::Record, O::Key, O::State>>
-    ensures some { IfSome result (λ st. (st ≡ Start.Source offset) × ((operators : List O) → Suits (language O.meaning O.Key.cmp O.Record.spelling O.Record.reading O.Key.reading O.State.reading) (Fits O.Key.HasSpelling O.Key.spelling) (Fits O.Record.HasSpelling O.Record.spelling) (IsGoodState (Fits O.State.HasSpelling O.State.spelling) O.Suits) graph.now operators (P.records log.now) task role st)) }
-    ensures none { IfNone result ((operators : List O) → Suits (language O.meaning O.Key.cmp O.Record.spelling O.Record.reading O.Key.reading O.State.reading) (Fits O.Key.HasSpelling O.Key.spelling) (Fits O.Record.HasSpelling O.Record.spelling) (IsGoodState (Fits O.State.HasSpelling O.State.spelling) O.Suits) graph.now operators (P.records log.now) task role (Start.Source offset) → ⊥) }
+    ensures some { IfSome result (λ st. (st ≡ Start.Source offset)
+        × ((operators : List O) → Suits (language O.meaning O.Key.cmp O.Record.spelling
+        O.Record.reading O.Key.reading O.State.reading) (Fits O.Key.HasSpelling O.Key.spelling)
+        (Fits O.Record.HasSpelling O.Record.spelling)
+        (IsGoodState (Fits O.State.HasSpelling O.State.spelling) O.Suits) graph.now operators
+        (P.records log.now) task role st)) }
+    ensures none { IfNone result ((operators : List O)
+        → Suits (language O.meaning O.Key.cmp O.Record.spelling O.Record.reading O.Key.reading
+        O.State.reading) (Fits O.Key.HasSpelling O.Key.spelling)
+        (Fits O.Record.HasSpelling O.Record.spelling)
+        (IsGoodState (Fits O.State.HasSpelling O.State.spelling) O.Suits) graph.now operators
+        (P.records log.now) task role (Start.Source offset) → ⊥) }
 {
     match role {
         Role::Source(partition) => {
@@ -94,8 +108,19 @@ fn operator_start<O: Operator>(
     logs: Items<(u32, Items<O::Record>)>,
     operators: &[O],
 ) -> Option<Start<O::Record, O::Key, O::State>>
-    ensures some { IfSome result (λ st. (st ≡ Start.Operator states logs) × ((partitions : List (List O.Record)) → Suits (language O.meaning O.Key.cmp O.Record.spelling O.Record.reading O.Key.reading O.State.reading) (Fits O.Key.HasSpelling O.Key.spelling) (Fits O.Record.HasSpelling O.Record.spelling) (IsGoodState (Fits O.State.HasSpelling O.State.spelling) O.Suits) graph.now operators.now partitions task role st)) }
-    ensures none { IfNone result ((partitions : List (List O.Record)) → Suits (language O.meaning O.Key.cmp O.Record.spelling O.Record.reading O.Key.reading O.State.reading) (Fits O.Key.HasSpelling O.Key.spelling) (Fits O.Record.HasSpelling O.Record.spelling) (IsGoodState (Fits O.State.HasSpelling O.State.spelling) O.Suits) graph.now operators.now partitions task role (Start.Operator states logs) → ⊥) }
+    ensures some { IfSome result (λ st. (st ≡ Start.Operator states logs)
+        × ((partitions : List (List O.Record))
+        → Suits (language O.meaning O.Key.cmp O.Record.spelling O.Record.reading O.Key.reading
+        O.State.reading) (Fits O.Key.HasSpelling O.Key.spelling)
+        (Fits O.Record.HasSpelling O.Record.spelling)
+        (IsGoodState (Fits O.State.HasSpelling O.State.spelling) O.Suits) graph.now operators.now
+        partitions task role st)) }
+    ensures none { IfNone result ((partitions : List (List O.Record))
+        → Suits (language O.meaning O.Key.cmp O.Record.spelling O.Record.reading O.Key.reading
+        O.State.reading) (Fits O.Key.HasSpelling O.Key.spelling)
+        (Fits O.Record.HasSpelling O.Record.spelling)
+        (IsGoodState (Fits O.State.HasSpelling O.State.spelling) O.Suits) graph.now operators.now
+        partitions task role (Start.Operator states logs) → ⊥) }
 {
     match role {
         Role::Operator(number) => {
@@ -119,8 +144,20 @@ fn sink_start<O: Operator>(
     names: Items<u64>,
     logs: Items<(u32, Items<O::Record>)>,
 ) -> Option<Start<O::Record, O::Key, O::State>>
-    ensures some { IfSome result (λ st. (part_for st ≡ Part.Sink names logs) × ((operators : List O) (partitions : List (List O.Record)) → Suits (language O.meaning O.Key.cmp O.Record.spelling O.Record.reading O.Key.reading O.State.reading) (Fits O.Key.HasSpelling O.Key.spelling) (Fits O.Record.HasSpelling O.Record.spelling) (IsGoodState (Fits O.State.HasSpelling O.State.spelling) O.Suits) graph.now operators partitions task role st)) }
-    ensures none { IfNone result ((subtask : ℕ) (operators : List O) (partitions : List (List O.Record)) → Suits (language O.meaning O.Key.cmp O.Record.spelling O.Record.reading O.Key.reading O.State.reading) (Fits O.Key.HasSpelling O.Key.spelling) (Fits O.Record.HasSpelling O.Record.spelling) (IsGoodState (Fits O.State.HasSpelling O.State.spelling) O.Suits) graph.now operators partitions task role (Start.Sink subtask names logs) → ⊥) }
+    ensures some { IfSome result (λ st. (part_for st ≡ Part.Sink names logs)
+        × ((operators : List O) (partitions : List (List O.Record))
+        → Suits (language O.meaning O.Key.cmp O.Record.spelling O.Record.reading O.Key.reading
+        O.State.reading) (Fits O.Key.HasSpelling O.Key.spelling)
+        (Fits O.Record.HasSpelling O.Record.spelling)
+        (IsGoodState (Fits O.State.HasSpelling O.State.spelling) O.Suits) graph.now operators
+        partitions task role st)) }
+    ensures none { IfNone result ((subtask : ℕ) (operators : List O)
+        (partitions : List (List O.Record)) → Suits
+        (language O.meaning O.Key.cmp O.Record.spelling O.Record.reading O.Key.reading
+        O.State.reading) (Fits O.Key.HasSpelling O.Key.spelling)
+        (Fits O.Record.HasSpelling O.Record.spelling)
+        (IsGoodState (Fits O.State.HasSpelling O.State.spelling) O.Suits) graph.now operators
+        partitions task role (Start.Sink subtask names logs) → ⊥) }
 {
     match role {
         Role::Sink(subtask) => {
@@ -144,8 +181,18 @@ pub(crate) fn start_by<O: Operator, P: Partitions<Record = O::Record>>(
     operators: &[O],
     log: &P,
 ) -> Option<Start<O::Record, O::Key, O::State>>
-    ensures some { IfSome result (λ st. (part ≡ part_for st) × Suits (language O.meaning O.Key.cmp O.Record.spelling O.Record.reading O.Key.reading O.State.reading) (Fits O.Key.HasSpelling O.Key.spelling) (Fits O.Record.HasSpelling O.Record.spelling) (IsGoodState (Fits O.State.HasSpelling O.State.spelling) O.Suits) graph.now operators.now (P.records log.now) task role st) }
-    ensures none { IfNone result ((st : Start O.Record O.Key O.State) → part ≡ part_for st → Suits (language O.meaning O.Key.cmp O.Record.spelling O.Record.reading O.Key.reading O.State.reading) (Fits O.Key.HasSpelling O.Key.spelling) (Fits O.Record.HasSpelling O.Record.spelling) (IsGoodState (Fits O.State.HasSpelling O.State.spelling) O.Suits) graph.now operators.now (P.records log.now) task role st → ⊥) }
+    ensures some { IfSome result (λ st. (part ≡ part_for st)
+        × Suits (language O.meaning O.Key.cmp O.Record.spelling O.Record.reading O.Key.reading
+        O.State.reading) (Fits O.Key.HasSpelling O.Key.spelling)
+        (Fits O.Record.HasSpelling O.Record.spelling)
+        (IsGoodState (Fits O.State.HasSpelling O.State.spelling) O.Suits) graph.now operators.now
+        (P.records log.now) task role st) }
+    ensures none { IfNone result ((st : Start O.Record O.Key O.State) → part ≡ part_for st
+        → Suits (language O.meaning O.Key.cmp O.Record.spelling O.Record.reading O.Key.reading
+        O.State.reading) (Fits O.Key.HasSpelling O.Key.spelling)
+        (Fits O.Record.HasSpelling O.Record.spelling)
+        (IsGoodState (Fits O.State.HasSpelling O.State.spelling) O.Suits) graph.now operators.now
+        (P.records log.now) task role st → ⊥) }
 {
     match part {
         Part::Source(offset) => source_start::<O, P>(graph, task, role, offset, log),

@@ -1,7 +1,7 @@
 //! The turns of a run: which step comes next, when a checkpoint is triggered, when the job is
-//! restarted, and how the run ends. Nothing is promised of the choice: every call of the core is right
-//! whatever is asked for, and what the schedule forgot is found by a pass over all before a run ends.
-//! A choice costs the same whatever the number of tasks and channels.
+//! restarted, and how the run ends. Nothing is promised of the choice: every call of the core is
+//! right whatever is asked for, and what the schedule forgot is found by a pass over all before a
+//! run ends. A choice costs the same whatever the number of tasks and channels.
 #![tactic(auto)]
 
 mod fault;

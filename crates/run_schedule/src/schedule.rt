@@ -48,12 +48,13 @@ pub(crate) struct Node {
     pub(crate) is_fed: bool,
 }
 
-/// So many records are read ahead of the claims that are held, until a task that sources send to has
-/// been found without a record.
+/// So many records are read ahead of the claims that are held, until a task that sources send to
+/// has been found without a record.
 const MOST_AHEAD: u32 = 64;
 
 /// What may have something, so that the next step is found in the same time whatever the number of
-/// tasks and channels. The task that stands furthest downstream comes first, so channels stay short.
+/// tasks and channels. The task that stands furthest downstream comes first, so channels stay
+/// short.
 #[derive(Drop)]
 pub struct Schedule {
     nodes: Vec<Node>,
@@ -70,7 +71,8 @@ pub struct Schedule {
     round: Round,
     /// How many claims are held.
     claims: u64,
-    /// How many records were read while claims were held, since a task that sources send to had none.
+    /// How many records were read while claims were held, since a task that sources send to had
+    /// none.
     ahead: u32,
     /// How many finishes come between triggers: 0 for any number.
     every: u64,
@@ -274,8 +276,8 @@ impl Schedule {
         }
     }
 
-    /// A task may have sent. The ends of its channels are marked once it has sent as often as it has
-    /// channels, so that a mark costs the same however many there are.
+    /// A task may have sent. The ends of its channels are marked once it has sent as often as it
+    /// has channels, so that a mark costs the same however many there are.
     fn sent(&mut self, task: u32) {
         let Some(node) = self.nodes.get_mut(task as usize) else {
             return;

@@ -127,7 +127,8 @@ impl Turns {
         }
     }
 
-    /// Counts the turn of a worker that waits with its job. False where the run is over, or no turn is left.
+    /// Counts the turn of a worker that waits with its job. False where the run is over, or no turn
+    /// is left.
     pub fn wait(&mut self) -> bool {
         if self.end.is_some() {
             return false;

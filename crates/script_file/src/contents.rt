@@ -29,8 +29,8 @@ fn count(items: &[Value]) -> usize
     items.len()
 }
 
-/// The rows and the steps of a script for a job with so many source tasks, or the first fault: of the number of
-/// partitions, of the rows, of the steps.
+/// The rows and the steps of a script for a job with so many source tasks, or the first fault: of
+/// the number of partitions, of the rows, of the steps.
 #[tactic(auto, unfolding(crate::specs::Contents::contents_at))]
 pub fn contents_of(
     alloc: Global,

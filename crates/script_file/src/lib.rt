@@ -2,9 +2,10 @@
 //! from a script's bytes to its job, partitions and steps, or the first refusal in the documented
 //! order.
 //!
-//! A script is a JSON object with exactly the members `job`, `partitions` and `steps`. It is read whole before any step
-//! is made: what comes out is the script, or the first fault of its text in one fixed order. The definitions that say
-//! which (`specs/`) read a JSON value as the code does, one name for each part.
+//! A script is a JSON object with exactly the members `job`, `partitions` and `steps`. It is read
+//! whole before any step is made: what comes out is the script, or the first fault of its text in
+//! one fixed order. The definitions that say which (`specs/`) read a JSON value as the code does,
+//! one name for each part.
 #![tactic(auto)]
 
 mod contents;

@@ -16,7 +16,8 @@ fn is_one_of(name: &str, names: &[&str]) -> bool
 }
 
 fn have_names(members: &Map<String, Value>, names: &[&str]) -> bool
-    ensures { result ≡ list_all (λ k. list_any (λ n. bytes_eq (string_bytes k) n.now) names.now) (keys members.now) }
+    ensures { result ≡ list_all (λ k. list_any (λ n. bytes_eq (string_bytes k) n.now) names.now)
+        (keys members.now) }
 {
     members.keys().all(|name| is_one_of(name.as_str(), names))
 }

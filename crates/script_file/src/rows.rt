@@ -91,7 +91,8 @@ fn row_at(
 
 /// The rows of the partition of this number.
 fn rows(alloc: Global, partition: usize, items: &[Value]) -> Result<Vec<FittingRow>, ScriptFault>
-    ensures { Gives (λ v. v.items) result (each_after (row_at partition) [] (items_view items.now)) }
+    ensures { Gives (λ v. v.items) result (each_after (row_at partition) []
+        (items_view items.now)) }
 {
     let mut found = Vec::new(alloc);
     for item in items {

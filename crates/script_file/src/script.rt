@@ -60,8 +60,8 @@ fn script_of(alloc: Global, value: &Value) -> Result<Script, ScriptFault>
 impl Script {
     ghost use Rattle.script_file.specs.Script.{head_of, Reads};
 
-    /// Reads a script, or answers its first fault: of the text, of the members, of the job and its graph, of the number of
-    /// partitions, of the rows, of the steps.
+    /// Reads a script, or answers its first fault: of the text, of the members, of the job and its
+    /// graph, of the number of partitions, of the rows, of the steps.
     pub fn read(alloc: Global, bytes: &[u8]) -> Result<Script, ScriptFault>
         ensures { Reads (head_of bytes.now) result }
     {

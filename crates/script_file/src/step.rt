@@ -15,8 +15,8 @@ use fault_plan::When;
 use serde_json::Value;
 use std::alloc::Global;
 
-/// A call on the core: a task's number `T`, the number `I` of one of its inputs, a sink's number `S`,
-/// a partition's `P`, and the number `J` of a claimed job.
+/// A call on the core: a task's number `T`, the number `I` of one of its inputs, a sink's number
+/// `S`, a partition's `P`, and the number `J` of a claimed job.
 #[derive(Debug, Drop)]
 pub enum Step {
     /// `read T`: the source sends its next record.

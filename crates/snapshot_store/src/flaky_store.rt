@@ -53,7 +53,12 @@ impl<S: FaultlessStore> FlakyStore<S> {
     /// No call is to fail.
     pub fn new(store: S) -> FlakyStore<S>
         ensures store { store_of result ≡ store }
-        ensures plan { plan_of result ≡ record { next = replicate CALLS None; every = None; calls = 0; faults = 0 } }
+        ensures plan { plan_of result ≡ record {
+          next = replicate CALLS None;
+          every = None;
+          calls = 0;
+          faults = 0;
+        } }
     {
         FlakyStore {
             store,
@@ -64,12 +69,16 @@ impl<S: FaultlessStore> FlakyStore<S> {
     /// The next call of the kind fails.
     pub fn arm(&mut self, call: StoreCall, when: When)
         ensures store { store_of self.new ≡ store_of self.old }
-        ensures plan { plan_of self.new ≡ record (plan_of self.old) { next = slice_set (plan_of self.old).next (call_number call) (Some when) } }
+        ensures plan { plan_of self.new ≡ record (plan_of self.old) {
+          next = slice_set
+              (plan_of self.old).next (call_number call) (Some when);
+        } }
     {
         self.plan.arm(call.number(), when);
     }
 
-    /// Each k-th call that may fail does so before its work, up to the last-th. Calls are counted from the first on. None fails for a k of 0.
+    /// Each k-th call that may fail does so before its work, up to the last-th. Calls are counted
+    /// from the first on. None fails for a k of 0.
     pub fn every(&mut self, k: u64, last: u64)
         ensures store { store_of self.new ≡ store_of self.old }
         ensures plan { plan_of self.new ≡ record (plan_of self.old) { every = Some (k, last) } }

@@ -3,8 +3,9 @@
 //! of faults; a fault leaves the state before the call or the one that Ok leaves, and is told
 //! exactly where it is counted. A store in memory is listed in order, and made from such lists.
 //!
-//! Numbers come from the store, start at 1 and are never given out again. A number counts once it is complete, which asks for the part of every task.
-//! A call that fails has done nothing or all of its work.
+//! Numbers come from the store, start at 1 and are never given out again. A number counts once it
+//! is complete, which asks for the part of every task. A call that fails has done nothing or all of
+//! its work.
 #![tactic(auto)]
 
 mod flaky_store;

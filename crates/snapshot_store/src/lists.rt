@@ -15,7 +15,8 @@ use std::collections::BTreeMap;
 /// Makes a place for the number of each part.
 fn note_numbers(numbers: &mut Numbers, parts: &BTreeMap<(u64, u32), Bytes>) -> Result<(), NoMemory>
     ensures same { numbers.new.complete ≡ numbers.old.complete }
-    ensures noted { OnOk result ((n t : ℕ) → IsSome (fin.get (parts_of parts.now.entries) (n, t)) → IsNoted numbers.new n) }
+    ensures noted { OnOk result ((n t : ℕ) → IsSome (fin.get (parts_of parts.now.entries) (n, t))
+        → IsNoted numbers.new n) }
 {
     for (key, _) in parts {
         numbers.note(key.0)?;
@@ -40,14 +41,17 @@ impl MemoryStore {
 
     /// The complete number at a place in rising order, from 0.
     pub fn complete_at(&self, index: u64) -> Option<u64>
-        ensures { result ≡ slice_get (complete_list (⟦<MemoryStore as SnapshotStore>⟧.state self.now)) index }
+        ensures { result ≡ slice_get (complete_list
+            (⟦<MemoryStore as SnapshotStore>⟧.state self.now)) index }
     {
         self.numbers.complete_at(index)
     }
 
-    /// The part at a place in rising order by number and then by task, from 0: its number, its task and its bytes.
+    /// The part at a place in rising order by number and then by task, from 0: its number, its task
+    /// and its bytes.
     pub fn part_at(&self, index: u64) -> Option<(u64, u32, &[u8])>
-        ensures { option_map (λ part. ((part.0, part.1), part.2.now)) result ≡ slice_get (part_list (⟦<MemoryStore as SnapshotStore>⟧.state self.now)) index }
+        ensures { option_map (λ part. ((part.0, part.1), part.2.now)) result
+            ≡ slice_get (part_list (⟦<MemoryStore as SnapshotStore>⟧.state self.now)) index }
     {
         self.parts.part_at(index)
     }
@@ -65,10 +69,14 @@ impl MemoryStore {
         requires rising { IsStrictlySortedBy nat_cmp completes }
         requires completes { All (WasGiven next) completes }
         requires parts { All (MayBePut tasks next) parts }
-        ensures tasks { IfOk result (λ store. (⟦<MemoryStore as SnapshotStore>⟧.state store).tasks ≡ tasks) }
-        ensures next { IfOk result (λ store. (⟦<MemoryStore as SnapshotStore>⟧.state store).next ≡ next) }
-        ensures completes { IfOk result (λ store. complete_list (⟦<MemoryStore as SnapshotStore>⟧.state store) ≡ completes) }
-        ensures parts { IfOk result (λ store. part_list (⟦<MemoryStore as SnapshotStore>⟧.state store) ≡ parts) }
+        ensures tasks { IfOk result (λ store.
+            (⟦<MemoryStore as SnapshotStore>⟧.state store).tasks ≡ tasks) }
+        ensures next { IfOk result (λ store. (⟦<MemoryStore as SnapshotStore>⟧.state store).next
+            ≡ next) }
+        ensures completes { IfOk result (λ store. complete_list
+            (⟦<MemoryStore as SnapshotStore>⟧.state store) ≡ completes) }
+        ensures parts { IfOk result (λ store. part_list
+            (⟦<MemoryStore as SnapshotStore>⟧.state store) ≡ parts) }
     {
         let parts = parts.into_btree_map();
         let mut numbers = Numbers::from_complete(alloc, completes.into_vec());

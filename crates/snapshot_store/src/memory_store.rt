@@ -46,7 +46,8 @@ fn has_all_parts(parts: &Parts, number: u64, tasks: u32) -> bool
 
 /// Whether a number is complete, or has all its parts.
 fn can_complete(numbers: &Numbers, parts: &Parts, number: u64, tasks: u32) -> bool
-    ensures { result ≡ (set.contains (complete_of numbers.now) number || all_below (λ t. is_some (fin.get parts.now (number, t))) tasks) }
+    ensures { result ≡ (set.contains (complete_of numbers.now) number || all_below
+        (λ t. is_some (fin.get parts.now (number, t))) tasks) }
 {
     numbers.is_complete(number) || has_all_parts(parts, number, tasks)
 }

@@ -12,7 +12,8 @@ use std::alloc::{AllocError, Global};
 use std::collections::BTreeSet;
 use std::marker::Model;
 
-/// The complete numbers, and a place among them for each number that has had a part and is not complete.
+/// The complete numbers, and a place among them for each number that has had a part and is not
+/// complete.
 #[derive(Drop)]
 pub(crate) struct Numbers {
     /// Rising. To make a number complete takes time linear in those above it.
@@ -30,7 +31,8 @@ impl Model for Numbers {
 
     ghost view = { λ n. record { complete = n.complete.items; pending = n.pending.keys } };
 
-    ghost invariant = { λ n. IsStrictlySortedBy nat_cmp n.complete.items × (length n.complete.items + length n.pending.keys ≤ vec_capacity n.complete) };
+    ghost invariant = { λ n. IsStrictlySortedBy nat_cmp n.complete.items
+        × (length n.complete.items + length n.pending.keys ≤ vec_capacity n.complete) };
 }
 
 /// Where a number stands, or else its place.
@@ -112,7 +114,10 @@ impl Numbers {
 
     /// Forgets the numbers below that are not complete.
     pub(crate) fn forget_below(&mut self, number: u64)
-        ensures { self.new ≡ record self.old { pending = filter (λ n. not (nat_lt n number)) self.old.pending } }
+        ensures { self.new ≡ record self.old {
+          pending = filter (λ n. not (nat_lt n number))
+              self.old.pending;
+        } }
     {
         self.pending.retain(|n| *n >= number);
     }

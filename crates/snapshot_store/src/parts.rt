@@ -19,7 +19,8 @@ type Entry = ((u64, u32), Bytes);
 /// Parts by number and task.
 #[derive(Drop)]
 pub(crate) struct Parts {
-    /// By rising keys. To put a part takes time linear in those above it, which are of the same number where numbers rise.
+    /// By rising keys. To put a part takes time linear in those above it, which are of the same
+    /// number where numbers rise.
     entries: Vec<Entry>,
 }
 
@@ -42,8 +43,10 @@ impl Model for Parts {
 fn place_of(entries: &[Entry], number: u64, task: u32) -> Result<usize, usize>
     requires { IsStrictlySortedBy key_cmp (keys_of entries.now) }
     ensures within { IsSearchInRange result (length entries.now) }
-    ensures found { IfOk result (λ place. slice_get (keys_of entries.now) place ≡ Some (number, task)) }
-    ensures absent { IfErr result (λ place. Fits key_cmp (λ e. e.0) (number, task) entries.now place) }
+    ensures found { IfOk result (λ place. slice_get (keys_of entries.now) place
+        ≡ Some (number, task)) }
+    ensures absent { IfErr result (λ place. Fits key_cmp (λ e. e.0) (number, task)
+        entries.now place) }
 {
     entries.binary_search_by_key(&(number, task), |entry| entry.0)
 }
@@ -90,7 +93,8 @@ impl Parts {
 
     /// The part at a place in rising order by number and then by task, from 0.
     pub(crate) fn part_at(&self, index: u64) -> Option<(u64, u32, &[u8])>
-        ensures { option_map (λ part. ((part.0, part.1), part.2.now)) result ≡ slice_get (fin.entries self.now) index }
+        ensures { option_map (λ part. ((part.0, part.1), part.2.now)) result
+            ≡ slice_get (fin.entries self.now) index }
     {
         let entry = self.entries.get(index as usize)?;
         Some((entry.0.0, entry.0.1, entry.1.as_slice()))

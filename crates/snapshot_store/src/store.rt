@@ -13,7 +13,8 @@ pub enum StoreFault {
     /// The device failed, before its work or after it.
     #[error("P1 Fault")]
     Fault,
-    /// The number was not given out, or is complete where it may not be, or not complete where it has to be. Or there is no such task.
+    /// The number was not given out, or is complete where it may not be, or not complete where it
+    /// has to be. Or there is no such task.
     #[error("P2 NoSuchNumber")]
     NoSuchNumber,
     /// The part is there already.
@@ -56,7 +57,8 @@ pub trait SnapshotStore {
 
     /// Gives out the next number.
     fn reserve(&mut self) -> Result<u64, StoreFault>
-        ensures ends { Ends (state self.old, fault_count self.old) (state self.new, fault_count self.new)
+        ensures ends { Ends (state self.old, fault_count self.old)
+            (state self.new, fault_count self.new)
             (reserve_refusal (state self.old)) (reserved (state self.old)) result }
         ensures told { result ≢ Err StoreFault.Fault → fault_count self.new ≡ fault_count self.old }
         ensures number { IfOk result (λ n. n ≡ (state self.old).next) }
@@ -64,20 +66,25 @@ pub trait SnapshotStore {
 
     /// Keeps the part of a task.
     fn put(&mut self, number: u64, task: u32, bytes: &[u8]) -> Result<(), StoreFault>
-        ensures ends { Ends (state self.old, fault_count self.old) (state self.new, fault_count self.new)
-            (put_refusal (state self.old) number task) (with_part (state self.old) number task bytes.now) result }
-        ensures told { result ≢ Err StoreFault.Fault → fault_count self.new ≡ fault_count self.old };
+        ensures ends { Ends (state self.old, fault_count self.old)
+            (state self.new, fault_count self.new)
+            (put_refusal (state self.old) number task)
+            (with_part (state self.old) number task bytes.now) result }
+        ensures told { result ≢ Err StoreFault.Fault
+            → fault_count self.new ≡ fault_count self.old };
 
     /// Makes a number complete. A second time changes nothing.
     fn complete(&mut self, number: u64) -> Result<(), StoreFault>
-        ensures ends { Ends (state self.old, fault_count self.old) (state self.new, fault_count self.new)
+        ensures ends { Ends (state self.old, fault_count self.old)
+            (state self.new, fault_count self.new)
             (complete_refusal (state self.old) number) (completed (state self.old) number) result }
         ensures told { result ≢ Err StoreFault.Fault → fault_count self.new ≡ fault_count self.old }
         ensures takes_no_memory { result ≢ Err StoreFault.Memory };
 
     /// The greatest complete number.
     fn latest(&mut self) -> Result<Option<u64>, StoreFault>
-        ensures ends { Ends (state self.old, fault_count self.old) (state self.new, fault_count self.new)
+        ensures ends { Ends (state self.old, fault_count self.old)
+            (state self.new, fault_count self.new)
             None (state self.old) result }
         ensures told { result ≢ Err StoreFault.Fault → fault_count self.new ≡ fault_count self.old }
         ensures number { IfOk result (IsLatest (state self.old)) }
@@ -85,14 +92,17 @@ pub trait SnapshotStore {
 
     /// A copy of a part of a complete number.
     fn get(&mut self, number: u64, task: u32) -> Result<Vec<u8>, StoreFault>
-        ensures ends { Ends (state self.old, fault_count self.old) (state self.new, fault_count self.new)
+        ensures ends { Ends (state self.old, fault_count self.old)
+            (state self.new, fault_count self.new)
             (get_refusal (state self.old) number task) (state self.old) result }
         ensures told { result ≢ Err StoreFault.Fault → fault_count self.new ≡ fault_count self.old }
-        ensures bytes { IfOk result (λ bytes. part_of (state self.old) number task ≡ Some bytes.items) };
+        ensures bytes { IfOk result (λ bytes. part_of (state self.old) number task
+            ≡ Some bytes.items) };
 
     /// Drops the parts of all numbers below, complete or not. The numbers stay complete.
     fn discard_below(&mut self, number: u64) -> Result<(), StoreFault>
-        ensures ends { Ends (state self.old, fault_count self.old) (state self.new, fault_count self.new)
+        ensures ends { Ends (state self.old, fault_count self.old)
+            (state self.new, fault_count self.new)
             None (discarded_below (state self.old) number) result }
         ensures told { result ≢ Err StoreFault.Fault → fault_count self.new ≡ fault_count self.old }
         ensures takes_no_memory { result ≢ Err StoreFault.Memory };

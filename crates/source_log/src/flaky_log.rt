@@ -45,7 +45,12 @@ impl<P: FaultlessLog> FlakyLog<P> {
     /// No call is to fail.
     pub fn new(log: P) -> FlakyLog<P>
         ensures log { log_of result ≡ log }
-        ensures plan { plan_of result ≡ record { next = replicate CALLS None; every = None; calls = 0; faults = 0 } }
+        ensures plan { plan_of result ≡ record {
+          next = replicate CALLS None;
+          every = None;
+          calls = 0;
+          faults = 0;
+        } }
     {
         FlakyLog {
             log,
@@ -56,12 +61,16 @@ impl<P: FaultlessLog> FlakyLog<P> {
     /// The next call of the kind fails.
     pub fn arm(&mut self, call: LogCall, when: When)
         ensures log { log_of self.new ≡ log_of self.old }
-        ensures plan { plan_of self.new ≡ record (plan_of self.old) { next = slice_set (plan_of self.old).next (call_number call) (Some when) } }
+        ensures plan { plan_of self.new ≡ record (plan_of self.old) {
+          next = slice_set
+              (plan_of self.old).next (call_number call) (Some when);
+        } }
     {
         self.plan.arm(call.number(), when);
     }
 
-    /// Each k-th call that may fail does so before its work, up to the last-th. Calls are counted from the first on. None fails for a k of 0.
+    /// Each k-th call that may fail does so before its work, up to the last-th. Calls are counted
+    /// from the first on. None fails for a k of 0.
     pub fn every(&mut self, k: u64, last: u64)
         ensures log { log_of self.new ≡ log_of self.old }
         ensures plan { plan_of self.new ≡ record (plan_of self.old) { every = Some (k, last) } }

@@ -3,7 +3,8 @@
 //! records fit; a fault leaves the state before the call or the one that Ok leaves, and is told
 //! exactly where it is counted.
 //!
-//! A record at an offset stays there, `append` puts one last, and a call that fails has done nothing or all of its work.
+//! A record at an offset stays there, `append` puts one last, and a call that fails has done
+//! nothing or all of its work.
 #![tactic(auto)]
 
 mod flaky_log;

@@ -25,7 +25,8 @@ impl<R: Codec> MemoryLog<R> {
 
     /// Partitions with no records.
     pub fn new(alloc: Global, count: u32) -> Result<MemoryLog<R>, NoMemory>
-        ensures { IfOk result (λ log. ⟦<MemoryLog<R> as Partitions>⟧.records log ≡ replicate count []) }
+        ensures { IfOk result (λ log. ⟦<MemoryLog<R> as Partitions>⟧.records log
+            ≡ replicate count []) }
     {
         let rows = Rows::new(alloc, count)?;
         Ok(MemoryLog { rows })

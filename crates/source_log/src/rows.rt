@@ -34,7 +34,8 @@ impl<R: Codec> Model for Rows<R> {
 fn row_at<R>(partitions: &Lists<R>, partition: usize, offset: usize) -> &R
     requires partition { partition < length partitions.now.items }
     requires offset { offset < length (records_at (lists_of partitions.now.items) partition) }
-    ensures { slice_get (records_at (lists_of partitions.now.items) partition) offset ≡ Some result.now }
+    ensures { slice_get (records_at (lists_of partitions.now.items) partition) offset
+        ≡ Some result.now }
 {
     &partitions[partition][offset]
 }
@@ -43,7 +44,9 @@ fn row_at<R>(partitions: &Lists<R>, partition: usize, offset: usize) -> &R
 #[tactic(auto, using(crate::proofs::Appending::pushed_lists, crate::proofs::Appending::same_lists))]
 fn push_row<R: Drop>(partitions: &mut Lists<R>, partition: usize, row: R) -> Result<(), SourceFault>
     requires there { partition < length partitions.old.items }
-    ensures ok { OnOk result (lists_of partitions.new.items ≡ slice_set (lists_of partitions.old.items) partition (records_at (lists_of partitions.old.items) partition ++ row ∷ [])) }
+    ensures ok { OnOk result (lists_of partitions.new.items
+        ≡ slice_set (lists_of partitions.old.items) partition
+        (records_at (lists_of partitions.old.items) partition ++ row ∷ [])) }
     ensures err { OnErr result (lists_of partitions.new.items ≡ lists_of partitions.old.items) }
     ensures memory { IfErr result (λ f. f ≡ SourceFault.Memory) }
 {
@@ -79,7 +82,8 @@ impl<R: Codec> Rows<R> {
 
     /// How many records a partition has, if there is such a partition.
     pub(crate) fn len(&self, partition: usize) -> Option<usize>
-        ensures some { IfSome result (λ n. (partition < length self.now) × (n ≡ length (records_at self.now partition))) }
+        ensures some { IfSome result (λ n. (partition < length self.now)
+            × (n ≡ length (records_at self.now partition))) }
         ensures none { IfNone result (length self.now ≤ partition) }
     {
         match self.partitions.get(partition) {
@@ -92,7 +96,8 @@ impl<R: Codec> Rows<R> {
     pub(crate) fn copy(&self, partition: usize, offset: usize) -> Result<R, SourceFault>
         requires partition { partition < length self.now }
         requires offset { offset < length (records_at self.now partition) }
-        ensures ok { IfOk result (λ row. slice_get (records_at self.now partition) offset ≡ Some row) }
+        ensures ok { IfOk result (λ row. slice_get (records_at self.now partition)
+            offset ≡ Some row) }
         ensures fits { IfOk result (Fits R.HasSpelling R.spelling) }
         ensures memory { IfErr result (λ f. f ≡ SourceFault.Memory) }
     {
@@ -106,7 +111,8 @@ impl<R: Codec> Rows<R> {
     pub(crate) fn push(&mut self, partition: usize, row: R) -> Result<(), SourceFault>
         requires partition { partition < length self.old }
         requires fits { Fits R.HasSpelling R.spelling row }
-        ensures ok { OnOk result (self.new ≡ slice_set self.old partition (records_at self.old partition ++ row ∷ [])) }
+        ensures ok { OnOk result (self.new ≡ slice_set self.old partition
+            (records_at self.old partition ++ row ∷ [])) }
         ensures err { OnErr result (self.new ≡ self.old) }
         ensures memory { IfErr result (λ f. f ≡ SourceFault.Memory) }
     {

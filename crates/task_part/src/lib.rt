@@ -2,8 +2,9 @@
 //! Proved: a part has one spelling, by the law of `abs_codec`; a copy and logs that stand apart are
 //! spelled as the part that they make, and neither is copied for it.
 //!
-//! A source's part is its offset, an operator's its map from key to state, a sink's the numbers of the transactions that were pending
-//! when it copied. Operators and sinks add a log for each logged input (Carbone et al. 2015, graphs with back-edges).
+//! A source's part is its offset, an operator's its map from key to state, a sink's the numbers of
+//! the transactions that were pending when it copied. Operators and sinks add a log for each logged
+//! input (Carbone et al. 2015, graphs with back-edges).
 #![tactic(auto)]
 
 mod part;

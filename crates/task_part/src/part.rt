@@ -23,9 +23,11 @@ fn write_both<A: Codec, B: Codec>(
     second: &B,
     out: &mut Vec<u8>,
 ) -> Result<(), CodecFault>
-    ensures appended { OnOk result ((A.HasSpelling first.now × B.HasSpelling second.now) × (out.new.items ≡ out.old.items ++ (A.spelling first.now ++ B.spelling second.now))) }
+    ensures appended { OnOk result ((A.HasSpelling first.now × B.HasSpelling second.now)
+        × (out.new.items ≡ out.old.items ++ (A.spelling first.now ++ B.spelling second.now))) }
     ensures keeps { (more : List ℕ) × (out.new.items ≡ out.old.items ++ more) }
-    ensures too_long { IfErr result (λ f. f ≢ Memory → (f ≡ TooLong) × ¬ (A.HasSpelling first.now × B.HasSpelling second.now)) }
+    ensures too_long { IfErr result (λ f. f ≢ Memory → (f ≡ TooLong)
+        × ¬ (A.HasSpelling first.now × B.HasSpelling second.now)) }
 {
     first.write(out)?;
     second.write(out)
@@ -107,5 +109,6 @@ impl<R: Codec, K: Codec + Ord, S: Codec> Codec for Part<R, K, S> {
         }
     }
 
-    ghost code = { part_code R.HasSpelling R.spelling R.reading R.code K.Ord.cmp K.Ord.total K.HasSpelling K.spelling K.reading K.code S.HasSpelling S.spelling S.reading S.code };
+    ghost code = { part_code R.HasSpelling R.spelling R.reading R.code K.Ord.cmp K.Ord.total
+        K.HasSpelling K.spelling K.reading K.code S.HasSpelling S.spelling S.reading S.code };
 }

@@ -1,4 +1,5 @@
-//! The spelling of a part whose logs stand elsewhere: without a second copy of what was copied, or of a log.
+//! The spelling of a part whose logs stand elsewhere: without a second copy of what was copied, or
+//! of a log.
 
 ghost use Rattle.std.specs.Prelude.{◌≡◌, ◌≢◌, ◌<◌, ◌≤◌, ◌^◌, ℕ, List, ◌++◌, OnOk, IfErr};
 ghost use Rattle.std.specs.Int.{to_be_bytes, w32};
@@ -9,17 +10,21 @@ ghost use Rattle.task_part.specs.Spelling.{logs_spelling, LogsAreSpelled, logs_n
 use crate::part::Part;
 use abs_codec::{Codec, CodecFault};
 
-/// Appends the spelling of the part that a copy is with these logs, each the records of a channel; the copy's own logs are left out.
-/// After an `Err` some of it may be there.
+/// Appends the spelling of the part that a copy is with these logs, each the records of a channel;
+/// the copy's own logs are left out. After an `Err` some of it may be there.
 pub fn write_with_logs<R: Codec, K: Codec + Ord, S: Codec>(
     copy: &Part<R, K, S>,
     logs: &[(u32, &[R])],
     out: &mut Vec<u8>,
 ) -> Result<(), CodecFault>
-    ensures appended { OnOk result (PartIsSpelled R.HasSpelling K.Ord.cmp K.HasSpelling S.HasSpelling (with_logs (logs_now logs.now) copy.now)
-        × (out.new.items ≡ out.old.items ++ part_spelling R.spelling K.spelling S.spelling (with_logs (logs_now logs.now) copy.now))) }
+    ensures appended { OnOk result (PartIsSpelled R.HasSpelling K.Ord.cmp K.HasSpelling
+        S.HasSpelling (with_logs (logs_now logs.now) copy.now)
+        × (out.new.items ≡ out.old.items ++ part_spelling R.spelling K.spelling S.spelling
+        (with_logs (logs_now logs.now) copy.now))) }
     ensures keeps { (more : List ℕ) × (out.new.items ≡ out.old.items ++ more) }
-    ensures too_long { IfErr result (λ f. f ≢ Memory → (f ≡ TooLong) × ¬ PartIsSpelled R.HasSpelling K.Ord.cmp K.HasSpelling S.HasSpelling (with_logs (logs_now logs.now) copy.now)) }
+    ensures too_long { IfErr result (λ f. f ≢ Memory → (f ≡ TooLong)
+        × ¬ PartIsSpelled R.HasSpelling K.Ord.cmp K.HasSpelling S.HasSpelling
+        (with_logs (logs_now logs.now) copy.now)) }
 {
     match copy {
         Part::Source(_) => return copy.write(out),
@@ -37,9 +42,11 @@ pub fn write_with_logs<R: Codec, K: Codec + Ord, S: Codec>(
 
 /// Writes how many logs there are, and each with its channel.
 fn write_logs<R: Codec>(logs: &[(u32, &[R])], out: &mut Vec<u8>) -> Result<(), CodecFault>
-    ensures appended { OnOk result (LogsAreSpelled R.HasSpelling (logs_now logs.now) × (out.new.items ≡ out.old.items ++ logs_spelling R.spelling (logs_now logs.now))) }
+    ensures appended { OnOk result (LogsAreSpelled R.HasSpelling (logs_now logs.now)
+        × (out.new.items ≡ out.old.items ++ logs_spelling R.spelling (logs_now logs.now))) }
     ensures keeps { (more : List ℕ) × (out.new.items ≡ out.old.items ++ more) }
-    ensures too_long { IfErr result (λ f. f ≢ Memory → (f ≡ TooLong) × ¬ LogsAreSpelled R.HasSpelling (logs_now logs.now)) }
+    ensures too_long { IfErr result (λ f. f ≢ Memory → (f ≡ TooLong)
+        × ¬ LogsAreSpelled R.HasSpelling (logs_now logs.now)) }
 {
     write_count(logs.len(), out)?;
     for log in logs {
@@ -51,9 +58,11 @@ fn write_logs<R: Codec>(logs: &[(u32, &[R])], out: &mut Vec<u8>) -> Result<(), C
 
 /// Writes how many records there are, and the records.
 fn write_records<R: Codec>(records: &[R], out: &mut Vec<u8>) -> Result<(), CodecFault>
-    ensures appended { OnOk result (AreSpelled R.HasSpelling records.now × (out.new.items ≡ out.old.items ++ list_spelling R.spelling records.now)) }
+    ensures appended { OnOk result (AreSpelled R.HasSpelling records.now
+        × (out.new.items ≡ out.old.items ++ list_spelling R.spelling records.now)) }
     ensures keeps { (more : List ℕ) × (out.new.items ≡ out.old.items ++ more) }
-    ensures too_long { IfErr result (λ f. f ≢ Memory → (f ≡ TooLong) × ¬ AreSpelled R.HasSpelling records.now) }
+    ensures too_long { IfErr result (λ f. f ≢ Memory → (f ≡ TooLong)
+        × ¬ AreSpelled R.HasSpelling records.now) }
 {
     write_count(records.len(), out)?;
     for row in records {
@@ -64,7 +73,8 @@ fn write_records<R: Codec>(records: &[R], out: &mut Vec<u8>) -> Result<(), Codec
 
 /// Writes a count of at most 2^32 - 1.
 fn write_count(count: usize, out: &mut Vec<u8>) -> Result<(), CodecFault>
-    ensures appended { OnOk result ((count < 2 ^ 32) × (out.new.items ≡ out.old.items ++ to_be_bytes w32 count)) }
+    ensures appended { OnOk result ((count < 2 ^ 32)
+        × (out.new.items ≡ out.old.items ++ to_be_bytes w32 count)) }
     ensures keeps { (more : List ℕ) × (out.new.items ≡ out.old.items ++ more) }
     ensures too_long { IfErr result (λ f. f ≢ Memory → (f ≡ TooLong) × (2 ^ 32 ≤ count)) }
 {

@@ -1,4 +1,5 @@
-//! The core's calls, under their own names: each does what it does there, and adds nothing to the total.
+//! The core's calls, under their own names: each does what it does there, and adds nothing to the
+//! total.
 
 ghost use Rattle.std.specs.Prelude.{◌≡◌, ◌⊎◌, ◌≤◌, ◌<◌, IsTrue, IfOk, IfErr, OnOk, MatchOption, length, count_by, slice_get};
 ghost use Rattle.std.specs.Option.{option_map};
@@ -53,7 +54,8 @@ impl<
         self.core.fail()
     }
 
-    /// The next attempt runs from the last complete checkpoint, or anew, and all claims are dropped.
+    /// The next attempt runs from the last complete checkpoint, or anew, and all claims are
+    /// dropped.
     pub fn restart(&mut self) -> Result<Option<u64>, CoreFault>
         ensures ends { Restarts self.old.core.engine self.new.core.engine ⟦<O as Rules>⟧.lang
             ⟦<O as Rules>⟧.KeyFits ⟦<O as Rules>⟧.RecordFits ⟦<O as Rules>⟧.IsGood result }
@@ -71,7 +73,8 @@ impl<
 
     /// Source `task` sends its next record.
     pub fn read(&mut self, task: u32) -> Result<(), CoreFault>
-        ensures ends { Reads self.old.core.engine self.new.core.engine ⟦<O as Rules>⟧.lang task result }
+        ensures ends { Reads self.old.core.engine self.new.core.engine
+            ⟦<O as Rules>⟧.lang task result }
         ensures step { MakesStep self.old self.new ⟦<O as Rules>⟧.lang ⟦<O as Rules>⟧.RecordFits }
         ensures plain { StepsIfOk result ⟦<O as Rules>⟧.lang (machine.Read task)
             self.old.core.engine self.new.core.engine }
@@ -81,10 +84,11 @@ impl<
         self.core.read(task)
     }
 
-    /// A task claims the record at the head of its input. Its job is run with no lock held, and what
-    /// was done of it is handed in by `finish_with`.
+    /// A task claims the record at the head of its input. Its job is run with no lock held, and
+    /// what was done of it is handed in by `finish_with`.
     pub fn claim(&mut self, task: u32, input: u32) -> Result<Job<O>, CoreFault>
-        ensures ok { IfOk result (λ job. Claims self.old.core task input ⟦<O as Rules>⟧.lang self.new.core
+        ensures ok { IfOk result (λ job. Claims self.old.core task input
+            ⟦<O as Rules>⟧.lang self.new.core
             job.attempt job.serial job.work) }
         ensures err { IfErr result (λ fault. Refuses self.old.core task input fault
             × (self.new ≡ self.old)) }
@@ -128,7 +132,8 @@ impl<
 
     /// The part of a task that has copied is put in the store and acknowledged.
     pub fn persist(&mut self, task: u32) -> Result<(), CoreFault>
-        ensures ends { Persists self.old.core.engine self.new.core.engine ⟦<O as Rules>⟧.spelling task result }
+        ensures ends { Persists self.old.core.engine self.new.core.engine
+            ⟦<O as Rules>⟧.spelling task result }
         ensures step { MakesStep self.old self.new ⟦<O as Rules>⟧.lang ⟦<O as Rules>⟧.RecordFits }
         ensures stays { StaysPut self.old self.new ⟦<O as Rules>⟧.lang }
         ensures counted { CountsFaults self.old self.new result }
@@ -176,7 +181,8 @@ impl<
 
     /// How many records of a sink subtask are committed.
     pub fn committed_len(&self, subtask: u32) -> Result<u64, CoreFault>
-        ensures ok { IfOk result (λ len. (subtask < count_by is_sink self.now.core.engine.graph.tasks)
+        ensures ok { IfOk result (λ len. (subtask
+            < count_by is_sink self.now.core.engine.graph.tasks)
             × (len ≡ length (committed_rows self.now.core.engine.ledger subtask))) }
         ensures err { IfErr result (λ fault. (fault ≡ CoreFault.NoSuchTask)
             × (count_by is_sink self.now.core.engine.graph.tasks ≤ subtask)) }
@@ -186,7 +192,8 @@ impl<
 
     /// A copy of a committed record of a sink subtask, or `None` past the last.
     pub fn committed(&self, subtask: u32, number: u64) -> Result<Option<Vec<u8>>, CoreFault>
-        ensures ok { IfOk result (λ row. (subtask < count_by is_sink self.now.core.engine.graph.tasks)
+        ensures ok { IfOk result (λ row. (subtask
+            < count_by is_sink self.now.core.engine.graph.tasks)
             × (option_map (λ bytes. bytes.items) row
             ≡ slice_get (committed_rows self.now.core.engine.ledger subtask) number)) }
         ensures err { IfErr result (λ fault.

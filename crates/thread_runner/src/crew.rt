@@ -85,7 +85,8 @@ impl<L: Ledger> Worker<L> {
         }
     }
 
-    /// Runs a task's job with no lock held, and hands in what was done of it. Whether the job was short.
+    /// Runs a task's job with no lock held, and hands in what was done of it. Whether the job was
+    /// short.
     fn run_job<
         O: Operator,
         S: SnapshotStore + Drop,
@@ -130,9 +131,10 @@ impl<L: Ledger> Worker<L> {
     }
 }
 
-/// Takes the job to rest, by so many workers, and says how many jobs were finished. A job that is down
-/// is restarted first. A checkpoint is triggered after every so many finishes (0: none but the last),
-/// and a last one is committed. Where it is refused otherwise than for its workers, the job is down.
+/// Takes the job to rest, by so many workers, and says how many jobs were finished. A job that is
+/// down is restarted first. A checkpoint is triggered after every so many finishes (0: none but the
+/// last), and a last one is committed. Where it is refused otherwise than for its workers, the job
+/// is down.
 pub fn run<
     O: Operator + Send,
     S: SnapshotStore + Drop + Send,

@@ -9,11 +9,12 @@ const YIELDS: u32 = 16;
 /// No wait is longer than 1 microsecond, doubled so often: about a millisecond.
 const LONGEST: u32 = 10;
 
-/// The first rest is as long, and no rest is longer than that, doubled so often: about 8 milliseconds.
+/// The first rest is as long, and no rest is longer than that, doubled so often: about 8
+/// milliseconds.
 const RESTS: u32 = 3;
 
-/// A job that takes so many nanoseconds is worth a worker of its own. The rest of a step is done under
-/// the lock, so a second worker with shorter jobs takes from the first what it does itself.
+/// A job that takes so many nanoseconds is worth a worker of its own. The rest of a step is done
+/// under the lock, so a second worker with shorter jobs takes from the first what it does itself.
 const WORTH: u128 = 20_000;
 
 /// After so many short steps in a row a worker rests.
@@ -65,8 +66,8 @@ impl Patience {
         self.waits = self.waits.saturating_add(1).min(YIELDS + LONGEST);
     }
 
-    /// A step was made, which was short or not. Whether the worker wants to rest: where all its steps
-    /// are short, and others make steps too.
+    /// A step was made, which was short or not. Whether the worker wants to rest: where all its
+    /// steps are short, and others make steps too.
     pub(crate) fn is_tired(&mut self, is_short: bool) -> bool {
         self.waits /= 2;
         if !is_short {

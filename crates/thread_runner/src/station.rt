@@ -68,7 +68,8 @@ impl<
     P: Partitions<Record = O::Record>,
     L: Ledger,
 > Station<O, S, X, P, L> {
-    /// A station over this core, whose graph's schedule this is, and the share with the whole ledger.
+    /// A station over this core, whose graph's schedule this is, and the share with the whole
+    /// ledger.
     pub fn new(
         core: Core<O, S, X, P>,
         schedule: Schedule,
@@ -97,15 +98,20 @@ impl<
         core
     }
 
-    /// Takes what was done of a job, as the core's own `finish` does, and adds one to the share and the
-    /// book where it is taken.
+    /// Takes what was done of a job, as the core's own `finish` does, and adds one to the share and
+    /// the book where it is taken.
     pub fn finish_with(&mut self, share: &mut Share<L>, done: Done<O>) -> Result<(), CoreFault>
         requires { 0 < share.old.parts }
-        ensures ends { EndsFinish self.old.core ⟦<O as Rules>⟧.lang self.new.core done.attempt done.serial done.worked result }
-        ensures step { IsStep ⟦<O as Rules>⟧.lang ⟦<O as Rules>⟧.RecordFits self.old.core.engine self.new.core.engine }
-        ensures plain { FinishMoves self.old.core ⟦<O as Rules>⟧.lang self.new.core done.attempt done.serial result }
-        ensures total { MatchResult result (λ _. self.new.total ≡ self.old.total + 1) (λ _. self.new.total ≡ self.old.total) }
-        ensures amount { MatchResult result (λ _. share.new.amount ≡ share.old.amount + 1) (λ _. share.new.amount ≡ share.old.amount) }
+        ensures ends { EndsFinish self.old.core ⟦<O as Rules>⟧.lang self.new.core done.attempt
+            done.serial done.worked result }
+        ensures step { IsStep ⟦<O as Rules>⟧.lang ⟦<O as Rules>⟧.RecordFits self.old.core.engine
+            self.new.core.engine }
+        ensures plain { FinishMoves self.old.core ⟦<O as Rules>⟧.lang self.new.core done.attempt
+            done.serial result }
+        ensures total { MatchResult result (λ _. self.new.total ≡ self.old.total + 1)
+            (λ _. self.new.total ≡ self.old.total) }
+        ensures amount { MatchResult result (λ _. share.new.amount ≡ share.old.amount + 1)
+            (λ _. share.new.amount ≡ share.old.amount) }
         ensures bound { share.new.amount < 2 ^ 64 }
         ensures parts { share.new.parts ≡ share.old.parts }
     {
@@ -153,18 +159,20 @@ impl<
         self.turns.wakes();
     }
 
-    /// Counts the turn of a worker that waits with its job. False where the run is over, or no turn is left.
+    /// Counts the turn of a worker that waits with its job. False where the run is over, or no turn
+    /// is left.
     pub(crate) fn wait(&mut self) -> bool
         ensures { self.new ≡ self.old }
     {
         self.turns.wait()
     }
 
-    /// One turn: what a worker does next, and how many turns are left. Every step but a task's work is
-    /// made here.
+    /// One turn: what a worker does next, and how many turns are left. Every step but a task's work
+    /// is made here.
     pub(crate) fn choose(&mut self) -> (Next<O>, u64)
         ensures total { self.new.total ≡ self.old.total }
-        ensures step { Preserves ⟦<O as Rules>⟧.lang ⟦<O as Rules>⟧.RecordFits self.old.core.engine self.new.core.engine }
+        ensures step { Preserves ⟦<O as Rules>⟧.lang ⟦<O as Rules>⟧.RecordFits self.old.core.engine
+            self.new.core.engine }
     {
         let Station { core, turns, .. } = self;
         let next = take_turn(core, turns);
@@ -206,9 +214,12 @@ fn finish<O: Operator, S: SnapshotStore, X: Transactions, P: Partitions<Record =
     core: &mut Core<O, S, X, P>,
     done: Done<O>,
 ) -> Result<(), CoreFault>
-    ensures ends { EndsFinish core.old ⟦<O as Rules>⟧.lang core.new done.attempt done.serial done.worked result }
-    ensures step { IsStep ⟦<O as Rules>⟧.lang ⟦<O as Rules>⟧.RecordFits core.old.engine core.new.engine }
-    ensures plain { FinishMoves core.old ⟦<O as Rules>⟧.lang core.new done.attempt done.serial result }
+    ensures ends { EndsFinish core.old ⟦<O as Rules>⟧.lang core.new done.attempt done.serial
+        done.worked result }
+    ensures step { IsStep ⟦<O as Rules>⟧.lang ⟦<O as Rules>⟧.RecordFits core.old.engine
+        core.new.engine }
+    ensures plain { FinishMoves core.old ⟦<O as Rules>⟧.lang core.new done.attempt
+        done.serial result }
     ensures claims { EndsAClaim core.old core.new result }
 {
     core.finish(done)
@@ -220,7 +231,8 @@ fn take_turn<O: Operator, S: SnapshotStore, X: Transactions, P: Partitions<Recor
     turns: &mut Turns,
 ) -> Next<O>
     ensures once { ClaimsOnce core.old core.new }
-    ensures step { Preserves ⟦<O as Rules>⟧.lang ⟦<O as Rules>⟧.RecordFits core.old.engine core.new.engine }
+    ensures step { Preserves ⟦<O as Rules>⟧.lang ⟦<O as Rules>⟧.RecordFits core.old.engine
+        core.new.engine }
 {
     match turns.choose() {
         Step::Over => Next::Over,
@@ -241,7 +253,8 @@ fn claim<O: Operator, S: SnapshotStore, X: Transactions, P: Partitions<Record = 
     place: Place,
 ) -> Next<O>
     ensures once { ClaimsOnce core.old core.new }
-    ensures step { Preserves ⟦<O as Rules>⟧.lang ⟦<O as Rules>⟧.RecordFits core.old.engine core.new.engine }
+    ensures step { Preserves ⟦<O as Rules>⟧.lang ⟦<O as Rules>⟧.RecordFits core.old.engine
+        core.new.engine }
 {
     match core.claim(place.task, place.input) {
         Ok(job) => {
@@ -266,7 +279,8 @@ fn make<O: Operator, S: SnapshotStore, X: Transactions, P: Partitions<Record = O
     step: Step,
 ) -> Result<(), CoreFault>
     ensures once { ClaimsOnce core.old core.new }
-    ensures step { Preserves ⟦<O as Rules>⟧.lang ⟦<O as Rules>⟧.RecordFits core.old.engine core.new.engine }
+    ensures step { Preserves ⟦<O as Rules>⟧.lang ⟦<O as Rules>⟧.RecordFits core.old.engine
+        core.new.engine }
 {
     match step {
         Step::Restart => restart(core),
@@ -285,7 +299,8 @@ fn restart<O: Operator, S: SnapshotStore, X: Transactions, P: Partitions<Record 
     core: &mut Core<O, S, X, P>,
 ) -> Result<(), CoreFault>
     ensures once { ClaimsOnce core.old core.new }
-    ensures step { Preserves ⟦<O as Rules>⟧.lang ⟦<O as Rules>⟧.RecordFits core.old.engine core.new.engine }
+    ensures step { Preserves ⟦<O as Rules>⟧.lang ⟦<O as Rules>⟧.RecordFits core.old.engine
+        core.new.engine }
 {
     core.restart()?;
     Ok(())

@@ -1,4 +1,5 @@
-//! What chains and picks make of their operators, and how lanes and states are spelled. What each kind makes of rows stands in tests/scripts.
+//! What chains and picks make of their operators, and how lanes and states are spelled. What each
+//! kind makes of rows stands in tests/scripts.
 
 use abs_codec::{Codec, Items, NoMemory, Text};
 use composed_operators::{Chain, KeylessRowOp, Pick};
@@ -28,7 +29,8 @@ fn outcome_of<O: Operator>(
     op.apply(alloc, state, item)
 }
 
-/// Works off a row of the key, adds the ports and values that the operator sends for it, and gives the key's next state.
+/// Works off a row of the key, adds the ports and values that the operator sends for it, and gives
+/// the key's next state.
 fn work_off<O: Operator<Record = Row>>(
     rt: &impl Abort,
     alloc: Global,

@@ -1,4 +1,5 @@
-//! The gate against its table: all marks of up to four inputs, and all orders in which their barriers come.
+//! The gate against its table: all marks of up to four inputs, and all orders in which their
+//! barriers come.
 
 ghost use Rattle.std.specs.Prelude.{◌≡◌, ◌<◌, ◌≤◌, length, true};
 ghost use Rattle.alignment.specs.Table.{IsFor};
@@ -19,7 +20,8 @@ fn has_copied(marks: &[bool], came: &[u32]) -> bool {
     marks.contains(&false) && !misses(marks, came, false)
 }
 
-/// What the table says of a barrier: its input's mark, the inputs whose barriers came before it, and these with its own.
+/// What the table says of a barrier: its input's mark, the inputs whose barriers came before it,
+/// and these with its own.
 fn effect_by_table(marks: &[bool], is_marked: bool, before: &[u32], came: &[u32]) -> Effect {
     let marked_missing = misses(marks, came, true);
     if is_marked {
@@ -60,7 +62,8 @@ fn agree<T: Copy + Debug + PartialEq>(
     assert_eq!(rt; told, wanted, "marks {marks:?}, came {came:?}");
 }
 
-/// Compares all that a gate tells with the definition, once these inputs' barriers of the number came.
+/// Compares all that a gate tells with the definition, once these inputs' barriers of the number
+/// came.
 fn compare(rt: &impl Abort, gate: &Gate, marks: &[bool], came: &[u32], number: u64)
     requires { length marks.now ≡ length gate.now.inputs }
 {
@@ -117,7 +120,8 @@ fn go_round(rt: &impl Abort, gate: &mut Gate, marks: &[bool], order: &[u32], num
     }
 }
 
-/// Takes a new gate through two rounds, or through one where it has no unmarked input and so is never at rest again.
+/// Takes a new gate through two rounds, or through one where it has no unmarked input and so is
+/// never at rest again.
 fn go_twice(rt: &impl Abort, alloc: Global, marks: &[bool], order: &[u32]) -> Result<(), Fail> {
     assert_eq!(rt; order.len(), marks.len());
     let mut gate = Gate::new(alloc, marks)?;

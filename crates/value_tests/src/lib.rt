@@ -1,5 +1,5 @@
-//! Tests of values and of what is made of them: spellings and their faults, the gate against its table, a map and its frozen copy, chains and
-//! picks of operators, lanes and states.
+//! Tests of values and of what is made of them: spellings and their faults, the gate against its
+//! table, a map and its frozen copy, chains and picks of operators, lanes and states.
 #![tactic(auto)]
 
 #[cfg(test)]

@@ -152,7 +152,8 @@ fn a_text_gives_its_string(rt: HostRuntime) -> Result<(), Fail> {
     Ok(())
 }
 
-/// A map that is frozen, written and merged, beside two plain ones: what is seen, and what is frozen.
+/// A map that is frozen, written and merged, beside two plain ones: what is seen, and what is
+/// frozen.
 #[derive(Drop)]
 struct Beside {
     states: KeyedState<u64, u64>,
