@@ -1,3 +1,4 @@
 pub mod Idle
+pub mod Settled
 pub mod Turns
 pub mod Works
