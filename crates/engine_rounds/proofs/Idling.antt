@@ -145,3 +145,22 @@ module _ {R K S O : Type 0} (s : State O R K S) (task : ℕ) where
         source = λ partition offset is at. absurd (none-some (role.Source partition) (sym none ∙ is));
         inputs = λ input channel works. absurd (subst IsWorker none works.0);
       }) running
+
+  -- none of the channels into the task has a record
+  pub without_input : (count : ℕ) → length (inputs_of s.graph task) ≤ count → ((k number : ℕ) → k < count → slice_get (inputs_of s.graph task) k ≡ Some number → MatchOption s.held ⊥ (λ h. HasHead h number) → ⊥)
+      → MatchOption s.held ⊥ (λ h. HasInput s.graph h task) → ⊥
+  without_input count whole none has = of s.held refl has
+    where
+      of : (o : Option (Held R K S)) → s.held ≡ o → MatchOption o ⊥ (λ h. HasInput s.graph h task) → ⊥
+      of None down has = has
+      of (Some h) was has =
+          let within : has.0 < length (inputs_of s.graph task) = slice_get_within (inputs_of s.graph task) has.0 has.1 has.2.1 in
+          none has.0 has.1 (omega (arith, within, whole)) has.2.1 (subst (λ (o : Option (Held R K S)). MatchOption o ⊥ (λ x. HasHead x has.1)) (sym was) has.3)
+
+  -- so it is idle
+  pub idle_without : IsWorker (slice_get s.graph.tasks task) → s.held ≢ None → (MatchOption s.held ⊥ (λ h. HasInput s.graph h task) → ⊥) → IsIdleIn s task
+  idle_without worker running none =
+      idle_in (λ h was. record {
+        source = λ partition offset is at. absurd (subst IsWorker is worker);
+        inputs = λ input channel works. inr (λ row first. none (subst (λ (o : Option (Held R K S)). MatchOption o ⊥ (λ x. HasInput s.graph x task)) (sym was) (input, channel, works, row, first)));
+      }) running

@@ -41,6 +41,12 @@ module _ {R K S O : Type 0} (lang : Language R K S O) (RecordFits : R → Type 0
   EndsWorkAt task input (Ok false) = HasNothingIn old task input × (new ≡ old)
   EndsWorkAt task input (Err fault) = Works lang RecordFits [] old new × Stops fault
 
+  -- A turn that makes a step is counted: so many are left before and after.
+  abbrev pub EndsCounted : (task before after : ℕ) → Result Unit CoreFault → Type 0
+  EndsCounted task before after (Ok u) =
+      ((moves : List Move) × (length moves + after ≡ before) × Made moves) × (after ≡ before → IsIdleIn old task × (new ≡ old))
+  EndsCounted task before after (Err fault) = Works lang RecordFits [] old new × Stops fault × (after ≡ before)
+
   -- Each task has its turn, in the order of their numbers, while turns are left; so many are left afterwards. Where no task made a step, none has one.
   abbrev pub EndsRound : (before after : ℕ) → Result Bool CoreFault → Type 0
   EndsRound before after (Ok true) = (moves : List Move) × (length moves + after ≡ before) × (after < before) × Made moves

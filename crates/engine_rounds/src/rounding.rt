@@ -7,7 +7,7 @@ ghost use Rattle.core_model.specs.Sound.{IsSound};
 ghost use Rattle.engine.specs.Readers.{pending_in};
 ghost use Rattle.engine.specs.Running.{IsCounted};
 ghost use Rattle.engine_rounds.specs.Idle.{AreIdle};
-ghost use Rattle.engine_rounds.specs.Turns.{EndsRound, EndsRounds};
+ghost use Rattle.engine_rounds.specs.Turns.{EndsCounted, EndsRound, EndsRounds};
 ghost use Rattle.engine_rounds.specs.Works.{CanMove, IsResting};
 
 use crate::ending::Drained;
@@ -18,6 +18,28 @@ use operators::Operator;
 use snapshot_store::SnapshotStore;
 use source_log::Partitions;
 use std::alloc::Global;
+
+/// A task's turn, which is counted where it makes a step.
+fn take_turn<O: Operator, S: SnapshotStore, X: Transactions, P: Partitions<Record = O::Record>>(
+    engine: &mut Engine<O, S, X, P>,
+    alloc: Global,
+    task: u32,
+    left: &mut u64,
+) -> Result<(), CoreFault>
+    requires running { engine.old.held ≢ None }
+    requires some { 0 < left.old }
+    ensures ends { EndsCounted (language O.meaning O.Key.cmp O.Record.spelling O.Record.reading O.Key.reading O.State.reading) (Fits O.Record.HasSpelling O.Record.spelling) engine.old engine.new task left.old left.new result }
+    ensures counted { IsCounted engine.old.faults engine.new.faults result }
+{
+    match turn(engine, alloc, task) {
+        Ok(true) => {
+            *left -= 1;
+            Ok(())
+        }
+        Ok(false) => Ok(()),
+        Err(fault) => Err(fault),
+    }
+}
 
 /// Each task has its turn, in the order of their numbers, while turns are left. Whether one made a step.
 fn round<O: Operator, S: SnapshotStore, X: Transactions, P: Partitions<Record = O::Record>>(
@@ -36,13 +58,15 @@ fn round<O: Operator, S: SnapshotStore, X: Transactions, P: Partitions<Record = 
         if *left == 0 {
             return Ok(true);
         }
-        match turn(engine, alloc, task) {
-            Ok(true) => *left -= 1,
-            Ok(false) => {}
+        match take_turn(engine, alloc, task, left) {
+            Ok(()) => {}
             Err(fault) => return Err(fault),
         }
     }
-    Ok(*left < before)
+    if *left < before {
+        return Ok(true);
+    }
+    Ok(false)
 }
 
 /// Whether some task has a step to make. It makes none.

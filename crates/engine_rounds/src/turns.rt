@@ -109,7 +109,8 @@ fn has_input<O: Operator, S: SnapshotStore, X: Transactions, P: Partitions<Recor
 ) -> bool
     requires worker { IsWorker (slice_get engine.now.graph.tasks task) }
     requires running { engine.now.held ≢ None }
-    ensures { IsTrue result ↔ MatchOption engine.now.held ⊥ (λ h. HasInput engine.now.graph h task) }
+    ensures some { IsTrue result ↔ MatchOption engine.now.held ⊥ (λ h. HasInput engine.now.graph h task) }
+    ensures none { result ≡ false → IsIdleIn engine.now task }
 {
     for channel in engine.graph().inputs(task) {
         if engine.has_head(*channel) {
