@@ -37,6 +37,18 @@ pub(crate) fn expect_answers(
     Ok(())
 }
 
+/// The devices of a job after these steps.
+pub(crate) fn devices_after(
+    rt: &impl Abort,
+    alloc: Global,
+    job: &str,
+    steps: &[(&str, &str)],
+) -> Result<Devices, Fail> {
+    let mut core = opened(alloc, job)?;
+    expect_answers(rt, alloc, &mut core, steps)?;
+    core.into_devices(alloc)
+}
+
 /// A committed row of a sink subtask.
 fn committed_row(alloc: Global, core: &TestCore, sink: u32, number: u64) -> Result<String, Fail> {
     let Some(record) = core.committed(sink, number)? else {

@@ -1,6 +1,6 @@
 //! Cores over devices that were used before.
 
-use crate::cores::{expect_answers, opened};
+use crate::cores::{devices_after, expect_answers};
 use crate::devices::Devices;
 use crate::jobs::{LINE, expanded};
 use crate::lists::{almost_spent, store_of_lists};
@@ -34,9 +34,7 @@ const FIRST_CHECKPOINT: [(&str, &str); 13] = [
 
 /// The devices of a line that has worked one row and completed checkpoint 1, and has not committed.
 fn used(rt: &impl Abort, alloc: Global) -> Result<Devices, Fail> {
-    let mut core = opened(alloc, LINE)?;
-    expect_answers(rt, alloc, &mut core, &FIRST_CHECKPOINT)?;
-    core.into_devices(alloc)
+    devices_after(rt, alloc, LINE, &FIRST_CHECKPOINT)
 }
 
 /// A core that is opened over such devices goes on from them.
@@ -47,16 +45,18 @@ fn a_core_goes_on_from_the_devices_of_another(rt: HostRuntime) -> Result<(), Fai
     expect_commit(&rt, rt.alloc(), &mut core)
 }
 
-/// Whether the core is fresh, and how many rows it has committed.
-fn told(core: &TestCore) -> Result<(bool, u64), Fail> {
-    Ok((core.is_fresh(), core.committed_len(0)?))
+/// The core was used, and has committed so many rows.
+fn expect_told(rt: &impl Abort, core: &TestCore, rows: u64) -> Result<(), Fail> {
+    assert!(rt; !core.is_fresh());
+    assert_eq!(rt; core.committed_len(0)?, rows);
+    Ok(())
 }
 
 /// The restart commits the row of checkpoint 1, and there is none behind it.
 fn expect_commit(rt: &impl Abort, alloc: Global, core: &mut TestCore) -> Result<(), Fail> {
-    assert_eq!(rt; told(core)?, (false, 0));
+    expect_told(rt, core, 0)?;
     expect_answers(rt, alloc, core, &[("restart", "ok 1")])?;
-    assert_eq!(rt; told(core)?, (false, 1));
+    expect_told(rt, core, 1)?;
     expect_answers(rt, alloc, core, &[("read 0", "K3 NotReady")])
 }
 

@@ -1,8 +1,9 @@
 //! Tests over the core: lists of calls, cores over the devices of another, over damaged ones and
 //! over ones whose numbers are spent, parts of checkpoints byte by byte, copies and outputs that
 //! fail, and the texts of the core's faults. What scripts alone can say stands in tests/. Tests own
-//! a core and its devices as a `TestCore` and as `Devices`, of which contracts see nothing: a test
-//! that owns them at their own types would prove the whole of them let go at each early end.
+//! a core and its devices as a `TestCore` and as `Devices`, of which contracts see nothing, and which
+//! hold a box: what lets a box go is one call, proved once. A test that owns them at their own types
+//! would prove the whole of them let go at each early end.
 #![tactic(auto)]
 
 #[cfg(test)]

@@ -1,6 +1,6 @@
 //! The parts of a checkpoint, as they stand in the store.
 
-use crate::cores::{expect_answers, opened};
+use crate::cores::devices_after;
 use crate::devices::Devices;
 use crate::jobs::{COUNT, EARLY, LINE, LONG_LOOP};
 use snapshot_store::StoreFault;
@@ -37,18 +37,6 @@ const CHECKPOINTS: [(&str, &str); 18] = [
     ("complete", "ok 2"),
     ("trigger", "ok 3"),
 ];
-
-/// The devices of a job after these steps.
-fn devices_after(
-    rt: &impl Abort,
-    alloc: Global,
-    job: &str,
-    steps: &[(&str, &str)],
-) -> Result<Devices, Fail> {
-    let mut core = opened(alloc, job)?;
-    expect_answers(rt, alloc, &mut core, steps)?;
-    core.into_devices(alloc)
-}
 
 fn expect_part(rt: &impl Abort, devices: &mut Devices, task: u32, part: &[u8]) -> Result<(), Fail> {
     assert_eq!(rt; devices.part(1, task)?.as_slice(), part);
@@ -108,90 +96,96 @@ fn expect_part_after(
     expect_part(rt, &mut devices, task, part)
 }
 
+/// A row of each source before its barrier, and one of the first behind it.
+const COUNTED: [(&str, &str); 23] = [
+    ("append 0 1 a", "ok"),
+    ("append 0 2 a", "ok"),
+    ("append 1 5 a", "ok"),
+    ("restart", "ok 0"),
+    ("read 0", "ok"),
+    ("trigger", "ok 1"),
+    ("inject 0", "ok"),
+    ("read 0", "ok"),
+    ("work 2 0", "ok"),
+    ("barrier 2 0", "ok blocked"),
+    ("read 1", "ok"),
+    ("work 2 1", "ok"),
+    ("inject 1", "ok"),
+    ("barrier 2 1", "ok copy-done"),
+    ("work 2 0", "ok"),
+    ("work 3 0", "ok"),
+    ("work 3 0", "ok"),
+    ("barrier 3 0", "ok copy-done"),
+    ("persist 0", "ok"),
+    ("persist 1", "ok"),
+    ("persist 2", "ok"),
+    ("persist 3", "ok"),
+    ("complete", "ok 1"),
+];
+
 /// The operator that counts has counted one row of each input, and not the one behind the barrier.
 #[test]
 fn a_part_has_what_came_before_the_barriers(rt: HostRuntime) -> Result<(), Fail> {
-    let steps = [
-        ("append 0 1 a", "ok"),
-        ("append 0 2 a", "ok"),
-        ("append 1 5 a", "ok"),
-        ("restart", "ok 0"),
-        ("read 0", "ok"),
-        ("trigger", "ok 1"),
-        ("inject 0", "ok"),
-        ("read 0", "ok"),
-        ("work 2 0", "ok"),
-        ("barrier 2 0", "ok blocked"),
-        ("read 1", "ok"),
-        ("work 2 1", "ok"),
-        ("inject 1", "ok"),
-        ("barrier 2 1", "ok copy-done"),
-        ("work 2 0", "ok"),
-        ("work 3 0", "ok"),
-        ("work 3 0", "ok"),
-        ("barrier 3 0", "ok copy-done"),
-        ("persist 0", "ok"),
-        ("persist 1", "ok"),
-        ("persist 2", "ok"),
-        ("persist 3", "ok"),
-        ("complete", "ok 1"),
-    ];
     let part: &[u8] = &[
         1, 0, 0, 0, 1, 0, 0, 0, 1, 0x61, 1, 0, 0, 0, 0, 0, 0, 0, 2, 0, 0, 0, 0,
     ];
-    expect_part_after(&rt, rt.alloc(), COUNT, &steps, 2, part)
+    expect_part_after(&rt, rt.alloc(), COUNT, &COUNTED, 2, part)
 }
+
+/// A row goes round between the copy and the barrier of the back-edge.
+const ROUND: [(&str, &str); 17] = [
+    ("append 0 3 x", "ok"),
+    ("restart", "ok 0"),
+    ("read 0", "ok"),
+    ("work 1 0", "ok"),
+    ("work 2 0", "ok"),
+    ("trigger", "ok 1"),
+    ("inject 0", "ok"),
+    ("barrier 1 0", "ok copy"),
+    ("work 1 1", "ok"),
+    ("barrier 2 0", "ok copy-done"),
+    ("barrier 1 1", "ok done"),
+    ("barrier 3 0", "ok copy-done"),
+    ("persist 0", "ok"),
+    ("persist 1", "ok"),
+    ("persist 2", "ok"),
+    ("persist 3", "ok"),
+    ("complete", "ok 1"),
+];
 
 /// The row that went round between the copy and the barrier stands in the log of channel 2.
 #[test]
 fn a_part_has_what_went_round(rt: HostRuntime) -> Result<(), Fail> {
-    let steps = [
-        ("append 0 3 x", "ok"),
-        ("restart", "ok 0"),
-        ("read 0", "ok"),
-        ("work 1 0", "ok"),
-        ("work 2 0", "ok"),
-        ("trigger", "ok 1"),
-        ("inject 0", "ok"),
-        ("barrier 1 0", "ok copy"),
-        ("work 1 1", "ok"),
-        ("barrier 2 0", "ok copy-done"),
-        ("barrier 1 1", "ok done"),
-        ("barrier 3 0", "ok copy-done"),
-        ("persist 0", "ok"),
-        ("persist 1", "ok"),
-        ("persist 2", "ok"),
-        ("persist 3", "ok"),
-        ("complete", "ok 1"),
-    ];
     let part: &[u8] = &[
         1, 0, 0, 0, 0, 0, 0, 0, 1, 0, 0, 0, 2, 0, 0, 0, 1, 0, 0, 0, 1, 0x78, 0, 0, 0, 0, 0, 0, 0, 2,
     ];
-    expect_part_after(&rt, rt.alloc(), LONG_LOOP, &steps, 1, part)
+    expect_part_after(&rt, rt.alloc(), LONG_LOOP, &ROUND, 1, part)
 }
+
+/// The barrier of a back-edge comes before that of the other input.
+const EARLY_BARRIER: [(&str, &str); 17] = [
+    ("append 0 1 k", "ok"),
+    ("restart", "ok 0"),
+    ("trigger", "ok 1"),
+    ("inject 0", "ok"),
+    ("barrier 1 0", "ok copy-done"),
+    ("read 0", "ok"),
+    ("work 1 0", "ok"),
+    ("barrier 2 1", "ok blocked"),
+    ("barrier 2 0", "ok copy-done"),
+    ("work 2 1", "ok"),
+    ("work 2 0", "ok"),
+    ("barrier 3 0", "ok copy-done"),
+    ("persist 0", "ok"),
+    ("persist 1", "ok"),
+    ("persist 2", "ok"),
+    ("persist 3", "ok"),
+    ("complete", "ok 1"),
+];
 
 /// The log of a back-edge whose barrier came early is empty, and stands in the part.
 #[test]
 fn an_early_barrier_leaves_an_empty_log(rt: HostRuntime) -> Result<(), Fail> {
-    let steps = [
-        ("append 0 1 k", "ok"),
-        ("restart", "ok 0"),
-        ("trigger", "ok 1"),
-        ("inject 0", "ok"),
-        ("barrier 1 0", "ok copy-done"),
-        ("read 0", "ok"),
-        ("work 1 0", "ok"),
-        ("barrier 2 1", "ok blocked"),
-        ("barrier 2 0", "ok copy-done"),
-        ("work 2 1", "ok"),
-        ("work 2 0", "ok"),
-        ("barrier 3 0", "ok copy-done"),
-        ("persist 0", "ok"),
-        ("persist 1", "ok"),
-        ("persist 2", "ok"),
-        ("persist 3", "ok"),
-        ("complete", "ok 1"),
-    ];
     let part: &[u8] = &[1, 0, 0, 0, 0, 0, 0, 0, 1, 0, 0, 0, 2, 0, 0, 0, 0];
-    expect_part_after(&rt, rt.alloc(), EARLY, &steps, 2, part)
+    expect_part_after(&rt, rt.alloc(), EARLY, &EARLY_BARRIER, 2, part)
 }

@@ -5,7 +5,7 @@ ghost use Rattle.dataflow_core.specs.Runs.{StepFits};
 
 use crate::devices::{Devices, Durable, boxed};
 use crate::jobs::expanded;
-use absflow_run::{Answer, CommittedRows, make_step};
+use absflow_run::{Answer, CommittedRows, RowCore, make_step};
 use commit_sink::{FlakyTransactions, MemoryTransactions, Transactions};
 use dataflow_core::{Core, CoreFault, Desk, Reply, Rules, Step};
 use job_graph::Graph;
@@ -57,15 +57,21 @@ fn open_over<
     devices: Durable<P, S, X>,
 ) -> Result<Box<Held<O, S, X, P>>, Fail> {
     let Durable { log, store, sinks } = devices;
-    if operators.len() != graph.operators() as usize || log.count() != graph.sources() {
-        return Err(Fail::new("another log than the job's"));
-    }
-    if store.tasks() != graph.tasks() || sinks.subtasks() != graph.sinks() {
+    if operators.len() != graph.operators() as usize
+        || log.count() != graph.sources()
+        || store.tasks() != graph.tasks()
+        || sinks.subtasks() != graph.sinks()
+    {
         return Err(Fail::new("other devices than the job's"));
     }
     let core = Core::open(alloc, graph, operators, log, store, sinks);
     let desk = Desk::new(alloc);
     boxed(alloc, Held { core, desk })
+}
+
+/// Makes a script's step. Its callers see nothing of what it does.
+fn made(core: &mut RowCore, desk: &mut Desk<RowOp>, step: ScriptStep) -> Answer {
+    make_step(core, desk, step)
 }
 
 /// Makes the calls.
@@ -127,7 +133,7 @@ impl TestCore {
     /// Makes a script's step.
     pub(crate) fn make(&mut self, step: ScriptStep) -> Answer {
         let Held { core, desk } = &mut *self.held;
-        make_step(core, desk, step)
+        made(core, desk, step)
     }
 
     /// Makes the calls.
