@@ -27,6 +27,20 @@ fn outcome_of<O: Operator>(
     op.apply(alloc, state, item)
 }
 
+/// Adds the ports and values of what an operator sends.
+fn add_sent<O: Operator<Record = Row>>(
+    rt: &impl Abort,
+    op: &O,
+    outs: &[(u32, Row)],
+    sent: &mut Vec<(u32, i64)>,
+) -> Result<(), NoMemory> {
+    for (port, out) in outs {
+        assert!(rt; *port < op.ports());
+        sent.push((*port, out.v))?;
+    }
+    Ok(())
+}
+
 /// Works off a row of the key, adds the ports and values that the operator sends for it, and gives the key's next state.
 fn work_off<O: Operator<Record = Row>>(
     rt: &impl Abort,
@@ -37,12 +51,9 @@ fn work_off<O: Operator<Record = Row>>(
     sent: &mut Vec<(u32, i64)>,
 ) -> Result<O::State, NoMemory> {
     let item = row(alloc, "a", v)?;
-    let outcome = outcome_of(rt, alloc, op, state, &item)?;
-    for (port, out) in &outcome.sent {
-        assert!(rt; *port < op.ports());
-        sent.push((*port, out.v))?;
-    }
-    Ok(outcome.state)
+    let Outcome { state, sent: outs } = outcome_of(rt, alloc, op, state, &item)?;
+    add_sent(rt, op, &outs, sent)?;
+    Ok(state)
 }
 
 /// The ports and values that an operator sends for rows of one key, one after another.
@@ -139,6 +150,14 @@ fn a_pick_is_the_one_that_was_picked(rt: HostRuntime) -> Result<(), Fail> {
     expect_picks(&rt, rt.alloc(), &first, &second)
 }
 
+/// The bytes are read as the state, to their end.
+fn expect_read(rt: &impl Abort, alloc: Global, bytes: &[u8], state: &RowState) -> Result<(), Fail> {
+    let (same, end) = RowState::decode(alloc, bytes, 0)?;
+    assert_eq!(rt; end, bytes.len());
+    assert_eq!(rt; &same, state);
+    Ok(())
+}
+
 /// A state's spelling has this length, and is read as the state.
 fn expect_length(
     rt: &impl Abort,
@@ -149,10 +168,7 @@ fn expect_length(
     let mut bytes = Vec::new(alloc);
     state.encode(&mut bytes)?;
     assert_eq!(rt; bytes.len(), length);
-    let (same, end) = RowState::decode(alloc, &bytes, 0)?;
-    assert_eq!(rt; end, length);
-    assert_eq!(rt; &same, state);
-    Ok(())
+    expect_read(rt, alloc, &bytes, state)
 }
 
 /// A list of one number.

@@ -102,11 +102,12 @@ fn feed(rt: &impl Abort, gate: &mut Gate, input: u32, number: u64) -> Effect
     effect
 }
 
-/// Feeds the gate the inputs' barriers of the number in this order, and compares after each.
+/// Feeds the gate the inputs' barriers of the number in this order, and compares before the first and after each.
 fn go_round(rt: &impl Abort, gate: &mut Gate, marks: &[bool], order: &[u32], number: u64)
     requires { length marks.now ≡ length gate.old.inputs }
     ensures { length gate.new.inputs ≡ length gate.old.inputs }
 {
+    compare(rt, gate, marks, &[], number);
     for (step, &input) in order.iter().enumerate() {
         assert!(rt; (input as usize) < marks.len());
         let (before, came) = (&order[..step], &order[..=step]);
@@ -117,18 +118,23 @@ fn go_round(rt: &impl Abort, gate: &mut Gate, marks: &[bool], order: &[u32], num
     }
 }
 
-/// Takes a new gate through two rounds, or through one where it has no unmarked input and so is never at rest again.
-fn go_twice(rt: &impl Abort, alloc: Global, marks: &[bool], order: &[u32]) -> Result<(), Fail> {
-    assert_eq!(rt; order.len(), marks.len());
-    let mut gate = Gate::new(alloc, marks)?;
-    compare(rt, &gate, marks, &[], 1);
-    go_round(rt, &mut gate, marks, order, 1);
+/// Takes a gate through two rounds, or through one where it has no unmarked input and so is never at rest again.
+fn go_rounds(rt: &impl Abort, gate: &mut Gate, marks: &[bool], order: &[u32])
+    requires { length marks.now ≡ length gate.old.inputs }
+{
+    go_round(rt, gate, marks, order, 1);
     let rests = gate.phase() == Phase::AtRest;
     assert_eq!(rt; rests, marks.contains(&false));
     if rests {
-        compare(rt, &gate, marks, &[], 2);
-        go_round(rt, &mut gate, marks, order, 2);
+        go_round(rt, gate, marks, order, 2);
     }
+}
+
+/// Takes a new gate through its rounds.
+fn go_twice(rt: &impl Abort, alloc: Global, marks: &[bool], order: &[u32]) -> Result<(), Fail> {
+    assert_eq!(rt; order.len(), marks.len());
+    let mut gate = Gate::new(alloc, marks)?;
+    go_rounds(rt, &mut gate, marks, order);
     Ok(())
 }
 

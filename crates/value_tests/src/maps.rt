@@ -194,24 +194,50 @@ impl Beside {
         None
     }
 
+    /// Compares the first frozen entry above the key, if one is given.
+    fn compare_above(&self, rt: &impl Abort, after: Option<u64>) {
+        let next = self.states.frozen_next(after.as_ref());
+        let told = next.map(|entry| (*entry.0, *entry.1));
+        assert_eq!(rt; told, self.frozen_above(after));
+    }
+
     /// Compares what they tell.
     fn compare(&self, rt: &impl Abort) {
         assert_eq!(rt; self.states.len(), self.seen.len());
         assert_eq!(rt; self.states.is_frozen(), self.frozen.is_some());
-        assert_eq!(rt;
-            self.states
-                .frozen_next(None)
-                .map(|entry| (*entry.0, *entry.1)),
-            self.frozen_above(None)
-        );
+        self.compare_above(rt, None);
         for key in 0..24 {
             assert_eq!(rt; self.states.get(&key), self.seen.get(&key));
-            let next = self.states.frozen_next(Some(&key));
-            assert_eq!(rt;
-                next.map(|entry| (*entry.0, *entry.1)),
-                self.frozen_above(Some(key))
-            );
+            self.compare_above(rt, Some(key));
         }
+    }
+
+    /// Makes calls that a row of numbers picks, and compares after each.
+    fn go(&mut self, rt: &impl Abort) -> Result<(), Fail> {
+        let mut number: u64 = 1;
+        for _ in 0..2000 {
+            number = number
+                .wrapping_mul(6_364_136_223_846_793_005)
+                .wrapping_add(1_442_695_040_888_963_407);
+            self.step(number >> 32)?;
+            self.compare(rt);
+        }
+        Ok(())
+    }
+
+    /// Compares how they are spelled.
+    fn compare_spelled(&self, rt: &impl Abort, alloc: Global) -> Result<(), Fail> {
+        let mut out = Vec::new(alloc);
+        self.states.encode(&mut out)?;
+        let mut plain = Vec::new(alloc);
+        self.seen.encode(&mut plain)?;
+        assert_eq!(rt; out, plain);
+        Ok(())
+    }
+
+    fn go_and_compare(&mut self, rt: &impl Abort, alloc: Global) -> Result<(), Fail> {
+        self.go(rt)?;
+        self.compare_spelled(rt, alloc)
     }
 }
 
@@ -224,18 +250,5 @@ fn it_is_two_plain_maps(rt: HostRuntime) -> Result<(), Fail> {
         seen: Map::new(alloc),
         frozen: None,
     };
-    let mut number: u64 = 1;
-    for _ in 0..2000 {
-        number = number
-            .wrapping_mul(6_364_136_223_846_793_005)
-            .wrapping_add(1_442_695_040_888_963_407);
-        beside.step(number >> 32)?;
-        beside.compare(&rt);
-    }
-    let mut out = Vec::new(alloc);
-    beside.states.encode(&mut out)?;
-    let mut plain = Vec::new(alloc);
-    beside.seen.encode(&mut plain)?;
-    assert_eq!(&rt; out, plain);
-    Ok(())
+    beside.go_and_compare(&rt, alloc)
 }
