@@ -1,0 +1,15 @@
+//! Runs by many workers: over devices that fail, with restarts that are spent, with too many
+//! workers, and two jobs that are out at once. What runs print is compared with rows that are
+//! worked out here.
+#![tactic(auto)]
+
+#[cfg(test)]
+mod faults;
+#[cfg(test)]
+mod jobs;
+#[cfg(test)]
+mod meeting;
+#[cfg(test)]
+mod refused;
+#[cfg(test)]
+mod runs;
