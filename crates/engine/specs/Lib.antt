@@ -1,2 +1,3 @@
-pub mod Running
+pub mod Readers
 pub mod Rows
+pub mod Running

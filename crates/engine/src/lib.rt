@@ -15,6 +15,7 @@
 mod calls;
 mod claimed;
 mod faults;
+mod readers;
 mod rows;
 mod tasks;
 

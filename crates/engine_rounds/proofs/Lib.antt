@@ -1,0 +1,5 @@
+pub mod Idling
+pub mod Many
+pub mod Resting
+pub mod Taking
+pub mod Turning

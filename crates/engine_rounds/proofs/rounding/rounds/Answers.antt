@@ -1,0 +1,27 @@
+use Rattle.std.proofs.Common.{◌∙◌, refl}
+use Rattle.abs_codec.specs.Spelling.{Fits}
+use Rattle.core_model.specs.Language.{language}
+use Rattle.engine_rounds.proofs.Taking.{took_none, took_on, took_round, stopped_on}
+use Rattle.engine_rounds.proofs.rounding.rounds.Goals as goal
+
+pub spending-init : goal.spending-init
+spending-init g c = record {
+  made = took_none (language g.O.Operator.meaning g.O.Key.Ord.cmp g.O.Record.Codec.spelling g.O.Record.Codec.reading g.O.Key.Codec.reading g.O.State.Codec.reading) (Fits g.O.Record.Codec.HasSpelling g.O.Record.Codec.spelling) c.args.engine.now c.args.turns c.requires.running;
+  faults = refl;
+}
+
+pub spending-preserved : goal.spending-preserved
+spending-preserved g c =
+    let lang = language g.O.Operator.meaning g.O.Key.Ord.cmp g.O.Record.Codec.spelling g.O.Record.Codec.reading g.O.Key.Codec.reading g.O.State.Codec.reading in
+    let fits = Fits g.O.Record.Codec.HasSpelling g.O.Record.Codec.spelling in
+    let one = took_round lang fits c.spending.engine c.round.new.engine c.spending.left c.round.new.left c.in-Ok-true.field-0 c.in-Ok-true.field-0-test c.in-Ok-true.ensures.ends in
+    record {
+      made = took_on lang fits c.args.engine.now c.spending.engine c.round.new.engine c.args.turns c.spending.left c.round.new.left c.spending.invariant.made one;
+      faults = c.in-Ok-true.ensures.counted ∙ c.spending.invariant.faults;
+    }
+
+pub returns-in-Err-clause-ends : goal.returns-in-Err-clause-ends
+returns-in-Err-clause-ends g c =
+    let ends = c.in-Err.ensures.ends in
+    stopped_on (language g.O.Operator.meaning g.O.Key.Ord.cmp g.O.Record.Codec.spelling g.O.Record.Codec.reading g.O.Key.Codec.reading g.O.State.Codec.reading) (Fits g.O.Record.Codec.HasSpelling g.O.Record.Codec.spelling) c.args.engine.now c.spending.engine c.round.new.engine c.args.turns c.spending.left c.in-Err.fault
+    c.spending.invariant.made ends.0 ends.1 ends.2 ends.3

@@ -1,0 +1,14 @@
+use Rattle.abs_codec.specs.Spelling.{Fits}
+use Rattle.core_model.specs.Language.{language}
+use Rattle.engine_rounds.proofs.Turning.{offered_due, accept_turns}
+use Rattle.engine_rounds.proofs.turns.work_at.Goals as goal
+
+pub returns-in-Ok-clause-ends : goal.returns-in-Ok-clause-ends
+returns-in-Ok-clause-ends g c =
+    let lang = language g.O.Operator.meaning g.O.Key.Ord.cmp g.O.Record.Codec.spelling g.O.Record.Codec.reading g.O.Key.Codec.reading g.O.State.Codec.reading in
+    let fits = Fits g.O.Record.Codec.HasSpelling g.O.Record.Codec.spelling in
+    let old = c.args.engine.now in
+    let due = offered_due lang fits old c.args.task c.args.input c.requires.running c.requires.input c.in-Ok.work c.in-Ok.ensures in
+    rw c.turned.ensures
+    (accept_turns lang fits old c.accept.new.self c.args.task c.args.input (record { goes = c.accept.ensures.goes; sound = c.accept.ensures.sound; begins = c.accept.ensures.begins }) c.requires.running c.run.result
+    (rw (← c.run.ensures) at due) c.accept.result c.accept.ensures.ends c.accept.ensures.plain)
