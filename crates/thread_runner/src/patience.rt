@@ -32,7 +32,7 @@ pub(crate) struct Patience {
     is_alone: bool,
     /// How often it has had nothing to do, halved at each step.
     waits: u32,
-    /// How many short steps it has made in a row.
+    /// How many short steps it has made in a row, of those between which others made steps too.
     short: u32,
     /// How often it has rested since its last long step.
     rests: u32,
@@ -67,17 +67,18 @@ impl Patience {
     }
 
     /// A step was made, which was short or not. Whether the worker wants to rest: where all its
-    /// steps are short, and others make steps too.
+    /// steps are short, of those between which others made steps too.
     pub(crate) fn is_tired(&mut self, is_short: bool) -> bool {
         self.waits /= 2;
+        if self.is_alone {
+            return false;
+        }
         if !is_short {
-            self.rests = 0;
-        }
-        if self.is_alone || !is_short {
             self.short = 0;
-        } else {
-            self.short = self.short.saturating_add(1);
+            self.rests = 0;
+            return false;
         }
+        self.short = self.short.saturating_add(1);
         if self.short < SHORT_STEPS {
             return false;
         }
