@@ -72,7 +72,7 @@ where
         restarts,
         pause,
     );
-    let core = station.into_inner().into_core();
+    let core = station.into_inner().into_core(rt);
     let printed = print_committed(alloc, &core, out);
     let report = report?;
     printed?;

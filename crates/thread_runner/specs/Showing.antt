@@ -10,9 +10,13 @@ use Rattle.output_readers.specs.Seeing.{Output}
 
 module _ {R K S O : Type 0} (lists : List (List (List ℕ))) (engine : State O R K S) where
   -- The list of each sink subtask begins what it has committed.
+  abbrev pub Begin : Type 0
+  Begin = (task subtask : ℕ) → slice_get engine.graph.tasks task ≡ Some (role.Sink subtask) → Begins (rows_of lists subtask) (committed_rows engine.ledger subtask)
+
+  -- So is there one for each.
   pub record BeginCommitted : Type 0 where
     pub subtasks : length lists ≡ count_by is_sink engine.graph.tasks
-    pub begins : (task subtask : ℕ) → slice_get engine.graph.tasks task ≡ Some (role.Sink subtask) → Begins (rows_of lists subtask) (committed_rows engine.ledger subtask)
+    pub begins : Begin
 
   -- It is all that it has committed.
   abbrev pub AreCommitted : Type 0

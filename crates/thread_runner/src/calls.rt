@@ -66,7 +66,7 @@ impl<
           engine = self.new.core.engine;
           claims = claims_after result self.old.core.claims;
         } }
-        ensures total { self.new.total ≡ self.old.total }
+        ensures total { (self.new.total ≡ self.old.total) × (self.new.output ≡ self.old.output) }
     {
         self.core.restart()
     }
@@ -92,7 +92,7 @@ impl<
             job.attempt job.serial job.work) }
         ensures err { IfErr result (λ fault. Refuses self.old.core task input fault
             × (self.new ≡ self.old)) }
-        ensures total { self.new.total ≡ self.old.total }
+        ensures total { (self.new.total ≡ self.old.total) × (self.new.output ≡ self.old.output) }
     {
         self.core.claim(task, input)
     }

@@ -62,6 +62,10 @@ impl<L: Ledger> Worker<L> {
                 Next::Over => return,
                 Next::Idle => self.patience.wait(rt),
                 Next::Again => self.made(rt, station, true),
+                Next::Publish => {
+                    let _ = station.lock(rt).publish(rt);
+                    self.made(rt, station, true);
+                }
                 Next::Run(task, job) => {
                     let is_short = self.run_job(rt, station, turns, pause, task, job);
                     self.made(rt, station, is_short);
@@ -180,7 +184,7 @@ where
         &|_: usize, worker: &mut Worker<L>| worker.work(rt, station, turns, pause),
     );
     let finished = gather(rt, station, all, crew);
-    station.lock(rt).end()?;
+    station.lock(rt).end(rt)?;
     Ok(Report { finished })
 }
 

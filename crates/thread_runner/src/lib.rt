@@ -14,9 +14,11 @@ mod calls;
 mod crew;
 mod patience;
 mod pause;
+mod publishing;
 mod station;
 
 pub use crew::{Report, run};
+pub use output_readers::{OutputFault, OutputReader, Told};
 pub use pause::{NoPause, Pause};
 pub use run_schedule::{RunFault, Schedule};
 pub use station::Station;
