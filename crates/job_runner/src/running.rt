@@ -59,7 +59,7 @@ where
         every,
         turns,
     } = options;
-    let (station, mut share) = Station::<O, S, X, P, L>::new(core, schedule, blank);
+    let (station, mut share) = Station::<O, S, X, P, L, &R>::new(core, schedule, blank);
     let station = Mutex::new(station);
     let report = run(
         rt,
@@ -72,7 +72,7 @@ where
         restarts,
         pause,
     );
-    let core = station.into_inner().into_core(rt);
+    let core = station.into_inner().into_core();
     let printed = print_committed(alloc, &core, out);
     let report = report?;
     printed?;

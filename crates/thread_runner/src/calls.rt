@@ -25,6 +25,7 @@ use dataflow_core::{CoreFault, Job, Rules};
 use operators::Operator;
 use snapshot_store::SnapshotStore;
 use source_log::{Partitions, SourceFault};
+use std::sync::Wait;
 use std::sync::ledger::Ledger;
 
 impl<
@@ -33,7 +34,8 @@ impl<
     X: Transactions,
     P: Partitions<Record = O::Record>,
     L: Ledger,
-> Station<O, S, X, P, L> {
+    R: Wait + Drop,
+> Station<O, S, X, P, L, R> {
     /// Whether both devices were new when the core was opened. Then each sink has committed exactly
     /// its output at the moment of its own last committed checkpoint.
     pub fn is_fresh(&self) -> bool

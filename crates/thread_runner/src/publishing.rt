@@ -15,6 +15,7 @@ use output_readers::{OutputFault, OutputWriter};
 use run_schedule::RunFault;
 use snapshot_store::SnapshotStore;
 use source_log::Partitions;
+use std::sync::Wait;
 
 /// Hands in what the sinks have committed since the last time. At `Err` memory was refused, and a
 /// beginning of it was handed in.
@@ -23,7 +24,8 @@ pub(crate) fn hand_in<
     S: SnapshotStore,
     X: Transactions,
     P: Partitions<Record = O::Record>,
->(core: &Core<O, S, X, P>, writer: &mut OutputWriter) -> Result<(), OutputFault>
+    R: Wait + Drop,
+>(core: &Core<O, S, X, P>, writer: &mut OutputWriter<R>) -> Result<(), OutputFault>
     requires { BeginCommitted writer.old.appended core.now.engine }
     ensures all { IfOk result (λ _. AreCommitted writer.new.appended core.now.engine) }
     ensures begin { BeginCommitted writer.new.appended core.now.engine }
@@ -45,7 +47,8 @@ fn hand_in_of<
     S: SnapshotStore,
     X: Transactions,
     P: Partitions<Record = O::Record>,
->(core: &Core<O, S, X, P>, writer: &mut OutputWriter, sink: u32) -> Result<(), OutputFault>
+    R: Wait + Drop,
+>(core: &Core<O, S, X, P>, writer: &mut OutputWriter<R>, sink: u32) -> Result<(), OutputFault>
     requires sink { sink < count_by is_sink core.now.engine.graph.tasks }
     requires begin { BeginCommitted writer.old.appended core.now.engine }
     ensures all { IfOk result (λ _. (task : ℕ) → slice_get core.now.engine.graph.tasks task

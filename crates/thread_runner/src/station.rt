@@ -1,7 +1,7 @@
 //! What stands behind the lock: the core, the book of totals, the turns of the present run, and
 //! the output writer, if there are readers.
 
-ghost use Rattle.std.specs.Prelude.{◌≡◌, ◌+◌, ◌<◌, ◌^◌, [], None, IfOk, IfErr, MatchOption, MatchResult, length, replicate};
+ghost use Rattle.std.specs.Prelude.{◌≡◌, ◌+◌, ◌<◌, ◌^◌, [], ⊤, ⊥, None, IfOk, IfErr, MatchOption, MatchResult, length, replicate};
 ghost use Rattle.std.specs.Option.{option_map};
 ghost use Rattle.dataflow_core.specs.Claims.{EndsFinish, FinishMoves};
 ghost use Rattle.dataflow_core.specs.Steps.{IsStep, Preserves};
@@ -38,18 +38,20 @@ pub(crate) enum Next<O: Operator> {
     Run(u32, Job<O>),
 }
 
-/// The core with all that belongs to it. `into_core` ends it.
+/// The core with all that belongs to it.
+#[derive(Drop)]
 pub struct Station<
     O: Operator,
     S: SnapshotStore,
     X: Transactions,
     P: Partitions<Record = O::Record>,
     L: Ledger,
+    R: Wait + Drop,
 > {
     pub(crate) core: Core<O, S, X, P>,
     book: Book<L>,
     turns: Turns,
-    output: Option<OutputWriter>,
+    output: Option<OutputWriter<R>>,
 }
 
 impl<
@@ -58,7 +60,8 @@ impl<
     X: Transactions,
     P: Partitions<Record = O::Record>,
     L: Ledger,
-> Model for Station<O, S, X, P, L> {
+    R: Wait + Drop,
+> Model for Station<O, S, X, P, L, R> {
     ghost use Rattle.std.specs.Coded.{codes};
     ghost use Rattle.snapshot_store.specs.Store.{stored_code};
     ghost use Rattle.thread_runner.specs.Showing.{Shows};
@@ -79,14 +82,15 @@ impl<
     X: Transactions,
     P: Partitions<Record = O::Record>,
     L: Ledger,
-> Station<O, S, X, P, L> {
+    R: Wait + Drop,
+> Station<O, S, X, P, L, R> {
     /// A station without readers over this core, whose graph's schedule this is, and the share with
     /// the whole ledger. It holds no rows but the core's.
     pub fn new(
         core: Core<O, S, X, P>,
         schedule: Schedule,
         blank: Blank,
-    ) -> (Station<O, S, X, P, L>, Share<L>)
+    ) -> (Station<O, S, X, P, L, R>, Share<L>)
         requires name { blank.name ≡ L.name }
         requires parts { (blank.parts ≡ L.parts) × (L.parts ≡ 65) }
         ensures station { result.0 ≡ record { core = core; total = 0; output = None } }
@@ -97,13 +101,13 @@ impl<
 
     /// A station with 16 readers, whose opening lists are empty. At `Err` memory was refused, and
     /// the core is handed back.
-    pub fn with_readers<R: Wait>(
-        rt: &R,
+    pub fn with_readers(
+        rt: R,
         alloc: Global,
         core: Core<O, S, X, P>,
         schedule: Schedule,
         blank: Blank,
-    ) -> Result<(Station<O, S, X, P, L>, Share<L>), (RunFault, Core<O, S, X, P>)>
+    ) -> Result<(Station<O, S, X, P, L, R>, Share<L>), (RunFault, Core<O, S, X, P>)>
         requires name { blank.name ≡ L.name }
         requires parts { (blank.parts ≡ L.parts) × (L.parts ≡ 65) }
         ensures station { IfOk result (λ r. (r.0.core ≡ core) × (r.0.total ≡ 0)) }
@@ -122,8 +126,8 @@ impl<
         core: Core<O, S, X, P>,
         schedule: Schedule,
         blank: Blank,
-        output: Option<OutputWriter>,
-    ) -> (Station<O, S, X, P, L>, Share<L>)
+        output: Option<OutputWriter<R>>,
+    ) -> (Station<O, S, X, P, L, R>, Share<L>)
         requires name { blank.name ≡ L.name }
         requires parts { (blank.parts ≡ L.parts) × (L.parts ≡ 65) }
         requires shows { Shows output core.engine }
@@ -146,18 +150,15 @@ impl<
 
     /// Hands the core out. From then on every read is refused; it waits for readers that copy a
     /// list at that moment.
-    pub fn into_core<R: Wait>(self, rt: &R) -> Core<O, S, X, P>
+    pub fn into_core(self) -> Core<O, S, X, P>
         ensures { result ≡ self.core }
     {
         let Station {
             core,
             book: _book,
             turns: _turns,
-            output,
+            output: _output,
         } = self;
-        if let Some(writer) = output {
-            writer.close(rt);
-        }
         core
     }
 
@@ -185,7 +186,7 @@ impl<
     /// Shows readers all that is committed, and tells which lists these are. At `Err` readers see
     /// what they saw: memory was refused, or the station has no readers (`Closed`). It costs what
     /// was committed since the last time.
-    pub fn publish<R: Wait>(&mut self, rt: &R) -> Result<Told, RunFault>
+    pub fn publish(&mut self) -> Result<Told, RunFault>
         ensures shown { IfOk result (λ told. MatchOption self.new.output ⊥ (λ o.
             AreCommitted o.published self.new.core.engine
             × (told.history ≡ o.history) × (told.lists ≡ o.published))) }
@@ -197,7 +198,7 @@ impl<
     {
         let Station { core, output, .. } = self;
         match output {
-            Some(writer) => show(rt, core, writer),
+            Some(writer) => show(core, writer),
             None => Err(RunFault::Closed),
         }
     }
@@ -313,11 +314,11 @@ impl<
 
     /// Ends a run: readers are shown what is committed, and the job is down where the run is
     /// refused.
-    pub(crate) fn end<R: Wait>(&mut self, rt: &R) -> Result<(), RunFault>
+    pub(crate) fn end(&mut self) -> Result<(), RunFault>
         ensures total { self.new.total ≡ self.old.total }
         ensures down { IfErr result (λ _. self.new.core.engine.held ≡ None) }
     {
-        let shown = self.publish(rt);
+        let shown = self.publish();
         let Station { core, turns, .. } = self;
         let end = match (turns.end(), shown) {
             (Ok(()), Err(RunFault::Memory)) => Err(RunFault::Memory),
@@ -336,8 +337,8 @@ fn show<
     S: SnapshotStore,
     X: Transactions,
     P: Partitions<Record = O::Record>,
-    R: Wait,
->(rt: &R, core: &Core<O, S, X, P>, writer: &mut OutputWriter) -> Result<Told, RunFault>
+    R: Wait + Drop,
+>(core: &Core<O, S, X, P>, writer: &mut OutputWriter<R>) -> Result<Told, RunFault>
     requires { BeginCommitted writer.old.appended core.now.engine }
     ensures begin { BeginCommitted writer.new.appended core.now.engine }
     ensures all { IfOk result (λ told. AreCommitted writer.new.published core.now.engine
@@ -346,7 +347,7 @@ fn show<
     ensures history { writer.new.history ≡ writer.old.history }
 {
     hand_in(core, writer).map_err(refused)?;
-    writer.publish(rt).map_err(refused)
+    writer.publish().map_err(refused)
 }
 
 /// The core's own `finish`. A claim ends where the result is taken.
