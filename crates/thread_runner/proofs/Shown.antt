@@ -1,7 +1,9 @@
 -- What was handed in for readers begins what is committed, whatever the core does.
-use Rattle.std.proofs.Common.{◌≡◌, ◌≢◌, ℕ, zero, suc, ◌+◌, ◌≤◌, ◌<◌, List, [], ◌∷◌, ◌++◌, Option, Some, None, Result, Ok, Err, MatchOption, Unit, slice_get, replicate, length, count_by, nat_eq?, ◌⊎◌, inl, inr, unit, refl, sym, ap, subst, ◌∙◌, arith, append_assoc}
+use Rattle.std.proofs.Common.{◌≡◌, ◌≢◌, ℕ, zero, suc, ◌+◌, ◌≤◌, ◌<◌, List, [], ◌∷◌, ◌++◌, Option, Some, None, Result, Ok, Err, MatchOption, slice_get, replicate, length, count_by, ◌⊎◌, inl, inr, refl, sym, ap, subst, ◌∙◌, arith, append_assoc}
+use Rattle.std.proofs.lemmas.Bool.{cases_eq}
 use Rattle.std.proofs.lemmas.List.{append-nil, length-append}
-use Rattle.std.proofs.lemmas.Option.{some-inj}
+use Rattle.std.proofs.lemmas.Option.{same_Some}
+
 use Rattle.commit_sink.specs.Ledger.{committed_rows}
 use Rattle.core_model.specs.Language.{Language}
 use Rattle.core_model.specs.State.{State}
@@ -23,12 +25,12 @@ begins_on xs ys zs one two = (one.0 ++ two.0, two.1 ∙ ap (λ l. l ++ two.0) on
 
 -- the next row of the longer list is put last
 next_begins : {A : Type 0} (xs ys : List A) (row : A) → Begins xs ys → slice_get ys (length xs) ≡ Some row → Begins (xs ++ row ∷ []) ys
-next_begins [] ys row b e = by_first ys e
+next_begins {A} [] ys row b e = by_first ys e
   where
     by_first : (ys : List A) → slice_get ys 0 ≡ Some row → Begins (row ∷ []) ys
     by_first [] e = absurd cc
-    by_first (y ∷ ys) e = (ys, ap (λ z. z ∷ ys) (some-inj e))
-next_begins (x ∷ xs) ys row b e =
+    by_first (y ∷ ys) e = (ys, ap (λ z. z ∷ ys) (same_Some y row e))
+next_begins {A} (x ∷ xs) ys row b e =
     let rest : List A = xs ++ b.0 in
     let next = next_begins xs rest row (b.0, refl) (subst (λ l. slice_get l (length (x ∷ xs)) ≡ Some row) b.1 e) in
     (next.0, b.1 ∙ ap (λ l. x ∷ l) next.1)
@@ -56,14 +58,19 @@ rows_of-other (x ∷ xs) (suc s) (suc t) row n = rows_of-other xs s t row (λ e.
 pub count-same : {A : Type 0} (lists : List (List A)) (s : ℕ) (row : A) → s < length lists → length (rows_of (with_row lists s row) s) ≡ length (rows_of lists s) + 1
 count-same lists s row less = ap length (rows_of-same lists s row less) ∙ length-append (rows_of lists s) (row ∷ [])
 
-rows_of-replicate : (n s : ℕ) → rows_of (replicate n ([] {A = List ℕ})) s ≡ []
+rows_of-replicate : (n s : ℕ) → ◌≡◌ {A = List (List ℕ)} (rows_of (replicate n []) s) []
 rows_of-replicate zero s = refl
 rows_of-replicate (suc n) zero = refl
 rows_of-replicate (suc n) (suc s) = rows_of-replicate n s
 
-length-replicate : (n : ℕ) → length (replicate n ([] {A = List ℕ})) ≡ n
-length-replicate zero = refl
-length-replicate (suc n) = ap suc (length-replicate n)
+length-replicate : {A : Type 0} (n : ℕ) (x : A) → length (replicate n x) ≡ n
+length-replicate zero x = refl
+length-replicate (suc n) x = ap suc (length-replicate n x)
+
+-- a restart drops the claims, or leaves them
+fewer : {T : Type 0} (result : Result T CoreFault) (claims : List Claim) → length (claims_after result claims) ≤ length claims
+fewer (Ok v) claims = omega arith
+fewer (Err f) claims = omega arith
 
 module _ {R K S O : Type 0} where
   -- the next row of a sink was put last in its list
@@ -71,7 +78,7 @@ module _ {R K S O : Type 0} where
       → slice_get (committed_rows engine.ledger sink) (length (rows_of lists sink)) ≡ Some row → BeginCommitted (with_row lists sink row) engine
   row_kept lists engine sink row begin less next = record {
     subtasks = length-with_row lists sink row ∙ begin.subtasks;
-    begins = λ task subtask at. by (nat_eq? subtask sink) task at;
+    begins = λ task subtask at. by (cases_eq subtask sink) task at;
   }
     where
       by : {subtask : ℕ} → (subtask ≡ sink) ⊎ (subtask ≢ sink) → (task : ℕ) → slice_get engine.graph.tasks task ≡ Some (role.Sink subtask)
@@ -90,7 +97,7 @@ module _ {R K S O : Type 0} where
   -- empty lists begin whatever is committed
   pub none_shown : (lists : List (List (List ℕ))) (engine : State O R K S) (n : ℕ) → lists ≡ replicate n [] → n ≡ count_by is_sink engine.graph.tasks → BeginCommitted lists engine
   none_shown lists engine n is count = record {
-    subtasks = ap length is ∙ length-replicate n ∙ count;
+    subtasks = ap length is ∙ length-replicate n [] ∙ count;
     begins = λ task subtask at. (committed_rows engine.ledger subtask, sym (ap (λ l. l ++ committed_rows engine.ledger subtask) (ap (λ l. rows_of l subtask) is ∙ rows_of-replicate n subtask)));
   }
 
@@ -103,7 +110,7 @@ module _ {R K S O : Type 0} where
   }
 
   pub shows_kept : (lang : Language R K S O) (RecordFits : R → Type 0) (output : Option Output) (old new : State O R K S) → Preserves lang RecordFits old new → Shows output old → Shows output new
-  shows_kept lang RecordFits None old new kept shows = unit
+  shows_kept lang RecordFits None old new kept shows = tt
   shows_kept lang RecordFits (Some o) old new kept shows = begin_kept lang RecordFits o.appended old new kept shows
 
   -- a call that leaves the claims leaves a station what it keeps
@@ -112,11 +119,7 @@ module _ {R K S O : Type 0} where
   call_kept lang RecordFits total output old new same kept was =
       (subst (λ (c : CoreState O R K S). Within total c) (sym same) was.0, shows_kept lang RecordFits output old.engine new.engine kept was.1)
 
-  -- so does a restart, which drops them or leaves them
-  fewer : {T : Type 0} (result : Result T CoreFault) (claims : List Claim) → length (claims_after result claims) ≤ length claims
-  fewer (Ok v) claims = omega arith
-  fewer (Err f) claims = omega arith
-
+  -- so does a restart
   pub restart_kept : {T : Type 0} (lang : Language R K S O) (RecordFits : R → Type 0) (total : ℕ) (output : Option Output) (result : Result T CoreFault) (old new : CoreState O R K S)
       → new ≡ record old { engine = new.engine; claims = claims_after result old.claims } → Preserves lang RecordFits old.engine new.engine
       → Within total old × Shows output old.engine → Within total new × Shows output new.engine

@@ -1,7 +1,7 @@
 //! What stands behind the lock: the core, the book of totals, the turns of the present run, and
 //! the output writer, if there are readers.
 
-ghost use Rattle.std.specs.Prelude.{◌≡◌, ◌+◌, ◌<◌, ◌^◌, [], ⊤, ⊥, None, IfOk, IfErr, MatchOption, MatchResult, length, replicate};
+ghost use Rattle.std.specs.Prelude.{◌≡◌, ◌+◌, ◌<◌, ◌^◌, [], ⊤, None, IfOk, IfErr, MatchOption, MatchResult, length, replicate};
 ghost use Rattle.std.specs.Option.{option_map};
 ghost use Rattle.dataflow_core.specs.Claims.{EndsFinish, FinishMoves};
 ghost use Rattle.dataflow_core.specs.Steps.{IsStep, Preserves};
