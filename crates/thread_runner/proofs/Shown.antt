@@ -1,7 +1,7 @@
 -- What was handed in for readers begins what is committed, whatever the core does.
-use Rattle.std.proofs.Common.{◌≡◌, ◌≢◌, ℕ, zero, suc, ◌+◌, ◌≤◌, ◌<◌, List, [], ◌∷◌, ◌++◌, Option, Some, None, Result, Ok, Err, MatchOption, slice_get, replicate, length, count_by, ◌⊎◌, inl, inr, refl, sym, ap, subst, ◌∙◌, arith, append_assoc}
+use Rattle.std.proofs.Common.{◌≡◌, ◌≢◌, ℕ, zero, suc, ◌+◌, ◌≤◌, ◌<◌, List, [], ◌∷◌, ◌++◌, take, drop, ⊤, Option, Some, None, Result, Ok, Err, MatchOption, slice_get, replicate, length, count_by, ◌⊎◌, inl, inr, refl, sym, ap, subst, ◌∙◌, arith, append_assoc}
 use Rattle.std.proofs.lemmas.Bool.{cases_eq}
-use Rattle.std.proofs.lemmas.List.{append-nil, length-append}
+use Rattle.std.proofs.lemmas.List.{append-nil, length-append, take-append-drop}
 use Rattle.std.proofs.lemmas.Option.{same_Some}
 
 use Rattle.commit_sink.specs.Ledger.{committed_rows}
@@ -14,7 +14,8 @@ use Rattle.dataflow_core.specs.declared.held.Claim.{Claim}
 use Rattle.dataflow_model.specs.Graph.{Begins}
 use Rattle.job_graph.specs.Expanded.{Expanded, is_sink}
 use Rattle.job_graph.specs.declared.role.Role.TheVariants as role
-use Rattle.output_readers.specs.Rows.{rows_of, with_row}
+use Rattle.output_readers.specs.Beginnings.{IsBeginning}
+use Rattle.output_readers.specs.Rows.{rows_of, with_row, EachBegins}
 use Rattle.output_readers.specs.Seeing.{Output}
 use Rattle.output_readers.proofs.EachRow.{length-with_row}
 use Rattle.thread_runner.specs.Showing.{Begin, BeginCommitted, AreCommitted, Shows}
@@ -34,6 +35,9 @@ next_begins {A} (x ∷ xs) ys row b e =
     let rest : List A = xs ++ b.0 in
     let next = next_begins xs rest row (b.0, refl) (subst (λ l. slice_get l (length (x ∷ xs)) ≡ Some row) b.1 e) in
     (next.0, b.1 ∙ ap (λ l. x ∷ l) next.1)
+
+taken_begins : {A : Type 0} (xs ys : List A) → IsBeginning xs ys → Begins xs ys
+taken_begins xs ys is = (drop (length xs) ys, sym (take-append-drop (length xs) ys) ∙ ap (λ l. l ++ drop (length xs) ys) is)
 
 -- a list that begins one that is not longer is that list
 whole : {A : Type 0} (xs ys : List A) → Begins xs ys → length ys ≤ length xs → xs ≡ ys
@@ -100,6 +104,12 @@ module _ {R K S O : Type 0} where
     subtasks = ap length is ∙ length-replicate n [] ∙ count;
     begins = λ task subtask at. (committed_rows engine.ledger subtask, sym (ap (λ l. l ++ committed_rows engine.ledger subtask) (ap (λ l. rows_of l subtask) is ∙ rows_of-replicate n subtask)));
   }
+
+  -- what readers can see begins what was handed in
+  pub published_kept : (output : Option Output) (engine : State O R K S) → MatchOption output ⊤ (λ o. EachBegins o.published o.appended) → Shows output engine → MatchOption output ⊤ (λ o. Begin o.published engine)
+  published_kept None engine begins shows = tt
+  published_kept (Some o) engine begins shows =
+      λ task subtask at. begins_on (rows_of o.published subtask) (rows_of o.appended subtask) (committed_rows engine.ledger subtask) (taken_begins (rows_of o.published subtask) (rows_of o.appended subtask) (begins subtask)) (shows.begins task subtask at)
 
   begin_kept : (lang : Language R K S O) (RecordFits : R → Type 0) (lists : List (List (List ℕ))) (old new : State O R K S) → Preserves lang RecordFits old new → BeginCommitted lists old → BeginCommitted lists new
   begin_kept lang RecordFits lists old new kept begin = record {

@@ -76,7 +76,10 @@ fn hand_in_of<
 }
 
 /// The refusal of a run for this one of the writer.
-pub(crate) fn refused(fault: OutputFault) -> RunFault {
+pub(crate) fn refused(fault: OutputFault) -> RunFault
+    ensures memory { fault ≡ OutputFault.Memory → result ≡ RunFault.Memory }
+    ensures full { fault ≡ OutputFault.ReadersFull → result ≡ RunFault.ReadersFull }
+{
     match fault {
         OutputFault::Memory => RunFault::Memory,
         OutputFault::ReadersFull => RunFault::ReadersFull,

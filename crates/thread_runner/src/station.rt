@@ -192,6 +192,8 @@ impl<
             × (told.history ≡ o.history) × (told.lists ≡ o.published))) }
         ensures err { IfErr result (λ _. option_map (λ o. o.published) self.new.output
             ≡ option_map (λ o. o.published) self.old.output) }
+        ensures refused { IfErr result (λ fault. MatchOption self.old.output
+            (fault ≡ RunFault.Closed) (λ _. fault ≡ RunFault.Memory)) }
         ensures history { option_map (λ o. o.history) self.new.output
             ≡ option_map (λ o. o.history) self.old.output }
         ensures same { (self.new.core ≡ self.old.core) × (self.new.total ≡ self.old.total) }
@@ -343,7 +345,8 @@ fn show<
     ensures begin { BeginCommitted writer.new.appended core.now.engine }
     ensures all { IfOk result (λ told. AreCommitted writer.new.published core.now.engine
         × (told.history ≡ writer.new.history) × (told.lists ≡ writer.new.published)) }
-    ensures err { IfErr result (λ _. writer.new.published ≡ writer.old.published) }
+    ensures err { IfErr result (λ fault. (fault ≡ RunFault.Memory)
+        × (writer.new.published ≡ writer.old.published)) }
     ensures history { writer.new.history ≡ writer.old.history }
 {
     hand_in(core, writer).map_err(refused)?;
