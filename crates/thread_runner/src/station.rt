@@ -321,13 +321,12 @@ impl<
         ensures down { IfErr result (λ _. self.new.core.engine.held ≡ None) }
     {
         let shown = self.publish();
-        let Station { core, turns, .. } = self;
-        let end = match (turns.end(), shown) {
+        let end = match (self.turns.end(), shown) {
             (Ok(()), Err(RunFault::Memory)) => Err(RunFault::Memory),
             (end, _) => end,
         };
         if end.is_err() {
-            let _ = core.fail();
+            self.give_up();
         }
         end
     }

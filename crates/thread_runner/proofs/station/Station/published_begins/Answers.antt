@@ -1,4 +1,5 @@
-use Rattle.std.proofs.Common.{⊤, Option, MatchOption, subst, sym}
+use Rattle.std.proofs.Common.{Option, MatchOption, subst, sym}
+use Rattle.std.specs.Prelude.{⊤}
 use Rattle.output_readers.specs.Rows.{EachBegins}
 use Rattle.output_readers.specs.Seeing.{Output}
 use Rattle.thread_runner.proofs.Shown.{published_kept}
