@@ -4,6 +4,7 @@ pub mod Gates
 pub mod GatesKept
 pub mod Shapes
 pub mod ShapeCalls
+pub mod BarriersKept
 pub mod Items
 pub mod Moves
 pub mod Copies
