@@ -1,5 +1,5 @@
 -- Each change of what a running job holds keeps its shape, and the barriers in its channels.
-use Rattle.std.proofs.Common.{◌≡◌, ◌<◌, All, Option, Some, None, slice_get, slice_set, length, is_some, map, ℕ, Bool, true, false, List, [], ◌∷◌, refl, sym, ap, subst, ◌∙◌, Ordering}
+use Rattle.std.proofs.Common.{◌≡◌, ◌<◌, All, Option, Some, None, slice_get, length, ℕ, true, false, List, [], ◌∷◌, sym, ap, subst, ◌∙◌, Ordering}
 use Rattle.std.proofs.lemmas.Bool.{true≢false}
 use Rattle.std.proofs.lemmas.Option.{same_Some, slice_get_within}
 use Rattle.alignment.specs.Table.{effect_of}
