@@ -187,8 +187,8 @@ fn readers<R: Wait>(
     Ok(all)
 }
 
-/// Is handed rows by subtask, and publishes them. Once it is dropped every read is refused; its drop
-/// waits for readers that copy a list at that moment.
+/// Is handed rows by subtask, and publishes them. Once it is dropped every read is refused; its
+/// drop waits for readers that copy a list at that moment.
 pub struct OutputWriter<R: Wait + Drop> {
     writer: ListWriter,
     head: Head,
