@@ -15,7 +15,7 @@ use Rattle.core_model.specs.declared.fault.CoreFault.{CoreFault}
 use Rattle.core_model.specs.declared.fault.CoreFault.TheVariants.{NotReady, ChannelBlocked, Memory}
 use Rattle.core_model.proofs.Gates.{copy_is_first}
 use Rattle.core_model.proofs.Runs.{between, barrier_runs, operator_copy_runs}
-use Rattle.core_model.proofs.ShapeCalls.{shape_barrier_taken, shape_copies_operator}
+use Rattle.core_model.proofs.ShapesKept.{shape_barrier_taken, shape_copies_operator}
 use Rattle.core_model.proofs.CallGoes.{KeepsAndGoes, shape_of, runs_of}
 use Rattle.core_model.proofs.CallSteps.{after, goes_keeps, goes_one, goes_two, keeps_still}
 use Rattle.core_model.proofs.CallRuns.{logs_same, runs_moved, runs_copied}

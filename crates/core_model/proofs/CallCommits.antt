@@ -28,7 +28,7 @@ use Rattle.core_model.specs.Goes.{Goes}
 use Rattle.core_model.specs.declared.fault.CoreFault.{CoreFault}
 use Rattle.core_model.specs.declared.fault.CoreFault.TheVariants.{NoSuchTask, CommitFault}
 use Rattle.core_model.proofs.Lists.{get_set_same, get_set_other}
-use Rattle.core_model.proofs.ShapeCalls.{shape_forgotten}
+use Rattle.core_model.proofs.ShapesKept.{shape_forgotten}
 use Rattle.core_model.proofs.StoreView.{line_of, is_on-line_of}
 use Rattle.core_model.proofs.StoreRuns.{pending_moved}
 use Rattle.core_model.proofs.LastPending.{none_after_drop}

@@ -14,7 +14,7 @@ use Rattle.core_model.specs.Calls.{EndsComplete, left_by}
 use Rattle.core_model.specs.Goes.{Goes}
 use Rattle.core_model.specs.declared.fault.CoreFault.{CoreFault}
 use Rattle.core_model.specs.declared.fault.CoreFault.TheVariants.{NoCheckpoint, NotAllAcked, Device}
-use Rattle.core_model.proofs.ShapeCalls.{shape_completed}
+use Rattle.core_model.proofs.ShapesKept.{shape_completed}
 use Rattle.core_model.proofs.StoreSteps.{run_completed, held_completed, engine_completes}
 use Rattle.core_model.proofs.StoreRuns.{runs_pending, runs_completed}
 use Rattle.core_model.proofs.CallGoes.{after, goes_by, goes_then_down, goes_down, goes_keeps, runs_same, shape_of, runs_of, KeepsAndGoes, keeps_refused, keeps_down}
@@ -32,7 +32,7 @@ module _ {R K S O : Type 0} (lang : Language R K S O) (RecordFits : R → Type 0
     keeps_completed : IsReady h.coordination → IsNumbered (completed s.stored checkpoint) → KeepsAndGoes lang RecordFits IsGood s (after s (Some (with_completed checkpoint h)) (completed s.stored checkpoint) s.ledger n)
     keeps_completed ready numbered =
         goes_keeps lang RecordFits IsGood s keeps (Some (with_completed checkpoint h)) (completed s.stored checkpoint) s.ledger n refl numbered keeps.formed refl keeps.ordered
-        (shape_completed lang.cmp RecordFits IsGood s.graph s.operators h (shape_of lang RecordFits IsGood s keeps h was) checkpoint ready)
+        (shape_completed lang.cmp RecordFits IsGood s.graph s.operators h (shape_of lang RecordFits IsGood s keeps h was) checkpoint keeps.expanded ready)
         (runs_same lang (record s { stored = completed s.stored checkpoint }) (after s (Some (with_completed checkpoint h)) (completed s.stored checkpoint) s.ledger n) (with_completed checkpoint h) refl refl refl
         (runs_completed lang s h (runs_of lang RecordFits IsGood s keeps h was) checkpoint pending))
         (goes_completed ready)

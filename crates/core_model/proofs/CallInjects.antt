@@ -14,7 +14,7 @@ use Rattle.core_model.specs.View.{run_of}
 use Rattle.core_model.specs.declared.fault.CoreFault.{CoreFault}
 use Rattle.core_model.specs.declared.fault.CoreFault.TheVariants.{NoSuchTask, NoCheckpoint, NotReady, Memory}
 use Rattle.core_model.proofs.Runs.{inject_runs}
-use Rattle.core_model.proofs.ShapeCalls.{shape_copies_source}
+use Rattle.core_model.proofs.ShapesKept.{shape_copies_source}
 use Rattle.core_model.proofs.CallGoes.{KeepsAndGoes, shape_of, runs_of}
 use Rattle.core_model.proofs.CallSteps.{after, goes_keeps, goes_one, keeps_still}
 use Rattle.core_model.proofs.CallRuns.{runs_copied}
@@ -31,7 +31,7 @@ module _ {R K S O : Type 0} (lang : Language R K S O) (RecordFits : R → Type 0
       let runs = runs_of lang RecordFits IsGood s keeps h is in
       let within = copy_within (role.Source partition) at_task in
       goes_keeps lang RecordFits IsGood s keeps s.ledger (Some k) n refl keeps.ordered
-      (shape_copies_source lang.cmp RecordFits IsGood s.graph s.operators h shape task partition offset checkpoint k keeps.expanded at_task pending copies)
+      (shape_copies_source lang.cmp RecordFits IsGood s.graph s.operators h shape task partition offset checkpoint k keeps.expanded at_task pending none copies)
       (runs_copied lang s h k runs s.ledger (Some k) n task (part.Source offset) within none (ap (λ (x : Held R K S). x.copies) copies.ends) (ap (λ (x : Held R K S). x.coordination) copies.ends) (ap (λ (x : Held R K S). x.logs) copies.ends)
       (λ t sink at. ap (λ (x : Held R K S). slice_get x.tasks t) (sym copies.ends) ∙ at) runs.sinks)
       (goes_one lang s h is s.ledger k n (run_of lang.cmp s.graph k) (inject_runs lang s h k task partition offset checkpoint keeps.expanded at_task was pending none within copies) refl)

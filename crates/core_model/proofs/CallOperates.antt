@@ -20,7 +20,7 @@ use Rattle.core_model.specs.View.{run_of}
 use Rattle.core_model.specs.declared.fault.CoreFault.{CoreFault}
 use Rattle.core_model.specs.declared.fault.CoreFault.TheVariants.{NotReady, ChannelBlocked, Memory}
 use Rattle.core_model.proofs.Runs.{operate_runs}
-use Rattle.core_model.proofs.ShapeCalls.{shape_operates}
+use Rattle.core_model.proofs.ShapesKept.{shape_operates}
 use Rattle.core_model.proofs.CallGoes.{KeepsAndGoes, shape_of, runs_of}
 use Rattle.core_model.proofs.CallSteps.{after, goes_keeps, goes_one, keeps_still}
 use Rattle.core_model.proofs.CallRuns.{LogsStay, runs_moved, no_other_sinks}

@@ -15,7 +15,7 @@ use Rattle.core_model.specs.Calls.{IsPersistNext, EndsPersist, WhereReached, lef
 use Rattle.core_model.specs.Goes.{Goes}
 use Rattle.core_model.specs.declared.fault.CoreFault.{CoreFault}
 use Rattle.core_model.specs.declared.fault.CoreFault.TheVariants.{NoSuchTask, NotReady, NoCheckpoint, Memory, Device}
-use Rattle.core_model.proofs.ShapeCalls.{shape_acknowledged}
+use Rattle.core_model.proofs.ShapesKept.{shape_acknowledged}
 use Rattle.core_model.proofs.StoreLogs.{logs_suit}
 use Rattle.core_model.proofs.StorePart.{part_of_form, have_come}
 use Rattle.core_model.proofs.StoreSteps.{engine_persists}

@@ -36,7 +36,7 @@ use Rattle.core_model.specs.declared.fault.CoreFault.TheVariants.{NotReady, Chan
 use Rattle.core_model.proofs.Items.{plain, taken, first_record}
 use Rattle.core_model.proofs.Gates.{free_not_came, logs_stay}
 use Rattle.core_model.proofs.Moves.{same_logs}
-use Rattle.core_model.proofs.ShapeCalls.{shape_puts_out}
+use Rattle.core_model.proofs.ShapesKept.{shape_puts_out}
 use Rattle.core_model.proofs.LedgerAppend.{Appended, append_in}
 use Rattle.core_model.proofs.CallGoes.{KeepsAndGoes, shape_of, runs_of}
 use Rattle.core_model.proofs.CallSteps.{after, Steps, goes_keeps, goes_one, goes_down_once, keeps_still, keeps_down}

@@ -15,7 +15,7 @@ use Rattle.core_model.specs.View.{run_of}
 use Rattle.core_model.specs.declared.fault.CoreFault.{CoreFault}
 use Rattle.core_model.specs.declared.fault.CoreFault.TheVariants.{NoSuchTask, NotReady, Memory, Device}
 use Rattle.core_model.proofs.Runs.{read_runs}
-use Rattle.core_model.proofs.ShapeCalls.{shape_reads}
+use Rattle.core_model.proofs.ShapesKept.{shape_reads}
 use Rattle.core_model.proofs.CallGoes.{KeepsAndGoes, shape_of, runs_of}
 use Rattle.core_model.proofs.CallSteps.{after, goes_keeps, goes_one, keeps_still, keeps_down}
 use Rattle.core_model.proofs.CallRuns.{logs_same, runs_moved, no_other_sinks}

@@ -37,7 +37,7 @@ use Rattle.core_model.proofs.Lists.{get_set_same, get_set_other}
 use Rattle.core_model.proofs.Copies.{sink_copies}
 use Rattle.core_model.proofs.Gates.{copy_is_first}
 use Rattle.core_model.proofs.Runs.{between, barrier_runs}
-use Rattle.core_model.proofs.ShapeCalls.{shape_sink_copied}
+use Rattle.core_model.proofs.ShapesKept.{shape_sink_copied}
 use Rattle.core_model.proofs.LastPending.{all_at, none_after_push}
 use Rattle.core_model.proofs.LedgerCopy.{Copied, copy_in}
 use Rattle.core_model.proofs.StoreView.{is_on-line_of}
@@ -207,7 +207,7 @@ module _ {R K S O : Type 0} (lang : Language R K S O) (RecordFits : R → Type 0
     copied : new.subtasks ≡ s.ledger.subtasks → IsOrdered new → KeepsAndGoes lang RecordFits IsGood s (after lang s new (Some k) n)
     copied subtasks ordered =
         goes_keeps lang RecordFits IsGood s keeps new (Some k) n subtasks ordered
-        (shape_sink_copied lang.cmp RecordFits IsGood s.graph s.operators h shape_before task subtask input channel checkpoint names sink_now at_task leads barrier copying)
+        (shape_sink_copied lang.cmp RecordFits IsGood s.graph s.operators h shape_before task subtask input channel checkpoint names sink_now keeps.expanded at_task leads barrier copying)
         runs_now
         (goes_two lang s h is new k n taken refl goes_copied copy_steps)
 

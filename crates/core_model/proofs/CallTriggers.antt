@@ -13,7 +13,7 @@ use Rattle.core_model.specs.Calls.{EndsTrigger, tidied, left_by}
 use Rattle.core_model.specs.Goes.{Goes}
 use Rattle.core_model.specs.declared.fault.CoreFault.{CoreFault}
 use Rattle.core_model.specs.declared.fault.CoreFault.TheVariants.{CheckpointPending, NumbersSpent, Device}
-use Rattle.core_model.proofs.ShapeCalls.{shape_started}
+use Rattle.core_model.proofs.ShapesKept.{shape_started}
 use Rattle.core_model.proofs.StoreSteps.{run_started, held_started, engine_triggers, engine_discards}
 use Rattle.core_model.proofs.StoreTrigger.{numbered_tidied, tidied_next, tidied_tasks}
 use Rattle.core_model.proofs.StoreRuns.{runs_started, runs_tidied}

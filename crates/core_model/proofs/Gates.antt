@@ -114,7 +114,7 @@ no_copy : {A : Type 0} (o : Option A) → is_some o ≡ false → o ≡ None
 no_copy None e = refl
 no_copy (Some a) e = absurd (true≢false e)
 
-some_copy : {A : Type 0} (o : Option A) → o ≢ None → is_some o ≡ true
+pub some_copy : {A : Type 0} (o : Option A) → o ≢ None → is_some o ≡ true
 some_copy None e = absurd (e refl)
 some_copy (Some a) e = refl
 

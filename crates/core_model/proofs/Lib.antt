@@ -4,6 +4,8 @@ pub mod Gates
 pub mod GatesKept
 pub mod Shapes
 pub mod ShapeCalls
+pub mod BarriersKept
+pub mod ShapesKept
 pub mod Items
 pub mod Moves
 pub mod Copies

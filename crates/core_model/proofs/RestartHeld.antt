@@ -29,11 +29,12 @@ use Rattle.job_state.specs.declared.holding.Holding.TheVariants as holds
 use Rattle.snapshot_store.specs.Store.{Stored, IsLatest, is_complete}
 use Rattle.task_part.specs.Spelling.{Logs}
 use Rattle.task_part.specs.declared.part.Part.{Part}
-use Rattle.core_model.specs.Keeps.{HoldsAs, CopyAs, IfRecord, StandsAs, GateFits, Shape, RunsIn}
+use Rattle.core_model.specs.Keeps.{HoldsAs, CopyAs, IfRecord, StandsAs, GateFits, barriers_in, Shape, RunsIn}
 use Rattle.core_model.specs.Language.{Language}
 use Rattle.core_model.specs.Restart.{InTurn, AreStarts, Takes, before_tasks, openings_of}
 use Rattle.core_model.specs.State.{State}
 use Rattle.core_model.specs.declared.start.Start.{Start}
+use Rattle.core_model.proofs.BarriersKept.{none_of_records}
 use Rattle.core_model.proofs.Fitting.{fit_records}
 use Rattle.core_model.proofs.LedgerLists.{get_in_map}
 use Rattle.core_model.proofs.RestartLogs.{past_end, openings_past, openings_fit}
@@ -141,6 +142,8 @@ module _ {R K S O : Type 0} (lang : Language R K S O) (KeyFits : K → Type 0) (
     acked = many (length tasks) false ∙ one_each;
     none_copied = λ none task. unset (length tasks) task None;
     none_came = λ none number. unset (length graph.channels) number false;
+    barriers = λ number channel is. ap barriers_in (channels_are number) ∙ none_of_records (opened (openings_of starts) number);
+    came_after = λ number channel is came. absurd (false≢true (sym (unset (length graph.channels) number false) ∙ came));
     gate_fits = λ task within. fresh_fits graph tasks (openings_of starts) last task (let long = one_each in omega (arith, within, long));
     only_marked = λ number unmarked. unset (length graph.channels) number [];
     forms = λ task r is.

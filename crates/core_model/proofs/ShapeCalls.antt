@@ -25,14 +25,14 @@ use Rattle.job_state.specs.declared.holding.Holding.TheVariants as holds
 use Rattle.task_part.specs.declared.part.Part.TheVariants as part
 use Rattle.task_part.specs.declared.part.Part.{Part}
 use Rattle.core_model.specs.Calls.{input_at, IsBarrierNext, is_copy}
-use Rattle.core_model.specs.Keeps.{GateFits, StandsAs, IfRecord, CopyAs, Shape}
+use Rattle.core_model.specs.Keeps.{GateFits, StandsAs, IfRecord, CopyAs}
 use Rattle.core_model.proofs.CallTasks.{LeadsTo, input_leads}
 use Rattle.core_model.proofs.Gates.{log_elsewhere, index_set_other}
 use Rattle.core_model.proofs.GatesKept.{no_inputs, rests_without, rests_unpending, fits_rest, fits_same, fits_barrier, fits_beside}
 use Rattle.core_model.proofs.Lists.{get_set_same, get_set_other, set_past, set_length}
 use Rattle.core_model.proofs.Fitting.{fit_puts, fit_taken, fit_records, fit_barriers, fit_received}
 use Rattle.core_model.proofs.StoreComplete.{ready_acked}
-use Rattle.core_model.proofs.Shapes.{HoldsGood, replicate_length, shape_task, shape_channels, shape_logs, shape_gates, copy_forms_set, shape_coordination, shape_cleared}
+use Rattle.core_model.proofs.Shapes.{Frame, HoldsGood, replicate_length, shape_task, shape_channels, shape_logs, shape_gates, copy_forms_set, shape_coordination, shape_cleared}
 
 -- the first of a channel's items fits
 first_fits : {R : Type 0} (Fits : R → Type 0) (items : List (Item R)) (row : R) → All (IfRecord Fits) items → slice_get items 0 ≡ Some (Record row) → Fits row
@@ -58,20 +58,20 @@ log_fits {R} Fits true channel row logs fits all number =
       ]
     ]
 
-index_replicate : {A : Type 0} (n i : ℕ) (x : A) → slice_index_or (replicate n x) i x ≡ x
+pub index_replicate : {A : Type 0} (n i : ℕ) (x : A) → slice_index_or (replicate n x) i x ≡ x
 index_replicate zero i x = refl
 index_replicate (suc n) zero x = refl
 index_replicate (suc n) (suc i) x = index_replicate n i x
 
-copy_set : {P : Type 0} (copies : List (Option P)) (task : ℕ) (p : P) → task < length copies → unwrap_or (slice_get (slice_set copies task (Some p)) task) None ≡ Some p
+pub copy_set : {P : Type 0} (copies : List (Option P)) (task : ℕ) (p : P) → task < length copies → unwrap_or (slice_get (slice_set copies task (Some p)) task) None ≡ Some p
 copy_set copies task p within = ap (λ (o : Option (Option _)). unwrap_or o None) (get_set_same copies task (Some p) within)
 
-copy_beside : {P : Type 0} (copies : List (Option P)) (task t : ℕ) (p : P) → (t ≡ task → ⊥) → unwrap_or (slice_get (slice_set copies task (Some p)) t) None ≡ unwrap_or (slice_get copies t) None
+pub copy_beside : {P : Type 0} (copies : List (Option P)) (task t : ℕ) (p : P) → (t ≡ task → ⊥) → unwrap_or (slice_get (slice_set copies task (Some p)) t) None ≡ unwrap_or (slice_get copies t) None
 copy_beside copies task t p apart = ap (λ (o : Option (Option _)). unwrap_or o None) (get_set_other copies task t (Some p) apart)
 
 module _ {R K S O : Type 0} (cmp : K → K → Ordering) (RecordFits : R → Type 0) (IsGood : O → S → Type 0) (graph : Expanded) (operators : List O) where
   abbrev IsShape : Held R K S → Type 0
-  IsShape held = Shape cmp RecordFits IsGood graph operators held
+  IsShape held = Frame cmp RecordFits IsGood graph operators held
 
   source_good : (offset : ℕ) (r : Role) → HoldsGood {R = R} cmp RecordFits IsGood graph operators r (holds.Source offset)
   source_good offset r = λ number operator entries key state is op same value. absurd cc

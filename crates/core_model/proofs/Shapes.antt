@@ -10,12 +10,12 @@ use Rattle.coordinator.specs.Coordinator.{Coordination, has_acked}
 use Rattle.job_graph.specs.Expanded.{Expanded, is_marked, meets}
 use Rattle.job_graph.specs.declared.role.Role.{Role}
 use Rattle.job_graph.specs.declared.role.Role.TheVariants as role
-use Rattle.job_state.specs.Held.{Held, gate_at, cleared}
+use Rattle.job_state.specs.Held.{Held, copy_at, came_at, gate_at, logged_at, cleared}
 use Rattle.job_state.specs.Sending.{items_at}
 use Rattle.job_state.specs.declared.holding.Holding.{Holding}
 use Rattle.job_state.specs.declared.holding.Holding.TheVariants as holds
 use Rattle.task_part.specs.declared.part.Part.{Part}
-use Rattle.core_model.specs.Keeps.{HoldsAs, CopyAs, IfRecord, GateFits, Shape}
+use Rattle.core_model.specs.Keeps.{HoldsAs, CopyAs, IfRecord, GateFits, AreHeld, AllFit, LogsFit, BarriersStand, CameAfter, Shape}
 use Rattle.std.proofs.lemmas.List.Elements.{All-from_recursion}
 use Rattle.core_model.proofs.GatesKept.{fits_same, fits_rest}
 use Rattle.core_model.proofs.Lists.{get_set_same, get_set_other, set_length}
@@ -29,9 +29,72 @@ replicate_at zero i x = refl
 replicate_at (suc n) zero x = refl
 replicate_at (suc n) (suc i) x = replicate_at n i x
 
+-- What a running job holds, but for the barriers in its channels.
+pub record Frame {R K S O : Type 0} (cmp : K → K → Ordering) (RecordFits : R → Type 0) (IsGood : O → S → Type 0) (graph : Expanded) (operators : List O) (held : Held R K S) : Type 0 where
+  pub tasks : length held.tasks ≡ length graph.tasks
+  pub channels : length held.channels ≡ length graph.channels
+  pub copies : length held.copies ≡ length graph.tasks
+  pub gates : length held.gates ≡ length graph.tasks
+  pub came : length held.came ≡ length graph.channels
+  pub logs : length held.logs ≡ length graph.channels
+  pub acked : length held.coordination.acked ≡ length graph.tasks
+  pub none_copied : held.coordination.pending ≡ None → (task : ℕ) → copy_at held task ≡ None
+  pub none_came : held.coordination.pending ≡ None → (number : ℕ) → came_at held number ≡ false
+  pub gate_fits : (task : ℕ) → task < length graph.tasks → GateFits graph held task
+  pub only_marked : (number : ℕ) → meets is_marked graph.channels number ≡ false → logged_at held number ≡ []
+  pub forms : AreHeld graph held
+  pub copy_forms : (task : ℕ) (r : Role) → slice_get graph.tasks task ≡ Some r → CopyAs r (copy_at held task)
+  pub fit : AllFit RecordFits held
+  pub logs_fit : LogsFit RecordFits held
+  pub good : (task number : ℕ) (operator : O) (entries : List (K × S)) (key : K) (state : S) → slice_get graph.tasks task ≡ Some (role.Operator number) → slice_get operators number ≡ Some operator
+      → slice_get held.tasks task ≡ Some (holds.Operator entries) → value_at cmp entries key ≡ Some state → IsGood operator state
+
+module _ {R K S O : Type 0} (cmp : K → K → Ordering) (RecordFits : R → Type 0) (IsGood : O → S → Type 0) (graph : Expanded) (operators : List O) (held : Held R K S) where
+  pub frame_of : Shape cmp RecordFits IsGood graph operators held → Frame cmp RecordFits IsGood graph operators held
+  frame_of shape = record {
+    tasks = shape.tasks;
+    channels = shape.channels;
+    copies = shape.copies;
+    gates = shape.gates;
+    came = shape.came;
+    logs = shape.logs;
+    acked = shape.acked;
+    none_copied = shape.none_copied;
+    none_came = shape.none_came;
+    gate_fits = shape.gate_fits;
+    only_marked = shape.only_marked;
+    forms = shape.forms;
+    copy_forms = shape.copy_forms;
+    fit = shape.fit;
+    logs_fit = shape.logs_fit;
+    good = shape.good;
+  }
+
+  pub shape_with : Frame cmp RecordFits IsGood graph operators held → BarriersStand graph held → CameAfter graph held → Shape cmp RecordFits IsGood graph operators held
+  shape_with frame barriers came_after = record {
+    tasks = frame.tasks;
+    channels = frame.channels;
+    copies = frame.copies;
+    gates = frame.gates;
+    came = frame.came;
+    logs = frame.logs;
+    acked = frame.acked;
+    none_copied = frame.none_copied;
+    none_came = frame.none_came;
+    barriers = barriers;
+    came_after = came_after;
+    gate_fits = frame.gate_fits;
+    only_marked = frame.only_marked;
+    forms = frame.forms;
+    copy_forms = frame.copy_forms;
+    fit = frame.fit;
+    logs_fit = frame.logs_fit;
+    good = frame.good;
+  }
+
 module _ {R K S O : Type 0} (cmp : K → K → Ordering) (RecordFits : R → Type 0) (IsGood : O → S → Type 0) (graph : Expanded) (operators : List O) where
   abbrev IsShape : Held R K S → Type 0
-  IsShape held = Shape cmp RecordFits IsGood graph operators held
+  IsShape held = Frame cmp RecordFits IsGood graph operators held
 
   -- a holding whose states an operator can go on from
   abbrev pub HoldsGood : Role → Holding K S → Type 0

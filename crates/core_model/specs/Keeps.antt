@@ -1,6 +1,6 @@
 -- What every engine keeps, and when it is sound.
-use Rattle.std.specs.Prelude.{◌≡◌, ◌≢◌, ◌⊎◌, ◌+◌, ◌<◌, ◌≤◌, ℕ, true, false, List, [], ◌∷◌, ◌++◌, length, map, count_by, slice_get, Option, Some, None, Ok, is_some, All, MatchOption}
-use Rattle.dataflow_model.specs.Graph.{Task, Job}
+use Rattle.std.specs.Prelude.{◌≡◌, ◌≢◌, ◌⊎◌, ◌+◌, ◌<◌, ◌≤◌, ℕ, Bool, true, false, List, [], ◌∷◌, ◌++◌, length, map, count_by, slice_get, Option, Some, None, Ok, is_some, All, MatchOption}
+use Rattle.dataflow_model.specs.Graph.{Task, Job, Channel}
 use Rattle.std.specs.declared.cmp.Ordering.{Ordering}
 use Rattle.abs_codec.specs.Entries.{value_at}
 use Rattle.abs_codec.specs.Reading.{whole_of}
@@ -124,6 +124,26 @@ module _ {R K S : Type 0} (graph : Expanded) (held : Held R K S) (task : ℕ) wh
     pub stands : StandsAs (gate_at held task).phase (gate_at held task).inputs
     pub acknowledged : has_acked held.coordination task ≡ true → (copy_at held task ≢ None) × ((gate_at held task).phase ≡ AtRest)
 
+-- the numbers of the barriers that stand in a queue, the oldest first
+abbrev pub barriers_in : {R : Type 0} → List (Item R) → List ℕ
+barriers_in [] = []
+barriers_in (Record r ∷ rest) = barriers_in rest
+barriers_in (Barrier number ∷ rest) = number ∷ barriers_in rest
+
+-- the barriers that are due in a channel: the pending checkpoint's, where the sender has copied and it was not yet taken
+abbrev pub barriers_due : Option ℕ → Bool → Bool → List ℕ
+barriers_due (Some checkpoint) true false = checkpoint ∷ []
+barriers_due pending copied came = []
+
+-- In each channel stand the barriers that are due there.
+abbrev pub BarriersStand : {R K S : Type 0} → Expanded → Held R K S → Type 0
+BarriersStand graph held = (number : ℕ) (channel : Channel) → slice_get graph.channels number ≡ Some channel
+    → barriers_in (items_at held.channels number) ≡ barriers_due held.coordination.pending (is_some (copy_at held channel.sender)) (came_at held number)
+
+-- Where a barrier was taken from a channel, its sender has copied.
+abbrev pub CameAfter : {R K S : Type 0} → Expanded → Held R K S → Type 0
+CameAfter graph held = (number : ℕ) (channel : Channel) → slice_get graph.channels number ≡ Some channel → came_at held number ≡ true → copy_at held channel.sender ≢ None
+
 -- What a running job holds, by its graph and its operators, which ask that records fit, and that states are good.
 pub record Shape {R K S O : Type 0} (cmp : K → K → Ordering) (RecordFits : R → Type 0) (IsGood : O → S → Type 0) (graph : Expanded) (operators : List O) (held : Held R K S) : Type 0 where
   pub tasks : length held.tasks ≡ length graph.tasks
@@ -136,6 +156,9 @@ pub record Shape {R K S O : Type 0} (cmp : K → K → Ordering) (RecordFits : R
   -- where nothing is pending, nothing was copied, and no barrier was taken
   pub none_copied : held.coordination.pending ≡ None → (task : ℕ) → copy_at held task ≡ None
   pub none_came : held.coordination.pending ≡ None → (number : ℕ) → came_at held number ≡ false
+  -- the barriers that are due stand in the channels, and those that were taken were sent
+  pub barriers : BarriersStand graph held
+  pub came_after : CameAfter graph held
   -- each task's gate stands with what it holds, and only back-edges are logged
   pub gate_fits : (task : ℕ) → task < length graph.tasks → GateFits graph held task
   pub only_marked : (number : ℕ) → meets is_marked graph.channels number ≡ false → logged_at held number ≡ []

@@ -59,7 +59,7 @@ where
         every,
         turns,
     } = options;
-    let (station, mut share) = Station::<O, S, X, P, L>::new(core, schedule, blank);
+    let (station, mut share) = Station::<O, S, X, P, L, &R>::new(core, schedule, blank);
     let station = Mutex::new(station);
     let report = run(
         rt,

@@ -16,8 +16,8 @@
 //!
 //! Not proved: that a read, a publish or a new writer ever succeeds, since memory may be refused;
 //! that a read is refused as `Closed` only once the writer has ended; that a reader which was told
-//! nothing finds what is published by then; progress, fairness and time. `publish` and `close` wait
-//! for readers that copy a list at that moment, and no reader waits for them.
+//! nothing finds what is published by then; progress, fairness and time. `publish` and a writer's
+//! drop wait for readers that copy a list at that moment, and no reader waits for them.
 //!
 //! Publishing costs what was handed in since the last time, and reading costs the list that is
 //! read. The writer holds each row twice. Each `Told` that is kept has one of 48 places; where all

@@ -187,8 +187,9 @@ fn readers<R: Wait>(
     Ok(all)
 }
 
-/// Is handed rows by subtask, and publishes them. It is not `Drop`: end it by `close`.
-pub struct OutputWriter {
+/// Is handed rows by subtask, and publishes them. Once it is dropped every read is refused; its
+/// drop waits for readers that copy a list at that moment.
+pub struct OutputWriter<R: Wait + Drop> {
     writer: ListWriter,
     head: Head,
     // The last edition that lists were named by.
@@ -196,9 +197,10 @@ pub struct OutputWriter {
     // How many rows of each subtask were handed in.
     counts: Vec<usize>,
     readers: Vec<OutputReader>,
+    rt: R,
 }
 
-impl Model for OutputWriter {
+impl<R: Wait + Drop> Model for OutputWriter<R> {
     ghost use Rattle.std.specs.Prelude.{vec_len};
     ghost use Rattle.left_right.specs.Sides.{view as known};
     ghost use Rattle.output_readers.specs.Operations.{staged};
@@ -218,9 +220,9 @@ impl Model for OutputWriter {
         o.last o.counts.items o.readers.items };
 }
 
-impl OutputWriter {
+impl<R: Wait + Drop> OutputWriter<R> {
     /// A writer with empty lists of so many subtasks, and its 16 readers.
-    pub fn new<R: Wait>(rt: &R, alloc: Global, subtasks: usize) -> Result<OutputWriter, OutputFault>
+    pub fn new(rt: R, alloc: Global, subtasks: usize) -> Result<OutputWriter<R>, OutputFault>
         ensures lists { IfOk result (λ o. (o.published ≡ replicate subtasks [])
             × (o.appended ≡ replicate subtasks [])) }
         ensures readers { IfOk result (λ o. o.readers ≡ 16) }
@@ -228,17 +230,18 @@ impl OutputWriter {
     {
         let (head, nothing) = Head::new();
         let counts = Vec::from_elem(alloc, 0usize, subtasks)?;
-        let (mut writer, last) = opened(rt, alloc, subtasks, &head, &nothing)?;
-        match readers(rt, alloc, subtasks, &mut writer) {
+        let (mut writer, last) = opened(&rt, alloc, subtasks, &head, &nothing)?;
+        match readers(&rt, alloc, subtasks, &mut writer) {
             Ok(readers) => Ok(OutputWriter {
                 writer,
                 head,
                 last,
                 counts,
                 readers,
+                rt,
             }),
             Err(e) => {
-                writer.take(rt);
+                writer.take(&rt);
                 Err(e.into())
             }
         }
@@ -305,7 +308,7 @@ impl OutputWriter {
 
     /// Shows readers all that was handed in, and tells which lists these are. At `Err` memory was
     /// refused, or no place was free for the `Told`, and readers see what they saw.
-    pub fn publish<R: Wait>(&mut self, rt: &R) -> Result<Told, OutputFault>
+    pub fn publish(&mut self) -> Result<Told, OutputFault>
         ensures published { MatchResult result (λ _. self.new.published ≡ self.old.appended)
             (λ _. self.new.published ≡ self.old.published) }
         ensures told { IfOk result (λ told. (told.history ≡ self.new.history)
@@ -316,24 +319,26 @@ impl OutputWriter {
             × (self.new.readers ≡ self.old.readers) }
     {
         drop(self.writer.factory().reader()?);
-        let Some(edition) = named(rt, &self.head, &self.last, &self.writer) else {
+        let Some(edition) = named(&self.rt, &self.head, &self.last, &self.writer) else {
             return Err(OutputFault::Memory);
         };
         self.last = edition.again();
-        replace_with(&mut self.writer, (rt, edition.again()), announce::<R>)?;
-        let reader = relay(rt, &mut self.writer);
+        replace_with(&mut self.writer, (&self.rt, edition.again()), announce::<R>)?;
+        let reader = relay(&self.rt, &mut self.writer);
         Ok(Told { reader, edition })
     }
+}
 
-    /// Ends the writer: from then on every read is refused. It waits for readers that copy a list.
-    pub fn close<R: Wait>(self, rt: &R) {
+impl<R: Wait + Drop> Drop for OutputWriter<R> {
+    fn drop(self) {
         let OutputWriter {
             writer,
             head: _head,
             last: _last,
             counts: _counts,
             readers: _readers,
+            rt,
         } = self;
-        writer.take(rt);
+        writer.take(&rt);
     }
 }

@@ -8,13 +8,13 @@ use std::thread;
 use std::thread::{Threads, join};
 
 // Hands in a row of this byte, and publishes it. It is `None` where a call is refused.
-fn show<R: Wait>(rt: &R, alloc: Global, writer: &mut OutputWriter, byte: u8) -> Option<Told> {
+fn show<R: Wait + Drop>(alloc: Global, writer: &mut OutputWriter<R>, byte: u8) -> Option<Told> {
     if writer.subtasks() < 2 {
         return None;
     }
     let row = Vec::from_slice(alloc, &[byte]).ok()?;
     writer.append(1, row).ok()?;
-    writer.publish(rt).ok()
+    writer.publish().ok()
 }
 
 // How many rows there are in the second subtask, and the last of them.
@@ -33,10 +33,9 @@ fn look_there<R: Threads + Wait + Sync>(
 }
 
 // A reader takes in what is published.
-fn told_by<R: Wait>(
-    rt: &R,
+fn told_by<R: Wait + Drop>(
     alloc: Global,
-    writer: &mut OutputWriter,
+    writer: &mut OutputWriter<R>,
     reader: &mut OutputReader,
 ) -> Option<()>
     requires { reader.old.history ≡ writer.old.history }
@@ -44,29 +43,28 @@ fn told_by<R: Wait>(
     if writer.subtasks() == 2 {
         writer.append(1, Vec::from_slice(alloc, &[2]).ok()?).ok()?;
     }
-    reader.learn(writer.publish(rt).ok()?);
+    reader.learn(writer.publish().ok()?);
     Some(())
 }
 
 // What a reader that is told nothing sees: before anything is published, and once two rows are.
-fn seen<R: Wait>(
-    rt: &R,
+fn seen<R: Wait + Drop>(
     alloc: Global,
-    writer: &mut OutputWriter,
+    writer: &mut OutputWriter<R>,
 ) -> Option<(usize, usize, Option<u8>)> {
     let mut reader = writer.reader().ok()?;
     let before = look(&mut reader).ok()?.0;
-    drop(show(rt, alloc, writer, 3)?);
-    drop(show(rt, alloc, writer, 4)?);
+    drop(show(alloc, writer, 3)?);
+    drop(show(alloc, writer, 4)?);
     let (after, last) = look(&mut reader).ok()?;
     Some((before, after, last))
 }
 
 // Keeps so many tolds, and counts how often there was one.
-fn kept<R: Wait>(rt: &R, alloc: Global, writer: &mut OutputWriter, tolds: usize) -> Option<usize> {
+fn kept<R: Wait + Drop>(alloc: Global, writer: &mut OutputWriter<R>, tolds: usize) -> Option<usize> {
     let mut all = Vec::new(alloc);
     for _ in 0..tolds {
-        if let Ok(told) = writer.publish(rt) {
+        if let Ok(told) = writer.publish() {
             all.push(told).ok()?;
         }
     }
@@ -74,7 +72,7 @@ fn kept<R: Wait>(rt: &R, alloc: Global, writer: &mut OutputWriter, tolds: usize)
 }
 
 // How many readers were handed out in so many calls.
-fn handed_out(writer: &mut OutputWriter, calls: usize) -> usize {
+fn handed_out<R: Wait + Drop>(writer: &mut OutputWriter<R>, calls: usize) -> usize {
     let mut count = 0usize;
     for _ in 0..calls {
         if writer.reader().is_ok() {
@@ -103,9 +101,9 @@ fn counts_up(mut reader: OutputReader, rows: usize, looks: u64) -> bool {
 }
 
 // Shows so many rows, one by one.
-fn show_all<R: Wait>(rt: &R, alloc: Global, writer: &mut OutputWriter, rows: usize) -> bool {
+fn show_all<R: Wait + Drop>(alloc: Global, writer: &mut OutputWriter<R>, rows: usize) -> bool {
     for _ in 0..rows {
-        if show(rt, alloc, writer, 1).is_none() {
+        if show(alloc, writer, 1).is_none() {
             return false;
         }
     }
@@ -113,31 +111,30 @@ fn show_all<R: Wait>(rt: &R, alloc: Global, writer: &mut OutputWriter, rows: usi
 }
 
 // What two readers found on another thread: one of a row that it was told, and one beside the writer.
-fn seen_there<R: Threads + Wait + Sync>(
+fn seen_there<R: Threads + Wait + Sync, W: Wait + Drop + Send>(
     rt: &R,
     alloc: Global,
-    writer: &mut OutputWriter,
+    writer: &mut OutputWriter<W>,
 ) -> Option<((usize, Option<u8>), (bool, bool))> {
     let mut first = writer.reader().ok()?;
-    told_by(rt, alloc, writer, &mut first)?;
+    told_by(alloc, writer, &mut first)?;
     let told = look_there(rt, first).ok()?;
     let second = writer.reader().ok()?;
     let ends = join(
         rt,
         move || counts_up(second, 301, 10_000_000),
-        || show_all(rt, alloc, writer, 300),
+        || show_all(alloc, writer, 300),
     );
     Some((told, ends))
 }
 
 // How many tolds were kept, what a reader saw then, and how many readers there were left.
-fn served<R: Wait>(
-    rt: &R,
+fn served<R: Wait + Drop>(
     alloc: Global,
-    writer: &mut OutputWriter,
+    writer: &mut OutputWriter<R>,
 ) -> (Option<usize>, Option<(usize, usize, Option<u8>)>, usize) {
-    let kept = kept(rt, alloc, writer, 50);
-    let seen = seen(rt, alloc, writer);
+    let kept = kept(alloc, writer, 50);
+    let seen = seen(alloc, writer);
     (kept, seen, handed_out(writer, 17))
 }
 
@@ -146,9 +143,9 @@ fn served<R: Wait>(
 fn places_and_readers_run_out_and_no_read_follows_the_end(rt: HostRuntime) -> Result<(), Fail> {
     let mut writer = OutputWriter::new(&rt, rt.alloc(), 2).map_err(|_| AllocError)?;
     let reader = writer.reader();
-    let served = served(&rt, rt.alloc(), &mut writer);
+    let served = served(rt.alloc(), &mut writer);
     let refused = writer.reader().err();
-    writer.close(&rt);
+    drop(writer);
     let read = reader.and_then(|mut reader| look(&mut reader));
     assert_eq!(rt; served, (Some(48), Some((0, 2, Some(4))), 14));
     assert_eq!(rt; refused, Some(OutputFault::ReadersFull));
@@ -160,7 +157,7 @@ fn places_and_readers_run_out_and_no_read_follows_the_end(rt: HostRuntime) -> Re
 fn readers_read_on_another_thread(rt: HostRuntime) -> Result<(), Fail> {
     let mut writer = OutputWriter::new(&rt, rt.alloc(), 2).map_err(|_| AllocError)?;
     let seen = seen_there(&rt, rt.alloc(), &mut writer);
-    writer.close(&rt);
+    drop(writer);
     assert_eq!(rt; seen, Some(((1, Some(2)), (true, true))));
     Ok(())
 }

@@ -18,7 +18,13 @@ pub enum RunFault {
     /// Memory was refused.
     #[error("N4 Memory")]
     Memory,
+    /// All readers of the station were handed out, or it has none.
+    #[error("N5 ReadersFull")]
+    ReadersFull,
     /// The core refused a step for good.
     #[error("N6 Core: {0}")]
     Core(CoreFault),
+    /// The output writer has ended.
+    #[error("N7 Closed")]
+    Closed,
 }

@@ -1,16 +1,18 @@
 -- What a station keeps.
-use Rattle.std.specs.Prelude.{◌≡◌, ℕ, ◌+◌, ◌≤◌, Result, MatchResult, length}
+use Rattle.std.specs.Prelude.{◌≡◌, ℕ, ◌+◌, ◌≤◌, Option, Result, MatchResult, length}
 use Rattle.core_model.specs.Language.{Language}
 use Rattle.core_model.specs.declared.fault.CoreFault.{CoreFault}
 use Rattle.core_plain.specs.Plain.{Stays}
 use Rattle.dataflow_core.specs.CoreState.{CoreState}
 use Rattle.dataflow_core.specs.Steps.{IsStep}
 use Rattle.engine.specs.Running.{IsCounted}
+use Rattle.output_readers.specs.Seeing.{Output}
 
--- the core, and the total of the finishes that were accepted
+-- the core, the total of the finishes that were accepted, and what readers are shown, if it has any
 pub record Standing (O R K S : Type 0) : Type 0 where
   pub core : CoreState O R K S
   pub total : ℕ
+  pub output : Option Output
 
 -- each claim adds one at most, and once it has ended
 abbrev pub Within : {O R K S : Type 0} → ℕ → CoreState O R K S → Type 0
@@ -26,7 +28,7 @@ EndsAClaim old new result =
     MatchResult result (λ _. length new.claims + 1 ≡ length old.claims) (λ _. length new.claims ≤ length old.claims) × (new.serials ≡ old.serials)
 
 module _ {O R K S : Type 0} (old new : Standing O R K S) where
-  -- a call of the core that leaves the claims, and the total
+  -- a call of the core that leaves the claims, the total, and what readers are shown
   abbrev pub LeavesClaims : Type 0
   LeavesClaims = new ≡ record old { core = record old.core { engine = new.core.engine } }
 

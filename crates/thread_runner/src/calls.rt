@@ -25,6 +25,7 @@ use dataflow_core::{CoreFault, Job, Rules};
 use operators::Operator;
 use snapshot_store::SnapshotStore;
 use source_log::{Partitions, SourceFault};
+use std::sync::Wait;
 use std::sync::ledger::Ledger;
 
 impl<
@@ -33,7 +34,8 @@ impl<
     X: Transactions,
     P: Partitions<Record = O::Record>,
     L: Ledger,
-> Station<O, S, X, P, L> {
+    R: Wait + Drop,
+> Station<O, S, X, P, L, R> {
     /// Whether both devices were new when the core was opened. Then each sink has committed exactly
     /// its output at the moment of its own last committed checkpoint.
     pub fn is_fresh(&self) -> bool
@@ -66,7 +68,7 @@ impl<
           engine = self.new.core.engine;
           claims = claims_after result self.old.core.claims;
         } }
-        ensures total { self.new.total ≡ self.old.total }
+        ensures total { (self.new.total ≡ self.old.total) × (self.new.output ≡ self.old.output) }
     {
         self.core.restart()
     }
@@ -92,7 +94,7 @@ impl<
             job.attempt job.serial job.work) }
         ensures err { IfErr result (λ fault. Refuses self.old.core task input fault
             × (self.new ≡ self.old)) }
-        ensures total { self.new.total ≡ self.old.total }
+        ensures total { (self.new.total ≡ self.old.total) × (self.new.output ≡ self.old.output) }
     {
         self.core.claim(task, input)
     }

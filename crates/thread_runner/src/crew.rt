@@ -52,9 +52,10 @@ impl<L: Ledger> Worker<L> {
         S: SnapshotStore + Drop,
         X: Transactions + Drop,
         P: Partitions<Record = O::Record> + Drop,
+        W: Wait + Drop,
         H: Pause,
         R: Wait + Clock,
-    >(&mut self, rt: &R, station: &Mutex<Station<O, S, X, P, L>>, turns: u64, pause: &H) {
+    >(&mut self, rt: &R, station: &Mutex<Station<O, S, X, P, L, W>>, turns: u64, pause: &H) {
         for _ in 0..turns {
             let (next, left) = station.lock(rt).choose();
             self.patience.took_turn(left);
@@ -62,6 +63,10 @@ impl<L: Ledger> Worker<L> {
                 Next::Over => return,
                 Next::Idle => self.patience.wait(rt),
                 Next::Again => self.made(rt, station, true),
+                Next::Publish => {
+                    let _ = station.lock(rt).publish();
+                    self.made(rt, station, true);
+                }
                 Next::Run(task, job) => {
                     let is_short = self.run_job(rt, station, turns, pause, task, job);
                     self.made(rt, station, is_short);
@@ -77,8 +82,9 @@ impl<L: Ledger> Worker<L> {
         S: SnapshotStore + Drop,
         X: Transactions + Drop,
         P: Partitions<Record = O::Record> + Drop,
+        W: Wait + Drop,
         R: Wait + Clock,
-    >(&mut self, rt: &R, station: &Mutex<Station<O, S, X, P, L>>, is_short: bool) {
+    >(&mut self, rt: &R, station: &Mutex<Station<O, S, X, P, L, W>>, is_short: bool) {
         if self.patience.is_tired(is_short) && station.lock(rt).rests() {
             self.patience.rest(rt);
             station.lock(rt).wakes();
@@ -92,12 +98,13 @@ impl<L: Ledger> Worker<L> {
         S: SnapshotStore + Drop,
         X: Transactions + Drop,
         P: Partitions<Record = O::Record> + Drop,
+        W: Wait + Drop,
         H: Pause,
         R: Wait + Clock,
     >(
         &mut self,
         rt: &R,
-        station: &Mutex<Station<O, S, X, P, L>>,
+        station: &Mutex<Station<O, S, X, P, L, W>>,
         turns: u64,
         pause: &H,
         task: u32,
@@ -141,12 +148,13 @@ pub fn run<
     X: Transactions + Drop + Send,
     P: Partitions<Record = O::Record> + Drop + Send,
     L: Ledger + Send + Sync,
+    W: Wait + Drop + Send,
     H: Pause + Sync,
     R: Threads + Wait + Clock + Sync,
 >(
     rt: &R,
     alloc: Global,
-    station: &Mutex<Station<O, S, X, P, L>>,
+    station: &Mutex<Station<O, S, X, P, L, W>>,
     all: &mut Share<L>,
     workers: usize,
     every: u64,
@@ -191,10 +199,11 @@ fn gather<
     X: Transactions + Drop,
     P: Partitions<Record = O::Record> + Drop,
     L: Ledger,
+    W: Wait + Drop,
     R: Wait,
 >(
     rt: &R,
-    station: &Mutex<Station<O, S, X, P, L>>,
+    station: &Mutex<Station<O, S, X, P, L, W>>,
     all: &mut Share<L>,
     mut crew: Vec<Worker<L>>,
 ) -> u128

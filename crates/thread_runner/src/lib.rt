@@ -6,6 +6,14 @@
 //! and what a [`run`] reports is what it added to the share that was handed to it. Jobs are run
 //! with no lock held.
 //!
+//! A station may have readers: `with_readers` makes 16 of them, which `reader` hands out. `publish`
+//! shows them what is committed, and answers a [`Told`] that names these lists; [`run`] publishes
+//! after each round of commits and at its end. An [`OutputReader`] never waits, for no lock and for
+//! no worker. Proved: what readers can see of a sink subtask begins what it has committed
+//! (`published_begins`), and is all of it where `publish` answers a `Told`; no other call changes
+//! what they can see. Not proved: that `run` publishes. A station without readers holds no rows but
+//! the core's.
+//!
 //! Which step comes next is chosen by a [`Schedule`], on which nothing rests but that the run comes
 //! to rest.
 #![tactic(auto)]
@@ -14,9 +22,11 @@ mod calls;
 mod crew;
 mod patience;
 mod pause;
+mod publishing;
 mod station;
 
 pub use crew::{Report, run};
+pub use output_readers::{OutputFault, OutputReader, Told};
 pub use pause::{NoPause, Pause};
 pub use run_schedule::{RunFault, Schedule};
 pub use station::Station;

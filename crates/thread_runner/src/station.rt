@@ -1,17 +1,26 @@
-//! What stands behind the lock: the core, the book of totals and the turns of the present run.
+//! What stands behind the lock: the core, the book of totals, the turns of the present run, and
+//! the output writer, if there are readers.
 
-ghost use Rattle.std.specs.Prelude.{◌≡◌, ◌+◌, ◌<◌, ◌^◌, None, IfErr, MatchResult};
+ghost use Rattle.std.specs.Prelude.{◌≡◌, ◌+◌, ◌<◌, ◌^◌, [], ⊤, None, IfOk, IfErr, MatchOption, MatchResult, length, replicate};
+ghost use Rattle.std.specs.Option.{option_map};
 ghost use Rattle.dataflow_core.specs.Claims.{EndsFinish, FinishMoves};
 ghost use Rattle.dataflow_core.specs.Steps.{IsStep, Preserves};
+ghost use Rattle.output_readers.specs.Seeing.{IsOpening};
+ghost use Rattle.thread_runner.specs.Showing.{BeginCommitted, Begin, AreCommitted, Shows};
 ghost use Rattle.thread_runner.specs.Standing.{ClaimsOnce, EndsAClaim};
+
+use crate::publishing::{hand_in, refused};
 
 use commit_sink::Transactions;
 use dataflow_core::{Core, CoreFault, Done, Job, Rules};
 use operators::Operator;
+use output_readers::{OutputReader, OutputWriter, Told};
 use run_schedule::{Place, RunFault, Schedule, Step, Turns};
 use snapshot_store::SnapshotStore;
 use source_log::Partitions;
+use std::alloc::Global;
 use std::marker::Model;
+use std::sync::Wait;
 use std::sync::ledger::{Blank, Book, Ledger, Share};
 
 /// What a worker does next.
@@ -23,6 +32,8 @@ pub(crate) enum Next<O: Operator> {
     Idle,
     /// The next turn: this one's step is made.
     Again,
+    /// The rows of a round of commits are shown to readers.
+    Publish,
     /// This task's job, with no lock held.
     Run(u32, Job<O>),
 }
@@ -35,10 +46,12 @@ pub struct Station<
     X: Transactions,
     P: Partitions<Record = O::Record>,
     L: Ledger,
+    R: Wait + Drop,
 > {
     pub(crate) core: Core<O, S, X, P>,
     book: Book<L>,
     turns: Turns,
+    output: Option<OutputWriter<R>>,
 }
 
 impl<
@@ -47,18 +60,20 @@ impl<
     X: Transactions,
     P: Partitions<Record = O::Record>,
     L: Ledger,
-> Model for Station<O, S, X, P, L> {
+    R: Wait + Drop,
+> Model for Station<O, S, X, P, L, R> {
     ghost use Rattle.std.specs.Coded.{codes};
     ghost use Rattle.snapshot_store.specs.Store.{stored_code};
+    ghost use Rattle.thread_runner.specs.Showing.{Shows};
     ghost use Rattle.thread_runner.specs.Standing.{Standing, Within};
 
     ghost Value = { Standing O O.Record O.Key O.State };
 
     ghost coded = { Prim.hlevel (codes, stored_code) };
 
-    ghost view = { λ s. record { core = s.core; total = s.book.total } };
+    ghost view = { λ s. record { core = s.core; total = s.book.total; output = s.output } };
 
-    ghost invariant = { λ s. Within s.book.total s.core };
+    ghost invariant = { λ s. Within s.book.total s.core × Shows s.output s.core.engine };
 }
 
 impl<
@@ -67,26 +82,74 @@ impl<
     X: Transactions,
     P: Partitions<Record = O::Record>,
     L: Ledger,
-> Station<O, S, X, P, L> {
-    /// A station over this core, whose graph's schedule this is, and the share with the whole
-    /// ledger.
+    R: Wait + Drop,
+> Station<O, S, X, P, L, R> {
+    /// A station without readers over this core, whose graph's schedule this is, and the share with
+    /// the whole ledger. It holds no rows but the core's.
     pub fn new(
         core: Core<O, S, X, P>,
         schedule: Schedule,
         blank: Blank,
-    ) -> (Station<O, S, X, P, L>, Share<L>)
+    ) -> (Station<O, S, X, P, L, R>, Share<L>)
         requires name { blank.name ≡ L.name }
         requires parts { (blank.parts ≡ L.parts) × (L.parts ≡ 65) }
-        ensures station { result.0 ≡ record { core = core; total = 0 } }
+        ensures station { result.0 ≡ record { core = core; total = 0; output = None } }
+        ensures share { (result.1.parts ≡ L.parts) × (result.1.amount ≡ 0) }
+    {
+        Station::opened(core, schedule, blank, None)
+    }
+
+    /// A station with 16 readers, whose opening lists are empty. At `Err` memory was refused, and
+    /// the core is handed back.
+    pub fn with_readers(
+        rt: R,
+        alloc: Global,
+        core: Core<O, S, X, P>,
+        schedule: Schedule,
+        blank: Blank,
+    ) -> Result<(Station<O, S, X, P, L, R>, Share<L>), (RunFault, Core<O, S, X, P>)>
+        requires name { blank.name ≡ L.name }
+        requires parts { (blank.parts ≡ L.parts) × (L.parts ≡ 65) }
+        ensures station { IfOk result (λ r. (r.0.core ≡ core) × (r.0.total ≡ 0)) }
+        ensures output { IfOk result (λ r. MatchOption r.0.output ⊥ (λ o. (o.readers ≡ 16)
+            × (o.published ≡ replicate (length o.published) []))) }
+        ensures share { IfOk result (λ r. (r.1.parts ≡ L.parts) × (r.1.amount ≡ 0)) }
+        ensures back { IfErr result (λ e. e.1 ≡ core) }
+    {
+        match OutputWriter::new(rt, alloc, core.sinks() as usize) {
+            Ok(writer) => Ok(Station::opened(core, schedule, blank, Some(writer))),
+            Err(fault) => Err((refused(fault), core)),
+        }
+    }
+
+    fn opened(
+        core: Core<O, S, X, P>,
+        schedule: Schedule,
+        blank: Blank,
+        output: Option<OutputWriter<R>>,
+    ) -> (Station<O, S, X, P, L, R>, Share<L>)
+        requires name { blank.name ≡ L.name }
+        requires parts { (blank.parts ≡ L.parts) × (L.parts ≡ 65) }
+        requires shows { Shows output core.engine }
+        ensures station { result.0 ≡ record { core = core; total = 0; output = output } }
         ensures share { (result.1.parts ≡ L.parts) × (result.1.amount ≡ 0) }
     {
         core.serials_bound();
         let (book, share) = blank.open::<L>();
         let turns = Turns::new(schedule);
-        (Station { core, book, turns }, share)
+        (
+            Station {
+                core,
+                book,
+                turns,
+                output,
+            },
+            share,
+        )
     }
 
-    /// Hands the core out.
+    /// Hands the core out. From then on every read is refused; it waits for readers that copy a
+    /// list at that moment.
     pub fn into_core(self) -> Core<O, S, X, P>
         ensures { result ≡ self.core }
     {
@@ -94,8 +157,63 @@ impl<
             core,
             book: _book,
             turns: _turns,
+            output: _output,
         } = self;
         core
+    }
+
+    /// One of the readers that were made with the station. It has read nothing, and was told of no
+    /// row. `ReadersFull` where all 16 were handed out, or there were none.
+    pub fn reader(&mut self) -> Result<OutputReader, RunFault>
+        ensures opening { IfOk result (λ reader. MatchOption self.old.output ⊥
+            (λ o. IsOpening o.history (length o.appended) reader)) }
+        ensures full { IfErr result (λ fault. (fault ≡ RunFault.ReadersFull)
+            × MatchOption self.old.output ⊤ (λ o. o.readers ≡ 0)) }
+        ensures readers { MatchOption self.new.output (self.old.output ≡ None) (λ new.
+            MatchOption self.old.output ⊥ (λ old. (new.published ≡ old.published)
+            × (new.history ≡ old.history)
+            × MatchResult result (λ _. old.readers ≡ new.readers + 1)
+            (λ _. new.readers ≡ old.readers))) }
+        ensures same { (self.new.core ≡ self.old.core) × (self.new.total ≡ self.old.total) }
+    {
+        let Station { output, .. } = self;
+        match output {
+            Some(writer) => writer.reader().map_err(refused),
+            None => Err(RunFault::ReadersFull),
+        }
+    }
+
+    /// Shows readers all that is committed, and tells which lists these are. At `Err` readers see
+    /// what they saw: memory was refused, or the station has no readers (`Closed`). It costs what
+    /// was committed since the last time.
+    pub fn publish(&mut self) -> Result<Told, RunFault>
+        ensures shown { IfOk result (λ told. MatchOption self.new.output ⊥ (λ o.
+            AreCommitted o.published self.new.core.engine
+            × (told.history ≡ o.history) × (told.lists ≡ o.published))) }
+        ensures err { IfErr result (λ _. option_map (λ o. o.published) self.new.output
+            ≡ option_map (λ o. o.published) self.old.output) }
+        ensures refused { IfErr result (λ fault. MatchOption self.old.output
+            (fault ≡ RunFault.Closed) (λ _. fault ≡ RunFault.Memory)) }
+        ensures history { option_map (λ o. o.history) self.new.output
+            ≡ option_map (λ o. o.history) self.old.output }
+        ensures same { (self.new.core ≡ self.old.core) × (self.new.total ≡ self.old.total) }
+    {
+        let Station { core, output, .. } = self;
+        match output {
+            Some(writer) => show(core, writer),
+            None => Err(RunFault::Closed),
+        }
+    }
+
+    /// A law, with nothing to do: what readers can see of a sink subtask begins what it has
+    /// committed.
+    pub fn published_begins(&self)
+        ensures { MatchOption self.now.output ⊤ (λ o.
+            Begin o.published self.now.core.engine) }
+    {
+        if let Some(writer) = &self.output {
+            writer.published_begins();
+        }
     }
 
     /// Takes what was done of a job, as the core's own `finish` does, and adds one to the share and
@@ -110,6 +228,7 @@ impl<
             done.serial result }
         ensures total { MatchResult result (λ _. self.new.total ≡ self.old.total + 1)
             (λ _. self.new.total ≡ self.old.total) }
+        ensures output { self.new.output ≡ self.old.output }
         ensures amount { MatchResult result (λ _. share.new.amount ≡ share.old.amount + 1)
             (λ _. share.new.amount ≡ share.old.amount) }
         ensures bound { share.new.amount < 2 ^ 64 }
@@ -195,18 +314,42 @@ impl<
         let _ = core.fail();
     }
 
-    /// Ends a run: the job is down where it is refused.
+    /// Ends a run: readers are shown what is committed, and the job is down where the run is
+    /// refused.
     pub(crate) fn end(&mut self) -> Result<(), RunFault>
         ensures total { self.new.total ≡ self.old.total }
         ensures down { IfErr result (λ _. self.new.core.engine.held ≡ None) }
     {
-        let Station { core, turns, .. } = self;
-        let end = turns.end();
+        let shown = self.publish();
+        let end = match (self.turns.end(), shown) {
+            (Ok(()), Err(RunFault::Memory)) => Err(RunFault::Memory),
+            (end, _) => end,
+        };
         if end.is_err() {
-            let _ = core.fail();
+            self.give_up();
         }
         end
     }
+}
+
+/// Shows readers all that is committed.
+fn show<
+    O: Operator,
+    S: SnapshotStore,
+    X: Transactions,
+    P: Partitions<Record = O::Record>,
+    R: Wait + Drop,
+>(core: &Core<O, S, X, P>, writer: &mut OutputWriter<R>) -> Result<Told, RunFault>
+    requires { BeginCommitted writer.old.appended core.now.engine }
+    ensures begin { BeginCommitted writer.new.appended core.now.engine }
+    ensures all { IfOk result (λ told. AreCommitted writer.new.published core.now.engine
+        × (told.history ≡ writer.new.history) × (told.lists ≡ writer.new.published)) }
+    ensures err { IfErr result (λ fault. (fault ≡ RunFault.Memory)
+        × (writer.new.published ≡ writer.old.published)) }
+    ensures history { writer.new.history ≡ writer.old.history }
+{
+    hand_in(core, writer).map_err(refused)?;
+    writer.publish().map_err(refused)
 }
 
 /// The core's own `finish`. A claim ends where the result is taken.
@@ -241,8 +384,24 @@ fn take_turn<O: Operator, S: SnapshotStore, X: Transactions, P: Partitions<Recor
         Step::Work(place) => claim(core, turns, place),
         step => {
             turns.made(step, make(core, step));
+            if ends_commits(core, step) {
+                return Next::Publish;
+            }
             Next::Again
         }
+    }
+}
+
+/// Whether the step is the last of a round of commits.
+fn ends_commits<
+    O: Operator,
+    S: SnapshotStore,
+    X: Transactions,
+    P: Partitions<Record = O::Record>,
+>(core: &Core<O, S, X, P>, step: Step) -> bool {
+    match step {
+        Step::Commit(sink) => core.sinks().checked_sub(1) == Some(sink),
+        _ => false,
     }
 }
 

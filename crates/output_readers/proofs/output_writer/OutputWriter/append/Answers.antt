@@ -15,7 +15,7 @@ use Rattle.output_readers.proofs.EachRow.{counts-with_row, with_row-begins, each
 use Rattle.output_readers.proofs.output_writer.OutputWriter.append.Goals as goal
 
 pub invariant_of-self-2 : goal.invariant_of-self-2
-invariant_of-self-2 c =
+invariant_of-self-2 g c =
     let i = c.self.inside in
     let w = i.writer in
     let now = c.stage.new.writer in

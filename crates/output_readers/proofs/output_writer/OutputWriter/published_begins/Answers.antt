@@ -5,7 +5,7 @@ use Rattle.output_readers.proofs.EachRow.{each_trans}
 use Rattle.output_readers.proofs.output_writer.OutputWriter.published_begins.Goals as goal
 
 pub returns : goal.returns
-returns c =
+returns g c =
     let i = c.self.inside in
     let kept = c.self.invariant in
     let shown = i.writer.desk.shown.value in

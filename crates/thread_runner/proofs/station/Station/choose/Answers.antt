@@ -1,0 +1,6 @@
+use Rattle.std.proofs.Common.{rules}
+use Rattle.thread_runner.proofs.Shown.{shows_kept}
+use Rattle.thread_runner.proofs.station.Station.choose.Goals as goal
+
+pub invariant_of-self : goal.invariant_of-self
+invariant_of-self g c = (search rules, shows_kept _ _ _ _ _ c.take_turn-next.ensures.step c.self.invariant.1)
