@@ -61,7 +61,11 @@ fn seen<R: Wait + Drop>(
 }
 
 // Keeps so many tolds, and counts how often there was one.
-fn kept<R: Wait + Drop>(alloc: Global, writer: &mut OutputWriter<R>, tolds: usize) -> Option<usize> {
+fn kept<R: Wait + Drop>(
+    alloc: Global,
+    writer: &mut OutputWriter<R>,
+    tolds: usize,
+) -> Option<usize> {
     let mut all = Vec::new(alloc);
     for _ in 0..tolds {
         if let Ok(told) = writer.publish() {

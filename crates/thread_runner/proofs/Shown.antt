@@ -4,7 +4,6 @@ use Rattle.std.specs.Prelude.{⊤}
 use Rattle.std.proofs.lemmas.Bool.{cases_eq}
 use Rattle.std.proofs.lemmas.List.{append-nil, length-append, take-append-drop}
 use Rattle.std.proofs.lemmas.Option.{same_Some}
-
 use Rattle.commit_sink.specs.Ledger.{committed_rows}
 use Rattle.core_model.specs.Language.{Language}
 use Rattle.core_model.specs.State.{State}

@@ -10,7 +10,6 @@ ghost use Rattle.thread_runner.specs.Showing.{BeginCommitted, Begin, AreCommitte
 ghost use Rattle.thread_runner.specs.Standing.{ClaimsOnce, EndsAClaim};
 
 use crate::publishing::{hand_in, refused};
-
 use commit_sink::Transactions;
 use dataflow_core::{Core, CoreFault, Done, Job, Rules};
 use operators::Operator;
@@ -393,12 +392,10 @@ fn take_turn<O: Operator, S: SnapshotStore, X: Transactions, P: Partitions<Recor
 }
 
 /// Whether the step is the last of a round of commits.
-fn ends_commits<
-    O: Operator,
-    S: SnapshotStore,
-    X: Transactions,
-    P: Partitions<Record = O::Record>,
->(core: &Core<O, S, X, P>, step: Step) -> bool {
+fn ends_commits<O: Operator, S: SnapshotStore, X: Transactions, P: Partitions<Record = O::Record>>(
+    core: &Core<O, S, X, P>,
+    step: Step,
+) -> bool {
     match step {
         Step::Commit(sink) => core.sinks().checked_sub(1) == Some(sink),
         _ => false,
