@@ -17,14 +17,13 @@ mod held;
 mod jobs;
 mod replies;
 mod rows;
-mod rules;
 mod runs;
 
 pub use calls::Core;
 pub use desks::Desk;
 pub use engine::{CoreFault, DeviceCall};
+pub use engine_rules::Rules;
 pub use held::Claim;
 pub use jobs::{Done, Job};
 pub use replies::Reply;
-pub use rules::Rules;
 pub use runs::Step;

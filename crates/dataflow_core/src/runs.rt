@@ -12,7 +12,7 @@ ghost use Rattle.dataflow_core.specs.Steps.{Preserves};
 use crate::calls::Core;
 use crate::desks::Desk;
 use crate::replies::{Reply, accepted, appended, copied, numbered, restarted};
-use crate::rules::Rules;
+use engine_rules::Rules;
 use abs_codec::Codec;
 use commit_sink::Transactions;
 use engine::CoreFault;
