@@ -117,6 +117,9 @@ module _ {R K S O : Type 0} (lang : Language R K S O) (RecordFits : R → Type 0
     commits : (r : Result Unit CoreFault) → OnTransactions old new Committing r → Works lang RecordFits [] old new
     commits r e = works_stays lang RecordFits old new Committing r (gone r) e (λ k. refl) calls stays
 
+    same_known : (h k : Held R K S) → old.held ≡ Some h → (r : Result Unit CoreFault) → EndsCommit old.graph sink h k old.ledger new.ledger r → k.coordination ≡ h.coordination
+    same_known h k was r e = commit_coordination lang RecordFits IsGood old.graph old.operators old.partitions h k keeps.expanded (shape_at lang RecordFits IsGood old h was keeps) sink old.ledger new.ledger r e
+
     committed_as : (r : Result Unit CoreFault) (h k : Held R K S) → OnTransactions old new Committing r → old.held ≡ Some h → new.held ≡ Some k → new.stored ≡ old.stored → k.coordination ≡ h.coordination → Commits lang RecordFits old new
     committed_as r h k e was is stored same =
         record { made = ([], (commits r e, is_held new k is)); stored = stored; pending = ap pending_in is ∙ ap (λ (c : Coordination). c.pending) same ∙ sym (ap pending_in was) }
@@ -124,12 +127,12 @@ module _ {R K S O : Type 0} (lang : Language R K S O) (RecordFits : R → Type 0
     pub commit_done : (u : Unit) → OnTransactions old new Committing (Ok u) → Commits lang RecordFits old new
     commit_done u e =
         let a = ran old new Committing (Ok u) (gone (Ok u)) e running in
-        committed_as (Ok u) a.h a.k e a.was (ap (λ (s : State O R K S). s.held) a.is) (ap (λ (s : State O R K S). s.stored) a.is) (commit_coordination old.graph sink a.h a.k old.ledger new.ledger (Ok u) a.ended)
+        committed_as (Ok u) a.h a.k e a.was (ap (λ (s : State O R K S). s.held) a.is) (ap (λ (s : State O R K S). s.stored) a.is) (same_known a.h a.k a.was (Ok u) a.ended)
 
     pub commit_fails : (task : ℕ) → slice_get old.graph.tasks task ≡ Some (role.Sink sink) → (f : CoreFault) → OnTransactions old new Committing (Err f) → EndsCommits lang RecordFits old new (Err f)
     commit_fails task is_sink CommitFault e =
         let a = ran old new Committing (Err CommitFault) (gone (Err CommitFault)) e running in
-        committed_as (Err CommitFault) a.h a.k e a.was (ap (λ (s : State O R K S). s.held) a.is) (ap (λ (s : State O R K S). s.stored) a.is) (commit_coordination old.graph sink a.h a.k old.ledger new.ledger (Err CommitFault) a.ended)
+        committed_as (Err CommitFault) a.h a.k e a.was (ap (λ (s : State O R K S). s.held) a.is) (ap (λ (s : State O R K S). s.stored) a.is) (same_known a.h a.k a.was (Err CommitFault) a.ended)
     commit_fails task is_sink NoSuchTask e = absurd ((ran old new Committing (Err NoSuchTask) (gone (Err NoSuchTask)) e running).ended.0 task is_sink)
     commit_fails task is_sink other e = absurd (ran old new Committing (Err other) (gone (Err other)) e running).ended
 

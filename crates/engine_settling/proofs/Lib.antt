@@ -10,4 +10,4 @@ pub mod Parts
 pub mod Looping
 pub mod Works
 pub mod Ending
-pub mod Settling
+pub mod Chained

@@ -1,9 +1,9 @@
 -- What each accepted call does to the pending checkpoint, and to a job that is still.
-use Rattle.std.proofs.Common.{◌≡◌, ◌≢◌, ◌⊎◌, ◌<◌, ◌≤◌, ◌++◌, ◌&&◌, ◌+◌, inl, inr, Option, Some, None, Result, Ok, Err, is_some, unwrap_or, slice_get, slice_set, slice_index_or, length, drop, map, IsSome, ℕ, zero, suc, Bool, true, false, List, [], ◌∷◌, refl, sym, ap, subst, ◌∙◌, arith}
+use Rattle.std.proofs.Common.{◌≡◌, ◌≢◌, ◌<◌, ◌≤◌, ◌++◌, ◌&&◌, ◌+◌, inl, inr, Option, Some, None, Result, Ok, Err, is_some, unwrap_or, slice_get, slice_set, slice_index_or, length, drop, map, IsSome, ℕ, zero, suc, Bool, true, false, List, [], ◌∷◌, refl, sym, ap, subst, ◌∙◌, arith}
 use Rattle.std.proofs.lemmas.Bool.{false≢true}
 use Rattle.std.proofs.lemmas.Bool.Decides.{eqb_tells}
 use Rattle.std.proofs.lemmas.List.{append-nil}
-use Rattle.std.proofs.lemmas.Option.{same_Some, none-some, slice_get_within}
+use Rattle.std.proofs.lemmas.Option.{none-some, slice_get_within}
 use Rattle.alignment.specs.declared.input.Effect.{Effect}
 use Rattle.alignment.specs.declared.input.Phase.TheVariants.{AtRest}
 use Rattle.channels.specs.declared.item.Item.{Item}
@@ -17,15 +17,14 @@ use Rattle.job_graph.specs.Expanded.{Expanded, IsExpanded}
 use Rattle.job_graph.specs.declared.role.Role.{Role}
 use Rattle.job_graph.specs.declared.role.Role.TheVariants as role
 use Rattle.job_state.specs.Held.{Held, copy_at, came_at, gate_at, logged_at}
-use Rattle.job_state.specs.Sending.{items_at, barrier_into, without_head}
-use Rattle.job_state.specs.declared.holding.Holding.{Holding}
+use Rattle.job_state.specs.Sending.{items_at, without_head}
 use Rattle.job_state.specs.declared.holding.Holding.TheVariants as holds
-use Rattle.job_state.proofs.Places.{get_set_same, get_set_other}
+use Rattle.job_state.proofs.Places.{get_set_other}
 use Rattle.snapshot_store.specs.Store.{Stored}
 use Rattle.source_log.specs.Partitions.{records_at}
 use Rattle.task_part.specs.declared.part.Part.{Part}
 use Rattle.task_part.specs.declared.part.Part.TheVariants as part
-use Rattle.core_model.specs.Calls.{input_at, IsBarrierNext, EndsInject, EndsPersist, EndsRead, EndsTrigger, EndsComplete, NotesBarrier, CopiesMap, CopiesSink, OperatesNext, PutsOut}
+use Rattle.core_model.specs.Calls.{input_at, EndsInject, EndsPersist, EndsRead, EndsTrigger, EndsComplete, NotesBarrier, CopiesMap, CopiesSink, OperatesNext, PutsOut}
 use Rattle.core_model.specs.Commits.{CommitsOne, CommitsEach, EndsCommit}
 use Rattle.core_model.specs.Keeps.{Shape}
 use Rattle.core_model.specs.Language.{Language}

@@ -1,5 +1,5 @@
 -- How far the pending checkpoint is, and that it only goes on.
-use Rattle.std.specs.Prelude.{◌≡◌, ◌≢◌, ◌<◌, ℕ, Bool, true, false, Option, Some, None, length, slice_get, MatchOption}
+use Rattle.std.specs.Prelude.{◌≡◌, ◌≢◌, ◌<◌, ℕ, Bool, true, Some, None, length, slice_get}
 use Rattle.coordinator.specs.Coordinator.{has_acked}
 use Rattle.dataflow_model.specs.Graph.{Channel}
 use Rattle.job_graph.specs.Expanded.{Expanded}
