@@ -6,7 +6,6 @@ use Rattle.claims.specs.Tasks.{EndsWork, WorksAs}
 use Rattle.claims.specs.declared.parts.Made.{Made}
 use Rattle.claims.specs.declared.parts.Made.TheVariants as made
 use Rattle.commit_sink.specs.Ledger.{Ledger}
-use Rattle.coordinator.specs.Coordinator.{Coordination}
 use Rattle.job_graph.specs.Expanded.{Expanded}
 use Rattle.job_graph.specs.declared.role.Role.{Role}
 use Rattle.job_graph.specs.declared.role.Role.TheVariants as role
@@ -23,12 +22,12 @@ use Rattle.engine_rounds.proofs.Many.{ran}
 
 module _ {R K S O : Type 0} (lang : Language R K S O) (graph : Expanded) (operators : List O) (task input : ℕ) (h k : Held R K S) (old new : Ledger) where
   abbrev Same : Type 0
-  Same = k.coordination ≡ h.coordination
+  Same = k.coordination.pending ≡ h.coordination.pending
 
   -- a record that is worked leaves what is known of the checkpoint
   work_waits : (u : Unit) (r : Option Role) (c : Option ℕ) → WorksAs graph task input h k old new lang operators (Ok u) r c → Same
-  work_waits u (Some (role.Operator number)) (Some channel) e = ap (λ (x : Held R K S). x.coordination) e.2.operates.ends
-  work_waits u (Some (role.Sink subtask)) (Some channel) e = ap (λ (x : Held R K S). x.coordination) e.ends
+  work_waits u (Some (role.Operator number)) (Some channel) e = ap (λ (x : Held R K S). x.coordination.pending) e.2.operates.ends
+  work_waits u (Some (role.Sink subtask)) (Some channel) e = ap (λ (x : Held R K S). x.coordination.pending) e.ends
   work_waits u (Some (role.Operator number)) None e = absurd (let clash : ◌≡◌ {A = Result Unit CoreFault} (Ok u) (Err NoSuchTask) = e.0 in cc)
   work_waits u (Some (role.Sink subtask)) None e = absurd (let clash : ◌≡◌ {A = Result Unit CoreFault} (Ok u) (Err NoSuchTask) = e.0 in cc)
   work_waits u (Some (role.Source partition)) c e = absurd (let clash : ◌≡◌ {A = Result Unit CoreFault} (Ok u) (Err NoSuchTask) = e.0 in cc)
@@ -55,8 +54,8 @@ module _ {R K S O : Type 0} (old new : State O R K S) where
   Waits = pending_in new.held ≡ pending_in old.held
 
   -- where what is held leaves it
-  held_waits : (h k : Held R K S) → old.held ≡ Some h → new.held ≡ Some k → k.coordination ≡ h.coordination → Waits
-  held_waits h k was is same = ap pending_in is ∙ ap (λ (c : Coordination). c.pending) same ∙ sym (ap pending_in was)
+  held_waits : (h k : Held R K S) → old.held ≡ Some h → new.held ≡ Some k → k.coordination.pending ≡ h.coordination.pending → Waits
+  held_waits h k was is same = ap pending_in is ∙ same ∙ sym (ap pending_in was)
 
   module _ (lang : Language R K S O) (task : ℕ) (running : old.held ≢ None) where
     abbrev Reading : Held R K S → Held R K S → Result Unit CoreFault → Type 0
@@ -69,10 +68,10 @@ module _ {R K S O : Type 0} (old new : State O R K S) where
     pub read_turn_waits : (r : Result Unit CoreFault) → OnAttempt old new Reading r → OnOk (turned_as r) Waits
     read_turn_waits (Ok u) e =
         let a = ran old new Reading (Ok u) (left (Ok u)) e running in
-        held_waits a.h a.k a.was (ap (λ (s : State O R K S). s.held) a.is) (ap (λ (x : Held R K S). x.coordination) a.ended.reads.ends)
+        held_waits a.h a.k a.was (ap (λ (s : State O R K S). s.held) a.is) (ap (λ (x : Held R K S). x.coordination.pending) a.ended.reads.ends)
     read_turn_waits (Err NotReady) e =
         let a = ran old new Reading (Err NotReady) (left (Err NotReady)) e running in
-        held_waits a.h a.k a.was (ap (λ (s : State O R K S). s.held) a.is) (ap (λ (x : Held R K S). x.coordination) a.ended.5)
+        held_waits a.h a.k a.was (ap (λ (s : State O R K S). s.held) a.is) (ap (λ (x : Held R K S). x.coordination.pending) a.ended.5)
     read_turn_waits (Err ChannelBlocked) e = absurd (ran old new Reading (Err ChannelBlocked) (left (Err ChannelBlocked)) e running).ended
     read_turn_waits (Err other) e = tt
 
