@@ -1,5 +1,6 @@
 -- The parts of settling and draining, one after another.
-use Rattle.std.proofs.Common.{◌≡◌, ◌≢◌, ◌⊎◌, ◌<◌, ◌≤◌, ◌+◌, ◌^◌, inl, inr, Option, Some, None, Result, Ok, Err, MatchOption, ℕ, List, [], ◌∷◌, ◌++◌, slice_get, length, refl, sym, ap, subst, ◌∙◌, arith}
+use Rattle.std.proofs.Common.{true, ◌≡◌, ◌≢◌, ◌⊎◌, ◌<◌, ◌≤◌, ◌+◌, ◌^◌, inl, inr, Option, Some, None, Result, Ok, Err, MatchOption, ℕ, List, [], ◌∷◌, ◌++◌, slice_get, length, refl, sym, ap, subst, ◌∙◌, arith}
+use Rattle.std.proofs.Math.Nat.{eq-or-lt_of_le}
 use Rattle.std.proofs.lemmas.Bool.Decides.{eqb_tells}
 use Rattle.std.proofs.lemmas.Option.{none-some, same_Some, MatchOption-at_some, slice_get_within}
 use Rattle.claims.specs.Due.{WorksFrom}
@@ -39,6 +40,9 @@ use Rattle.engine_settling.proofs.Committed.{committed_last}
 use Rattle.engine_settling.proofs.Ending.{cut_rests_in}
 use Rattle.engine_settling.proofs.Gating.{receiver_of}
 use Rattle.engine_settling.proofs.Still.{idle_queues, still_started}
+
+same_sink : {a b : ℕ} → ◌≡◌ {A = Role} (role.Sink a) (role.Sink b) → a ≡ b
+same_sink e = cc
 
 module _ {R K S O : Type 0} (lang : Language R K S O) (RecordFits : R → Type 0) where
   abbrev Some_made : State O R K S → State O R K S → Type 0
@@ -84,23 +88,17 @@ module _ {R K S O : Type 0} (lang : Language R K S O) (RecordFits : R → Type 0
   -- one more sink has committed
   pub committed_more : (middle new : State O R K S) (task sink : ℕ) → Commits lang RecordFits middle new → slice_get middle.graph.tasks task ≡ Some (role.Sink sink) → HaveCommittedBefore middle task
       → length (committed_of new.ledger sink) ≡ length (complete_numbers new.stored) → ((other : ℕ) → other ≢ sink → committed_of new.ledger other ≡ committed_of middle.ledger other) → HaveCommittedBefore new (task + 1)
-  committed_more middle new task sink commits is before reached apart t other below at = by (elim (eqb_tells other sink) [ inl same ↦ inl same.1 | inr not ↦ inr not.1 ])
-    where
-      at_middle : slice_get middle.graph.tasks t ≡ Some (role.Sink other)
-      at_middle = sym (ap (λ (s : State O R K S). slice_get s.graph.tasks t) commits.made.1.0.same) ∙ at
-
-      same_sink : {a b : ℕ} → ◌≡◌ {A = Role} (role.Sink a) (role.Sink b) → a ≡ b
-      same_sink e = cc
-
-      less : other ≢ sink → t < task
-      less not = elim (eq-or-lt_of_le (omega (arith, below))) [
-        | inl same ↦ absurd (not (same_sink (same_Some (role.Sink other) (role.Sink sink) (sym at_middle ∙ ap (slice_get middle.graph.tasks) same ∙ is))))
-        | inr less ↦ less
+  committed_more middle new task sink commits is before reached apart t other below at =
+      elim (eqb_tells other sink) [
+        | inl same ↦ subst (λ (x : ℕ). length (committed_of new.ledger x) ≡ length (complete_numbers new.stored)) (sym same.1) reached
+        | inr differs ↦
+            let at_middle : slice_get middle.graph.tasks t ≡ Some (role.Sink other) = sym (ap (λ (s : State O R K S). slice_get s.graph.tasks t) commits.made.1.0.same) ∙ at in
+            let earlier : t < task = elim (eq-or-lt_of_le (omega (arith, below))) [
+              | inl here ↦ absurd (differs.1 (same_sink (same_Some (role.Sink other) (role.Sink sink) (sym at_middle ∙ ap (slice_get middle.graph.tasks) here ∙ is))))
+              | inr less ↦ less
+            ] in
+            ap (λ (l : List ℕ). length l) (apart other differs.1) ∙ before t other earlier at_middle ∙ ap (λ (x : Stored). length (complete_numbers x)) (sym commits.stored)
       ]
-
-      by : (other ≡ sink) ⊎ (other ≢ sink) → length (committed_of new.ledger other) ≡ length (complete_numbers new.stored)
-      by (inl same) = subst (λ (x : ℕ). length (committed_of new.ledger x) ≡ length (complete_numbers new.stored)) (sym same) reached
-      by (inr not) = ap (λ (l : List ℕ). length l) (apart other not) ∙ before t other (less not) at_middle ∙ ap (λ (x : Stored). length (complete_numbers x)) (sym commits.stored)
 
   -- a task that is no sink commits nothing
   pub committed_same : (s : State O R K S) (task : ℕ) → ((subtask : ℕ) → slice_get s.graph.tasks task ≢ Some (role.Sink subtask)) → HaveCommittedBefore s task → HaveCommittedBefore s (task + 1)
@@ -113,7 +111,7 @@ module _ {R K S O : Type 0} (lang : Language R K S O) (RecordFits : R → Type 0
   -- ---- settling
 
   pub settle_done : (old middle between new : State O R K S) (IsGood : O → S → Type 0) → Brings lang RecordFits old middle → EndsCompletion lang RecordFits middle between (Ok tt) → Keeps lang RecordFits IsGood between
-      → EndsCommits lang RecordFits between new (Ok tt) → EndsSettle lang RecordFits old new (Ok tt) × RestsIfStill lang old new (Ok tt)
+      → EndsCommits lang RecordFits between new (Ok tt) → EndsSettle lang RecordFits old new (Ok tt) × RestsIfStill lang RecordFits old new (Ok tt)
   settle_done old middle between new IsGood brings completes keeps commits =
       let n = completes.0 in
       let made = made_both old middle between (made_of old middle brings) completes.2 in
@@ -165,7 +163,7 @@ module _ {R K S O : Type 0} (lang : Language R K S O) (RecordFits : R → Type 0
   start_settles old new (Err other) some e = absurd e
 
   -- after a checkpoint has begun in a job that is still
-  pub rest_settles : (old middle new : State O R K S) (n : ℕ) (r : Result Unit CoreFault) → Some_made old middle → IsStillIn middle → pending_in middle.held ≡ Some n → EndsSettle lang RecordFits middle new r → RestsIfStill lang middle new r
+  pub rest_settles : (old middle new : State O R K S) (n : ℕ) (r : Result Unit CoreFault) → Some_made old middle → IsStillIn middle → pending_in middle.held ≡ Some n → EndsSettle lang RecordFits middle new r → RestsIfStill lang RecordFits middle new r
       → EndsAtRest lang RecordFits old new r
   rest_settles old middle new n (Ok u) made still is e rests =
       (made_both old middle new made e.2, (e.0, e.3, rests still e.0 e.1, λ sound. e.4 (made.1.0.sound sound)))

@@ -95,8 +95,8 @@ module _ {R K S O : Type 0} (lang : Language R K S O) (graph : Expanded) (operat
   accept_refused (made.Refused work) other due e = absurd e
 
 module _ {R K S O : Type 0} (lang : Language R K S O) (RecordFits : R → Type 0) (IsGood : O → S → Type 0) (old new : State O R K S) (keeps : Keeps lang RecordFits IsGood old) (calls : Calls lang RecordFits old new) where
-  abbrev Part : (Expanded → Held R K S → Type 0) → Result Unit CoreFault → Type 0
-  Part Done r = EndsPart lang RecordFits old new Done r
+  abbrev Ends : (Expanded → Held R K S → Type 0) → Result Unit CoreFault → Type 0
+  Ends Done r = EndsPart lang RecordFits old new Done r
 
   -- where nothing that is held has changed
   unchanged : (h k : Held R K S) → old.held ≡ Some h → new.held ≡ Some k → Works lang RecordFits [] old new → k ≡ h → Brings lang RecordFits old new
@@ -139,7 +139,7 @@ module _ {R K S O : Type 0} (lang : Language R K S O) (RecordFits : R → Type 0
     waits : (h : Held R K S) → old.held ≡ Some h → h.coordination.pending ≢ None
     waits h was = holds_at old (λ g h. IsPending h) h was pending
 
-    pub inject_part : (r : Result Unit CoreFault) → OnAttempt old new Injecting r → Part Copied (done_as r)
+    pub inject_part : (r : Result Unit CoreFault) → OnAttempt old new Injecting r → Ends Copied (done_as r)
     inject_part (Ok u) e =
         let a = ran old new Injecting (Ok u) (injected (Ok u)) e running in
         let is = ap (λ (s : State O R K S). s.held) a.is in
@@ -184,7 +184,7 @@ module _ {R K S O : Type 0} (lang : Language R K S O) (RecordFits : R → Type 0
     ended_at : (h : Held R K S) → old.held ≡ Some h → HaveEnded old.graph h
     ended_at h was = holds_at old HaveEnded h was ended
 
-    pub persist_part : (r : Result Unit CoreFault) → OnStore old new Persisting r → Part Acked (done_as r)
+    pub persist_part : (r : Result Unit CoreFault) → OnStore old new Persisting r → Ends Acked (done_as r)
     persist_part (Ok u) e =
         let a = ran old new Persisting (Ok u) (persisted (Ok u)) e runs in
         let is = ap (λ (s : State O R K S). s.held) a.is in
@@ -264,13 +264,13 @@ module _ {R K S O : Type 0} (lang : Language R K S O) (RecordFits : R → Type 0
           let to = input_channel old.graph task input channel a.works.1 in
           (n.0, barrier_next lang.cmp RecordFits IsGood old.graph old.operators h keeps.expanded (shape_at lang RecordFits IsGood old h was keeps) task input channel n.0 to.0 a.works.1 to.1 n.1 (a.sent to.0 to.1) a.missing none)
 
-      fails_as : (h k : Held R K S) → old.held ≡ Some h → (f : CoreFault) → new ≡ taken (Err f) k → Works lang RecordFits [] old new → ((f ≡ Memory) × (k ≡ h)) ⊎ (f ≡ Device) → Part Come (Err f)
+      fails_as : (h k : Held R K S) → old.held ≡ Some h → (f : CoreFault) → new ≡ taken (Err f) k → Works lang RecordFits [] old new → ((f ≡ Memory) × (k ≡ h)) ⊎ (f ≡ Device) → Ends Come (Err f)
       fails_as h k was Memory is works (inl same) = unchanged h k was (ap (λ (s : State O R K S). s.held) is) works same.1
       fails_as h k was Device is works w = ([], works, ap (λ (s : State O R K S). s.held) is)
       fails_as h k was f is works (inl same) = absurd cc
       fails_as h k was f is works (inr same) = absurd cc
 
-      pub barrier_fails : (f : CoreFault) → MatchOption old.held ⊥ (λ h. NoRecord h channel) → OnTransactions old new Taking (Err f) → Part Come (Err f)
+      pub barrier_fails : (f : CoreFault) → MatchOption old.held ⊥ (λ h. NoRecord h channel) → OnTransactions old new Taking (Err f) → Ends Come (Err f)
       barrier_fails f none e =
           let a = ran old new Taking (Err f) (taken (Err f)) e awake in
           let due = due_at a.h a.was (MatchOption-at_some ⊥ (λ h. NoRecord h channel) a.h a.was none) in

@@ -70,7 +70,8 @@ pub fn settle<O: Operator, S: SnapshotStore, X: Transactions, P: Partitions<Reco
     requires running { engine.old.held ≢ None }
     ensures ends { EndsSettle ⟦<O as Rules>⟧.lang ⟦<O as Rules>⟧.RecordFits engine.old engine.new
         result }
-    ensures rests { RestsIfStill ⟦<O as Rules>⟧.lang engine.old engine.new result }
+    ensures rests { RestsIfStill ⟦<O as Rules>⟧.lang ⟦<O as Rules>⟧.RecordFits engine.old engine.new
+        result }
     ensures counted { IsCounted engine.old.faults engine.new.faults result }
 {
     if engine.pending().is_none() {
