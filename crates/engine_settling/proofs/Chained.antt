@@ -147,6 +147,15 @@ module _ {R K S O : Type 0} (lang : Language R K S O) (RecordFits : R → Type 0
   settle_uncommitted old middle between new CommitFault b c e = made_both old between new (made_both old middle between (made_of old middle b) c.2) e.made
   settle_uncommitted old middle between new other b c e = absurd e
 
+  module _ (IsGood : O → S → Type 0) (old middle between new : State O R K S) (brings : Brings lang RecordFits old middle) (completes : EndsCompletion lang RecordFits middle between (Ok tt)) (keeps : Keeps lang RecordFits IsGood between) where
+    pub settle_by : (r : Result Unit CoreFault) → EndsCommits lang RecordFits between new r → EndsSettle lang RecordFits old new r
+    settle_by (Ok u) e = (settle_done old middle between new IsGood brings completes keeps e).0
+    settle_by (Err f) e = settle_uncommitted old middle between new f brings completes e
+
+    pub rests_by : (r : Result Unit CoreFault) → EndsCommits lang RecordFits between new r → RestsIfStill lang RecordFits old new r
+    rests_by (Ok u) e = (settle_done old middle between new IsGood brings completes keeps e).1
+    rests_by (Err f) e = tt
+
   -- ---- draining
 
   pub start_commits : (old new : State O R K S) (r : Result Unit CoreFault) → pending_in old.held ≡ None → EndsCommits lang RecordFits old new r → EndsStart lang RecordFits old new r

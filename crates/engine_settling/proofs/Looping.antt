@@ -15,7 +15,7 @@ use Rattle.core_model.specs.State.{State}
 use Rattle.engine_settling.specs.Advancing.{Advances, IsPending, HaveSourcesCopied, HaveCopiedBefore, HaveCopied, HaveSendersCopied, HaveCome, HaveComeBefore, HaveAllCome, HaveAckedBefore, HaveAcked, HaveEnded}
 use Rattle.engine_settling.specs.Awaiting.{IsAwaited, HasCome}
 use Rattle.engine_settling.specs.Bringing.{Holds, Brings}
-use Rattle.engine_settling.proofs.Bringing.{holds_at, holds_map, holds_two, holds_kept, shape_at}
+use Rattle.engine_settling.proofs.Bringing.{holds_at, holds_map, holds_two, holds_kept, holds_running, brings_none, brings_both, shape_at}
 use Rattle.engine_settling.proofs.Gating.{channel_input, input_channel, copied_by, receiver_of, marked_as}
 use Rattle.engine_settling.proofs.Ordering.{order_length, order_within, senders_copied, copied_more, copied_all, come_more, come_all, senders_of_all, copied_kept, come_before_kept}
 
@@ -294,3 +294,25 @@ module _ {R K S O : Type 0} (lang : Language R K S O) (RecordFits : R → Type 0
 
   pub acks_all : (s : State O R K S) (n : ℕ) → length s.graph.tasks ≤ n → Holds s (λ g h. AcksBefore g h n) → Holds s HaveAcked
   acks_all s n all p = holds_map s (Acks n) HaveAcked p (λ h is a task below. a.acked task (omega (arith, below, all)))
+
+  -- ---- one part after another
+
+  -- where a checkpoint is pending, nothing done brings nothing
+  pub pending_all : (s : State O R K S) → Holds s (λ g h. IsPending h) → Bring s s
+  pending_all s p = brings_none lang RecordFits s (holds_running s (λ g h. IsPending h) p)
+
+  pub pending_on : (old new : State O R K S) → Bring old new → Holds old (λ g h. IsPending h) → Holds new (λ g h. IsPending h)
+  pending_on old new b p = holds_kept lang RecordFits old new (λ g h. IsPending h) b p (λ h k goes pending. pending_kept h k goes pending)
+
+  pub sources_ready : (old new : State O R K S) → Bring old new → Holds old (λ g h. IsPending h) → Holds new HaveSourcesCopied → Holds new (λ g h. IsPending h × HaveSourcesCopied g h)
+  sources_ready old new b p copied = holds_two new (λ g h. IsPending h) HaveSourcesCopied (λ g h. IsPending h × HaveSourcesCopied g h) (pending_on old new b p) copied (λ h is one two. (one, two))
+
+  pub copies_ready : (old new : State O R K S) → Bring old new → Holds old (λ g h. IsPending h) → Holds new HaveCopied → Holds new (λ g h. IsPending h × HaveCopied g h)
+  copies_ready old new b p copied = holds_two new (λ g h. IsPending h) HaveCopied (λ g h. IsPending h × HaveCopied g h) (pending_on old new b p) copied (λ h is one two. (one, two))
+
+  pub ended_of : (old middle new : State O R K S) → Bring old middle → Bring middle new → Holds old (λ g h. IsPending h) → Holds middle HaveCopied → Holds new HaveAllCome → Holds new HaveEnded
+  ended_of old middle new one two p copied come =
+      holds_two new (λ g h. IsPending h × HaveCopied g h) HaveAllCome HaveEnded
+      (copies_ready old new (brings_both lang RecordFits old middle new one two) p (holds_kept lang RecordFits middle new HaveCopied two copied (λ h k goes a. copied_kept middle.graph h k a goes)))
+      come
+      (λ h is a here. record { pending = a.0; copied = a.1; come = here })

@@ -85,5 +85,6 @@ pub fn settle<O: Operator, S: SnapshotStore, X: Transactions, P: Partitions<Reco
         Ok(()) => {}
         Err(fault) => return Err(fault),
     }
+    engine.is_fresh();
     commit_sinks(engine)
 }
