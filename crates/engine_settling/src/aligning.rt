@@ -1,6 +1,6 @@
 //! The two passes over the tasks: first the unmarked inputs, then the marked ones.
 
-ghost use Rattle.std.specs.Prelude.{◌≡◌, slice_get};
+ghost use Rattle.std.specs.Prelude.{◌≡◌, ◌<◌, Some, length, slice_get};
 ghost use Rattle.engine.specs.Running.{IsCounted};
 ghost use Rattle.engine_settling.specs.Advancing.{IsPending, HaveSourcesCopied, HaveCopied, HaveAllCome};
 ghost use Rattle.engine_settling.specs.Bringing.{Holds, EndsPart};
@@ -16,10 +16,11 @@ use source_log::Partitions;
 use std::alloc::Global;
 
 /// The task that stands at a place of the order.
-fn task_at(graph: &Graph, place: u32) -> Option<u32>
-    ensures { result ≡ slice_get graph.now.order place }
+fn task_at(graph: &Graph, place: u32) -> u32
+    requires { place < length graph.now.order }
+    ensures { slice_get graph.now.order place ≡ Some result }
 {
-    graph.order().get(place as usize).copied()
+    graph.order()[place as usize]
 }
 
 /// The tasks take the barriers of their unmarked inputs, each behind the senders of these; so each
@@ -36,13 +37,12 @@ pub(crate) fn copy_tasks<
     ensures counted { IsCounted engine.old.faults engine.new.faults result }
 {
     for place in 0..engine.graph().tasks() {
-        if let Some(task) = task_at(engine.graph(), place) {
-            match take_inputs(engine, alloc, task, false) {
-                Ok(()) => {}
-                Err(fault) => return Err(fault),
-            }
-            engine.is_fresh();
+        let task = task_at(engine.graph(), place);
+        match take_inputs(engine, alloc, task, false) {
+            Ok(()) => {}
+            Err(fault) => return Err(fault),
         }
+        engine.is_fresh();
     }
     Ok(())
 }
@@ -60,11 +60,10 @@ pub(crate) fn close_logs<
     ensures counted { IsCounted engine.old.faults engine.new.faults result }
 {
     for place in 0..engine.graph().tasks() {
-        if let Some(task) = task_at(engine.graph(), place) {
-            match take_inputs(engine, alloc, task, true) {
-                Ok(()) => {}
-                Err(fault) => return Err(fault),
-            }
+        let task = task_at(engine.graph(), place);
+        match take_inputs(engine, alloc, task, true) {
+            Ok(()) => {}
+            Err(fault) => return Err(fault),
         }
     }
     engine.is_fresh();

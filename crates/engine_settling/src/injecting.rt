@@ -1,6 +1,6 @@
 //! Sources copy, and send the barrier.
 
-ghost use Rattle.std.specs.Prelude.{◌≢◌, None};
+ghost use Rattle.std.specs.Prelude.{◌≢◌, ◌↔◌, None, IsTrue};
 ghost use Rattle.core_model.specs.Calls.{IsSource};
 ghost use Rattle.engine.specs.Running.{IsCounted};
 ghost use Rattle.job_state.specs.Held.{copy_at};
@@ -11,10 +11,20 @@ use crate::outcomes::done;
 use commit_sink::Transactions;
 use engine::{CoreFault, Engine};
 use engine_rules::Rules;
-use job_graph::Role;
+use job_graph::Graph;
 use operators::Operator;
 use snapshot_store::SnapshotStore;
 use source_log::Partitions;
+
+/// Whether a task is a source.
+fn is_source(graph: &Graph, task: u32) -> bool
+    ensures { IsTrue result ↔ IsSource graph.now task }
+{
+    match graph.role(task) {
+        Some(role) => role.is_source(),
+        None => false,
+    }
+}
 
 /// A source copies its offset and sends the barrier, if it has not.
 fn inject_source<O: Operator, S: SnapshotStore, X: Transactions, P: Partitions<Record = O::Record>>(
@@ -44,7 +54,7 @@ pub(crate) fn inject_sources<
     ensures counted { IsCounted engine.old.faults engine.new.faults result }
 {
     for task in 0..engine.graph().tasks() {
-        if let Some(Role::Source(_)) = engine.graph().role(task) {
+        if is_source(engine.graph(), task) {
             match inject_source(engine, task) {
                 Ok(()) => {}
                 Err(fault) => return Err(fault),

@@ -1,5 +1,5 @@
 use Rattle.std.proofs.Common.{◌≡◌, ◌≢◌, None, Some, ap, arith, sym, ◌∙◌, length, slice_get, refl}
-use Rattle.std.proofs.lemmas.Option.{none-some, same_Some}
+use Rattle.std.proofs.lemmas.Bool.{false≢true}
 use Rattle.abs_codec.specs.Spelling.{Fits}
 use Rattle.core_model.specs.Language.{language}
 use Rattle.job_graph.specs.Expanded.{Expanded}
@@ -8,7 +8,7 @@ use Rattle.job_state.specs.Held.{copy_at}
 use Rattle.engine_settling.specs.Advancing.{IsPending, HaveSourcesCopied}
 use Rattle.engine_settling.proofs.Bringing.{brings_none, brings_both, part_early, holds_running, graph_same}
 use Rattle.engine_settling.proofs.Looping.{sources_start, sources_pending, sources_more, sources_skip, sources_all}
-use Rattle.engine_settling.proofs.injecting.inject_sources.Goals.{in-Some-Source+in-Ok, in-Some+in-Operator-1, in-None-1}
+use Rattle.engine_settling.proofs.injecting.inject_sources.Goals.{then-is_source+in-Ok, else-is_source}
 use Rattle.engine_settling.proofs.injecting.inject_sources.Goals as goal
 
 pub loop-task-init : goal.loop-task-init
@@ -27,16 +27,20 @@ returns-in-Err-clause-ends g c =
 
 pub loop-task-preserved : goal.loop-task-preserved
 loop-task-preserved g c =
-    elim c.match-role.branch [
-      | in-Some-Source+in-Ok w ↦
+    elim c.if-is_source.branch [
+      | then-is_source+in-Ok w ↦
           let one = w.in-Ok.ensures.ends in
           rw w.engine-is (record {
             brings = brings_both (language g.O.Operator.meaning g.O.Key.Ord.cmp g.O.Record.Codec.spelling g.O.Record.Codec.reading g.O.Key.Codec.reading g.O.State.Codec.reading) (Fits g.O.Record.Codec.HasSpelling g.O.Record.Codec.spelling) c.args.engine.now c.loop-task.engine w.inject_source.new.engine c.loop-task.invariant.brings one.0;
             so_far = sources_more (language g.O.Operator.meaning g.O.Key.Ord.cmp g.O.Record.Codec.spelling g.O.Record.Codec.reading g.O.Key.Codec.reading g.O.State.Codec.reading) (Fits g.O.Record.Codec.HasSpelling g.O.Record.Codec.spelling) c.loop-task.engine w.inject_source.new.engine c.loop-task.task one.0 c.loop-task.invariant.so_far one.1;
             faults = w.in-Ok.ensures.counted ∙ c.loop-task.invariant.faults;
           })
-      | in-Some+in-Operator-1 w ↦ ?
-      | in-None-1 w ↦ ?
+      | else-is_source w ↦
+          rw w.engine-is (record {
+            brings = c.loop-task.invariant.brings;
+            so_far = sources_skip (language g.O.Operator.meaning g.O.Key.Ord.cmp g.O.Record.Codec.spelling g.O.Record.Codec.reading g.O.Key.Codec.reading g.O.State.Codec.reading) (Fits g.O.Record.Codec.HasSpelling g.O.Record.Codec.spelling) c.loop-task.engine c.loop-task.task (λ partition is. false≢true (w.if-is_source.ensures.1 (partition, ap (λ (x : Expanded). slice_get x.tasks c.loop-task.task) c.graph-in-loop-task.ensures ∙ is))) c.loop-task.invariant.so_far;
+            faults = c.loop-task.invariant.faults;
+          })
     ]
 
 pub returns-clause-ends : goal.returns-clause-ends
