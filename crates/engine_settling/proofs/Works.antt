@@ -1,5 +1,6 @@
 -- The record that stands first in an input is worked, as a part of settling.
-use Rattle.std.proofs.Common.{◌≡◌, ◌≢◌, ◌⊎◌, ◌<◌, inl, inr, Option, Some, None, Result, Ok, Err, IfOk, MatchOption, ℕ, Bool, true, false, List, [], ◌∷◌, ◌++◌, drop, slice_get, refl, sym, ap, subst, ◌∙◌}
+use Rattle.std.proofs.Common.{◌≡◌, ◌≢◌, ◌⊎◌, ◌<◌, inl, inr, Option, Some, None, Result, Ok, Err, IfOk, MatchOption, ℕ, Bool, true, false, List, [], ◌∷◌, ◌++◌, drop, IsTrue, slice_get, refl, sym, ap, subst, ◌∙◌}
+use Rattle.std.proofs.lemmas.Bool.{false≢true}
 use Rattle.std.proofs.lemmas.Option.{none-some, same_Some, MatchOption-at_some}
 use Rattle.channels.specs.declared.item.Item.{Item}
 use Rattle.channels.specs.declared.item.Item.TheVariants.{Record}
@@ -35,6 +36,11 @@ use Rattle.engine_settling.proofs.Leading.{leading_falls}
 use Rattle.engine_settling.proofs.Ordering.{advances_none}
 use Rattle.engine_settling.proofs.Parts.{accept_refused}
 use Rattle.engine_settling.proofs.Steps.{work_advances, work_head, work_came, work_copies, work_not_still}
+
+-- where no record stands first in the channel of a running job
+pub no_head : {R K S : Type 0} (held : Option (Held R K S)) (channel : ℕ) → (MatchOption held ⊥ (λ h. HasHead h channel) → IsTrue false) → held ≢ None → MatchOption held ⊥ (λ h. NoRecord h channel)
+no_head None channel none running = absurd (running refl)
+no_head (Some h) channel none running = λ r head. false≢true (none (r, head))
 
 -- the number that is pending
 number_of : {R K S : Type 0} (h : Held R K S) → IsPending h → (n : ℕ) × (h.coordination.pending ≡ Some n)
