@@ -1,19 +1,18 @@
-//! What publishing costs: 100 and 1,000 publishes of 100 rows each. Where it costs what is new, the
-//! second take ten times as long. Standard output says how many rows a reader reads afterwards, and
-//! is the same each time; the times go to standard error.
+//! What publishing costs. The words are how many writers there are, and how often each publishes 100
+//! rows; the writers work one after the other, and all are kept. Standard output says how many rows
+//! are read afterwards, and is the same each time; the microseconds go to standard error.
+//! `tests/bench_readers.sh` compares 10 writers that publish 100 times with one that publishes 1,000
+//! times: as many rows and as much memory.
 #![tactic(auto)]
 
 use output_readers::{OutputFault, OutputWriter};
 use std::alloc::{AllocError, Global};
-use std::io;
 use std::sync::Wait;
 use std::time::{Clock, Instant};
+use std::{env, io};
 
 /// How many rows are handed in for each publish.
 const ROWS: u64 = 100;
-
-/// How often is measured. The least time counts.
-const ROUNDS: u64 = 9;
 
 /// Hands in the rows of one publish.
 fn hand_in<R: Wait + Drop>(alloc: Global, writer: &mut OutputWriter<R>) -> Result<(), OutputFault> {
@@ -59,34 +58,38 @@ fn rows_read<W: Wait + Drop>(writer: &mut OutputWriter<W>) -> Option<usize> {
     Some(rows.len())
 }
 
-/// The microseconds of so many publishes by a new writer, and how many rows are read afterwards.
-fn measure<R: Wait + Clock>(rt: &R, alloc: Global, publishes: u64) -> Option<(u64, usize)> {
-    let mut writer = OutputWriter::new(rt, alloc, 1).ok()?;
-    let taken = timed(rt, alloc, &mut writer, publishes);
-    let rows = rows_read(&mut writer);
-    drop(writer);
-    Some((taken?, rows?))
+/// The microseconds of so many publishes by each of so many new writers, in all, and how many rows
+/// are read afterwards.
+fn measure<R: Wait + Clock>(
+    rt: &R,
+    alloc: Global,
+    writers: u64,
+    publishes: u64,
+) -> Option<(u64, usize)> {
+    let mut all = Vec::new(alloc);
+    let mut taken: u64 = 0;
+    let mut rows: usize = 0;
+    for _ in 0..writers {
+        let mut writer = OutputWriter::new(rt, alloc, 1).ok()?;
+        taken = taken.saturating_add(timed(rt, alloc, &mut writer, publishes)?);
+        rows = rows.saturating_add(rows_read(&mut writer)?);
+        all.push(writer).ok()?;
+    }
+    Some((taken, rows))
 }
 
-/// The least of several times, in microseconds, and the rows that are read after the last.
-fn least<R: Wait + Clock>(rt: &R, alloc: Global, publishes: u64) -> Option<(u64, usize)> {
-    let (mut least, mut rows) = measure(rt, alloc, publishes)?;
-    for _ in 1..ROUNDS {
-        let (taken, read) = measure(rt, alloc, publishes)?;
-        least = least.min(taken);
-        rows = read;
-    }
-    Some((least, rows))
+/// The number that a word is, or 1.
+fn number(word: Option<String>) -> u64 {
+    word.and_then(|word| word.as_str().parse().ok())
+        .unwrap_or(1)
 }
 
 fn main(rt: HostRuntime) -> io::Result<()> {
-    let (few, rows) = least(&rt, rt.alloc(), 100).ok_or(AllocError)?;
-    println!(rt; "100 publishes: {rows} rows are read")?;
-    let (many, rows) = least(&rt, rt.alloc(), 1_000).ok_or(AllocError)?;
-    println!(rt; "1000 publishes: {rows} rows are read")?;
-    let tenths = many.saturating_mul(10) / few.max(1);
-    eprintln!(rt; "100 publishes of 100 rows: {few} microseconds")?;
-    eprintln!(rt; "1000 publishes of 100 rows: {many} microseconds")?;
-    eprintln!(rt; "ratio {}.{}", tenths / 10, tenths % 10)?;
+    let mut words = env::args(&rt)?;
+    words.next();
+    let (writers, publishes) = (number(words.next()), number(words.next()));
+    let (taken, rows) = measure(&rt, rt.alloc(), writers, publishes).ok_or(AllocError)?;
+    println!(rt; "{writers} writers, {publishes} publishes each: {rows} rows are read")?;
+    eprintln!(rt; "{taken}")?;
     Ok(())
 }
