@@ -18,7 +18,22 @@ use std::thread::{Threads, join};
 use std::time::Clock;
 use thread_runner::{NoPause, Schedule, Station, run};
 
-/// What a reader reads beside a run, and what one reads afterwards that was told of all.
+/// All that the first sink subtask has committed.
+fn all_rows<
+    O: Operator,
+    S: SnapshotStore,
+    X: Transactions,
+    P: Partitions<Record = O::Record>,
+    L: Ledger,
+    W: Wait + Drop,
+>(station: &mut Station<O, S, X, P, L, W>) -> Result<Vec<Vec<u8>>, Fail> {
+    let mut reader = station.reader()?;
+    reader.learn(station.publish()?);
+    Ok(reader.read(0)?)
+}
+
+/// Takes the job of this core to rest. What a reader reads beside the run in a thread of its own,
+/// and all that the first sink subtask has committed afterwards.
 fn run_beside_a_reader<
     O: Operator + Send,
     S: SnapshotStore + Drop + Send,
@@ -41,21 +56,23 @@ where
     requires parts { (blank.parts ≡ L.parts) × (L.parts ≡ 65) }
 {
     let opened = Station::<O, S, X, P, L, &R>::with_readers(rt, alloc, core, schedule, blank);
-    let (station, mut share) = opened.map_err(|(fault, _)| fault)?;
-    let station = Mutex::new(station);
-    let mut reader = station.lock(rt).reader()?;
-    let (report, seen) = join(
-        rt,
-        || run(
-            rt, alloc, &station, &mut share, 4, 100, 1_000_000, 8, &NoPause,
-        ),
-        move || reader.read(0),
-    );
-    report?;
-    let mut station = station.into_inner();
+    let (mut station, mut share) = opened.map_err(|(fault, _)| fault)?;
     let mut reader = station.reader()?;
-    reader.learn(station.publish()?);
-    Ok((seen?, reader.read(0)?))
+    let station = Mutex::new(station);
+    let (seen, report) = join(
+        rt,
+        move || reader.read(0),
+        ||
+            requires { (share.parts ≡ L.parts) × (L.parts ≡ 65) }
+        {
+            run(
+                rt, alloc, &station, &mut share, 4, 100, 1_000_000, 8, &NoPause,
+            )
+        },
+    );
+    let rows = all_rows(&mut station.into_inner())?;
+    report?;
+    Ok((seen?, rows))
 }
 
 #[test]

@@ -2,7 +2,6 @@
 
 ghost use Rattle.std.specs.Prelude.{◌≡◌};
 
-use crate::rows::text_of;
 use crate::watchers::{Meeting, WATCHERS, Watcher, watch_all};
 use commit_sink::Transactions;
 use dataflow_core::Core;
@@ -12,7 +11,6 @@ use source_log::Partitions;
 use std::alloc::Global;
 use std::sync::ledger::{Blank, Ledger, Share};
 use std::sync::{Mutex, Wait};
-use std::test::Fail;
 use std::thread::{Threads, join};
 use std::time::Clock;
 use thread_runner::{OutputFault, OutputReader, Report, RunFault, Schedule, Station, run};
@@ -24,20 +22,23 @@ pub(crate) struct How {
     pub(crate) every: u64,
 }
 
-/// What came after a run, as text.
+/// What readers have read after a run.
 #[derive(Drop)]
 pub(crate) struct After {
     /// What a reader read in another thread, which had learned there what was published.
-    pub(crate) told: String,
-    /// What it read once the job had failed and was restarted.
-    pub(crate) again: String,
-    /// What another one read then, which was told nothing.
-    pub(crate) untold: String,
+    pub(crate) told: Option<Vec<Vec<u8>>>,
+    /// Whether the job has failed then, and was restarted.
+    pub(crate) was_restarted: bool,
+    /// What that reader read afterwards.
+    pub(crate) again: Option<Vec<Vec<u8>>>,
+    /// What another one read, which was told nothing.
+    pub(crate) untold: Option<Vec<Vec<u8>>>,
     /// How many readers were handed out afterwards, and why no more.
     pub(crate) left: (usize, Option<RunFault>),
+    reader: OutputReader,
 }
 
-/// Four of the station's readers.
+/// Four of the station's readers, or fewer where memory is refused.
 fn watchers<
     O: Operator,
     S: SnapshotStore,
@@ -45,12 +46,14 @@ fn watchers<
     P: Partitions<Record = O::Record>,
     L: Ledger,
     W: Wait + Drop,
->(alloc: Global, station: &mut Station<O, S, X, P, L, W>) -> Result<Vec<Watcher>, Fail> {
+>(alloc: Global, station: &mut Station<O, S, X, P, L, W>) -> Vec<Watcher> {
     let mut watchers = Vec::new(alloc);
     for _ in 0..WATCHERS {
-        watchers.push(Watcher::new(alloc, station.reader()?))?;
+        if let Ok(reader) = station.reader() {
+            let _ = watchers.push(Watcher::new(alloc, reader));
+        }
     }
-    Ok(watchers)
+    watchers
 }
 
 /// Takes the job to rest, and says so.
@@ -100,16 +103,28 @@ fn told_there<
     L: Ledger,
     W: Wait + Drop,
     R: Threads + Sync,
->(rt: &R, station: &mut Station<O, S, X, P, L, W>) -> Result<(OutputReader, Vec<Vec<u8>>), Fail> {
-    let mut reader = station.reader()?;
-    let told = station.publish()?;
+>(rt: &R, station: &mut Station<O, S, X, P, L, W>) -> Option<(OutputReader, Option<Vec<Vec<u8>>>)> {
+    let mut reader = station.reader().ok()?;
+    let told = station.publish().ok()?;
     let there = move || {
         reader.learn(told);
-        let rows = reader.read(0);
+        let rows = reader.read(0).ok();
         (reader, rows)
     };
-    let (reader, rows) = join(rt, there, || ()).0;
-    Ok((reader, rows?))
+    Some(join(rt, there, || ()).0)
+}
+
+/// What a new reader reads that is told nothing.
+fn read_untold<
+    O: Operator,
+    S: SnapshotStore,
+    X: Transactions,
+    P: Partitions<Record = O::Record>,
+    L: Ledger,
+    W: Wait + Drop,
+>(station: &mut Station<O, S, X, P, L, W>) -> Option<Vec<Vec<u8>>> {
+    let mut reader = station.reader().ok()?;
+    reader.read(0).ok()
 }
 
 /// How many readers a station hands out, and why no more.
@@ -140,30 +155,26 @@ fn read_after<
     L: Ledger,
     W: Wait + Drop,
     R: Threads + Sync,
->(
-    rt: &R,
-    alloc: Global,
-    station: &mut Station<O, S, X, P, L, W>,
-) -> Result<(OutputReader, After), Fail> {
+>(rt: &R, station: &mut Station<O, S, X, P, L, W>) -> Option<After> {
     let (mut reader, told) = told_there(rt, station)?;
-    station.fail()?;
-    station.restart()?;
-    let again = reader.read(0)?;
-    let untold = station.reader()?.read(0)?;
-    let after = After {
-        told: text_of(alloc, &told)?,
-        again: text_of(alloc, &again)?,
-        untold: text_of(alloc, &untold)?,
-        left: readers_left(station),
-    };
-    Ok((reader, after))
+    let was_restarted = station.fail().is_ok() && station.restart().is_ok();
+    let again = reader.read(0).ok();
+    let untold = read_untold(station);
+    let left = readers_left(station);
+    Some(After {
+        told,
+        was_restarted,
+        again,
+        untold,
+        left,
+        reader,
+    })
 }
 
-/// What the readers beside a run have found, and what came after it.
+/// What a run came to, what the readers beside it have found, and what came after it.
 #[derive(Drop)]
 pub(crate) struct Played {
-    /// How many jobs were finished.
-    pub(crate) finished: u128,
+    pub(crate) report: Result<Report, RunFault>,
     pub(crate) watchers: Vec<Watcher>,
     pub(crate) after: After,
     /// Why a read is refused once the core was handed out.
@@ -186,7 +197,7 @@ pub(crate) fn play<
     blank: Blank,
     how: How,
     meeting: &Meeting,
-) -> Result<Played, Fail>
+) -> Option<Played>
 where
     O::Record: Send,
     O::Key: Send,
@@ -195,23 +206,25 @@ where
     requires parts { (blank.parts ≡ L.parts) × (L.parts ≡ 65) }
 {
     let opened = Station::<O, S, X, P, L, &R>::with_readers(rt, alloc, core, schedule, blank);
-    let Ok((mut station, mut share)) = opened else {
-        return Err(Fail::new("no memory"));
-    };
-    let mut watchers = watchers(alloc, &mut station)?;
+    let (mut station, mut share) = opened.ok()?;
+    let mut watchers = watchers(alloc, &mut station);
     let station = Mutex::new(station);
-    let (report, ()) = join(
+    let ((), report) = join(
         rt,
-        || run_to_rest(rt, alloc, &station, &mut share, how, meeting),
         || watch_all(rt, &mut watchers, meeting),
+        ||
+            requires { (share.parts ≡ L.parts) × (L.parts ≡ 65) }
+        { run_to_rest(rt, alloc, &station, &mut share, how, meeting) },
     );
     let mut station = station.into_inner();
-    let (mut reader, after) = read_after(rt, alloc, &mut station)?;
+    let after = read_after(rt, &mut station);
     drop(station.into_core());
-    Ok(Played {
-        finished: report?.finished,
+    let mut after = after?;
+    let closed = after.reader.read(0).err();
+    Some(Played {
+        report,
         watchers,
         after,
-        closed: reader.read(0).err(),
+        closed,
     })
 }

@@ -12,7 +12,7 @@ use std::sync::ledger::Blank;
 use std::test::Fail;
 use std::thread::Threads;
 use std::time::Clock;
-use thread_runner::{OutputFault, RunFault};
+use thread_runner::{OutputFault, Report, RunFault};
 
 /// Runs the line over these rows, with four readers beside it.
 fn watched<R: Threads + Wait + Clock + Sync>(
@@ -23,7 +23,24 @@ fn watched<R: Threads + Wait + Clock + Sync>(
     meeting: &Meeting,
 ) -> Result<Played, Fail> {
     let (core, schedule) = line_over(alloc, rows)?;
-    play::<_, _, _, _, Brand, _>(rt, alloc, core, schedule, Blank::new(65), how, meeting)
+    let blank = Blank::new(65);
+    let played = play::<_, _, _, _, Brand, _>(rt, alloc, core, schedule, blank, how, meeting);
+    played.ok_or_else(|| Fail::new("no memory"))
+}
+
+/// These rows were read.
+fn expect_rows(
+    rt: &impl Abort,
+    alloc: Global,
+    rows: Option<&Vec<Vec<u8>>>,
+    wanted: &str,
+) -> Result<(), Fail> {
+    let Some(rows) = rows else {
+        return Err(Fail::new("a read was refused"));
+    };
+    let text = text_of(alloc, rows)?;
+    assert_eq!(rt; text.as_str(), wanted);
+    Ok(())
 }
 
 /// Each has read all rows at the end, and no list that did not begin with the one before.
@@ -36,8 +53,7 @@ fn expect_all(
     assert_eq!(rt; watchers.len(), 4);
     for watcher in watchers {
         assert!(rt; watcher.is_served);
-        let text = text_of(alloc, &watcher.last)?;
-        assert_eq!(rt; text.as_str(), wanted);
+        expect_rows(rt, alloc, Some(&watcher.last), wanted)?;
     }
     Ok(())
 }
@@ -55,10 +71,11 @@ fn readers_read_what_was_committed_across_a_failure(rt: HostRuntime) -> Result<(
     };
     let played = watched(&rt, rt.alloc(), rows, how, &Meeting::new(3, u64::MAX))?;
     expect_all(&rt, rt.alloc(), &played.watchers, wanted)?;
-    assert_eq!(rt; played.finished, 6);
-    assert_eq!(rt; played.after.told.as_str(), wanted);
-    assert_eq!(rt; played.after.again.as_str(), wanted);
-    assert_eq!(rt; played.after.untold.as_str(), wanted);
+    expect_rows(&rt, rt.alloc(), played.after.told.as_ref(), wanted)?;
+    assert!(rt; played.after.was_restarted);
+    expect_rows(&rt, rt.alloc(), played.after.again.as_ref(), wanted)?;
+    expect_rows(&rt, rt.alloc(), played.after.untold.as_ref(), wanted)?;
+    assert_eq!(rt; played.report, Ok(Report { finished: 6 }));
     assert_eq!(rt; played.after.left, (10, Some(RunFault::ReadersFull)));
     assert_eq!(rt; played.closed, Some(OutputFault::Closed));
     Ok(())
@@ -79,7 +96,6 @@ fn each_list_begins_with_the_one_before(rt: HostRuntime) -> Result<(), Fail> {
     for watcher in &played.watchers {
         assert!(rt; watcher.was_between);
     }
-    assert_eq!(rt; played.finished, 20_000);
-    assert_eq!(rt; played.after.told.as_str(), wanted.as_str());
-    Ok(())
+    assert_eq!(rt; played.report, Ok(Report { finished: 20_000 }));
+    expect_rows(&rt, rt.alloc(), played.after.told.as_ref(), &wanted)
 }
