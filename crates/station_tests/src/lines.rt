@@ -28,7 +28,10 @@ fn read(alloc: Global, rows: &str) -> Result<JobInput, Fail> {
         name: "rows",
         file: Ok(rows.as_bytes()),
     })?;
-    judge(alloc, job, inputs).map_err(|_| Fail::new("a bad job or row"))
+    match judge(alloc, job, inputs) {
+        Ok(input) => Ok(input),
+        Err(_) => Err(Fail::new("a bad job or row")),
+    }
 }
 
 /// A core over these devices, where they are the graph's, and the schedule of its graph.
@@ -58,10 +61,7 @@ fn open<
 pub(crate) fn line_over(alloc: Global, rows: &str) -> Result<(LineCore, Schedule), Fail> {
     let JobInput { job, graph, log } = read(alloc, rows)?;
     let operators = job.operators(alloc)?;
-    if graph.tasks() == 0 {
-        return Err(Fail::new("the job has no task"));
-    }
-    let store = MemoryStore::new(alloc, graph.tasks());
+    let store = MemoryStore::new(alloc, graph.tasks().max(1));
     let sinks = MemoryTransactions::new(alloc, graph.sinks());
     open(alloc, graph, operators, (log, store, sinks))
 }

@@ -53,7 +53,8 @@ pub(crate) struct Watcher {
     reader: OutputReader,
     /// The list that it has read last.
     pub(crate) last: Vec<Vec<u8>>,
-    /// Whether no read was refused, and each list has begun with the one before.
+    /// Whether its opening list was empty, no read was refused, and each list has begun with the
+    /// one before.
     pub(crate) is_served: bool,
     /// Whether it has read some rows and not all.
     pub(crate) was_between: bool,
@@ -65,11 +66,13 @@ fn begins(last: &[Vec<u8>], now: &[Vec<u8>]) -> bool {
 }
 
 impl Watcher {
-    pub(crate) fn new(alloc: Global, reader: OutputReader) -> Watcher {
+    /// A reader of a station that has published nothing.
+    pub(crate) fn new(alloc: Global, mut reader: OutputReader) -> Watcher {
+        let is_served = reader.read(0).is_ok_and(|rows| rows.is_empty());
         Watcher {
             reader,
             last: Vec::new(alloc),
-            is_served: true,
+            is_served,
             was_between: false,
         }
     }
