@@ -2,18 +2,21 @@
 
 ghost use Rattle.std.specs.Prelude.{◌≡◌};
 
-use crate::watchers::{Meeting, WATCHERS, Watcher, watch_all};
+use crate::watchers::{Meeting, WATCHERS, Watcher, join_all, start_one};
 use commit_sink::Transactions;
 use dataflow_core::Core;
 use operators::Operator;
 use snapshot_store::SnapshotStore;
 use source_log::Partitions;
 use std::alloc::Global;
-use std::sync::ledger::{Blank, Ledger, Share};
-use std::sync::{Mutex, Wait};
-use std::thread::{Threads, join};
+use std::sync::ledger::{Blank, Ledger};
+use std::sync::{Arc, Mutex, Wait};
+use std::thread::{JoinHandle, Threads, join};
 use std::time::Clock;
 use thread_runner::{OutputFault, OutputReader, Report, RunFault, Schedule, Station, run};
+
+/// After so many turns a run is given up.
+const TURNS: u64 = 1_000_000_000;
 
 /// How a run is made: by so many workers, with a checkpoint after so many jobs.
 #[derive(Clone, Copy)]
@@ -38,60 +41,28 @@ pub(crate) struct After {
     reader: OutputReader,
 }
 
-/// Four of the station's readers, or fewer where memory is refused.
-fn watchers<
+/// Four of the station's readers look on, each in a thread of its own.
+fn start<
     O: Operator,
     S: SnapshotStore,
     X: Transactions,
     P: Partitions<Record = O::Record>,
     L: Ledger,
     W: Wait + Drop,
->(alloc: Global, station: &mut Station<O, S, X, P, L, W>) -> Vec<Watcher> {
-    let mut watchers = Vec::new(alloc);
-    for _ in 0..WATCHERS {
-        if let Ok(reader) = station.reader() {
-            let _ = watchers.push(Watcher::new(alloc, reader));
-        }
-    }
-    watchers
-}
-
-/// Takes the job to rest, and says so.
-fn run_to_rest<
-    O: Operator + Send,
-    S: SnapshotStore + Drop + Send,
-    X: Transactions + Drop + Send,
-    P: Partitions<Record = O::Record> + Drop + Send,
-    L: Ledger + Send + Sync,
-    W: Wait + Drop + Send,
-    R: Threads + Wait + Clock + Sync,
+    R: Threads,
 >(
     rt: &R,
     alloc: Global,
-    station: &Mutex<Station<O, S, X, P, L, W>>,
-    share: &mut Share<L>,
-    how: How,
-    meeting: &Meeting,
-) -> Result<Report, RunFault>
-where
-    O::Record: Send,
-    O::Key: Send,
-    O::State: Send,
-    requires whole { (share.old.parts ≡ L.parts) × (L.parts ≡ 65) }
-{
-    let report = run(
-        rt,
-        alloc,
-        station,
-        share,
-        how.workers,
-        how.every,
-        1_000_000_000,
-        0,
-        meeting,
-    );
-    meeting.ends();
-    report
+    station: &mut Station<O, S, X, P, L, W>,
+    meeting: &Arc<Meeting, Global>,
+) -> Vec<JoinHandle<Watcher>> {
+    let mut watchers = Vec::new(alloc);
+    for _ in 0..WATCHERS {
+        if let Ok(reader) = station.reader() {
+            let _ = start_one(rt, alloc, reader, meeting, &mut watchers);
+        }
+    }
+    watchers
 }
 
 /// A reader that is told, in another thread, what the station publishes, and what it reads there.
@@ -196,7 +167,7 @@ pub(crate) fn play<
     schedule: Schedule,
     blank: Blank,
     how: How,
-    meeting: &Meeting,
+    meeting: &Arc<Meeting, Global>,
 ) -> Option<Played>
 where
     O::Record: Send,
@@ -205,17 +176,17 @@ where
     requires name { blank.name ≡ L.name }
     requires parts { (blank.parts ≡ L.parts) × (L.parts ≡ 65) }
 {
+    let How { workers, every } = how;
     let opened = Station::<O, S, X, P, L, &R>::with_readers(rt, alloc, core, schedule, blank);
     let (mut station, mut share) = opened.ok()?;
-    let mut watchers = watchers(alloc, &mut station);
+    let watchers = start(rt, alloc, &mut station, meeting);
     let station = Mutex::new(station);
-    let ((), report) = join(
-        rt,
-        || watch_all(rt, &mut watchers, meeting),
-        ||
-            requires { (share.parts ≡ L.parts) × (L.parts ≡ 65) }
-        { run_to_rest(rt, alloc, &station, &mut share, how, meeting) },
+    let pause: &Meeting = meeting;
+    let report = run(
+        rt, alloc, &station, &mut share, workers, every, TURNS, 0, pause,
     );
+    meeting.ends();
+    let watchers = join_all(rt, alloc, watchers);
     let mut station = station.into_inner();
     let after = read_after(rt, &mut station);
     drop(station.into_core());

@@ -1,49 +1,30 @@
 //! A station without readers.
 
-ghost use Rattle.std.specs.Prelude.{◌≡◌};
+ghost use Rattle.std.specs.Prelude.{◌≡◌, Some, None};
+ghost use Rattle.run_schedule.specs.declared.fault.RunFault.TheVariants as RunFault;
 
-use crate::lines::line_over;
 use commit_sink::Transactions;
-use dataflow_core::Core;
 use operators::Operator;
 use snapshot_store::SnapshotStore;
 use source_log::Partitions;
-use std::marker::Brand;
 use std::sync::Wait;
-use std::sync::ledger::{Blank, Ledger};
-use std::test::Fail;
-use thread_runner::{RunFault, Schedule, Station};
+use std::sync::ledger::Ledger;
+use thread_runner::{RunFault, Station};
 
-/// Why a station without readers hands out none, and publishes nothing.
-fn refusals<
+/// It hands out no reader, and publishes nothing.
+pub(crate) fn refusals<
     O: Operator,
-    S: SnapshotStore + Drop,
-    X: Transactions + Drop,
-    P: Partitions<Record = O::Record> + Drop,
+    S: SnapshotStore,
+    X: Transactions,
+    P: Partitions<Record = O::Record>,
     L: Ledger,
-    R: Wait,
->(
-    _rt: &R,
-    core: Core<O, S, X, P>,
-    schedule: Schedule,
-    blank: Blank,
-) -> (Option<RunFault>, Option<RunFault>)
-    requires name { blank.name ≡ L.name }
-    requires parts { (blank.parts ≡ L.parts) × (L.parts ≡ 65) }
+    W: Wait + Drop,
+>(station: &mut Station<O, S, X, P, L, W>) -> (Option<RunFault>, Option<RunFault>)
+    requires { station.old.output ≡ None }
+    ensures reader { result.0 ≡ Some RunFault.ReadersFull }
+    ensures told { result.1 ≡ Some RunFault.Closed }
 {
-    let (mut station, _share) = Station::<O, S, X, P, L, &R>::new(core, schedule, blank);
     let reader = station.reader().err();
     let told = station.publish().err();
     (reader, told)
-}
-
-#[test]
-fn a_station_without_readers_refuses(rt: HostRuntime) -> Result<(), Fail> {
-    let (core, schedule) = line_over(rt.alloc(), "")?;
-    let refused = refusals::<_, _, _, _, Brand, _>(&rt, core, schedule, Blank::new(65));
-    assert_eq!(rt;
-        refused,
-        (Some(RunFault::ReadersFull), Some(RunFault::Closed))
-    );
-    Ok(())
 }

@@ -1,9 +1,10 @@
 //! Readers that look on while a job runs.
 
-use std::alloc::Global;
+use std::alloc::{AllocError, Global};
+use std::sync::Arc;
 use std::sync::atomic::{AtomicU64, Ordering};
 use std::thread;
-use std::thread::Threads;
+use std::thread::{JoinHandle, Threads};
 use thread_runner::{OutputReader, Pause};
 
 /// How many readers look on.
@@ -106,12 +107,33 @@ impl Watcher {
     }
 }
 
-/// All look on, each in a thread of its own.
-pub(crate) fn watch_all<R: Threads + Sync>(rt: &R, watchers: &mut [Watcher], meeting: &Meeting) {
-    thread::for_each_mut(
-        rt,
-        watchers,
-        WATCHERS,
-        &|_: usize, watcher: &mut Watcher| { watcher.watch(meeting) },
-    );
+/// A reader looks on in a thread of its own.
+pub(crate) fn start_one<R: Threads>(
+    rt: &R,
+    alloc: Global,
+    reader: OutputReader,
+    meeting: &Arc<Meeting, Global>,
+    watchers: &mut Vec<JoinHandle<Watcher>>,
+) -> Result<(), AllocError> {
+    let meeting = Arc::try_clone(meeting)?;
+    let mut watcher = Watcher::new(alloc, reader);
+    let there = move || {
+        watcher.watch(&meeting);
+        watcher
+    };
+    watchers.push(thread::spawn(rt, there)?)?;
+    Ok(())
+}
+
+/// The readers, once all have looked on to the end.
+pub(crate) fn join_all<R: Threads>(
+    rt: &R,
+    alloc: Global,
+    handles: Vec<JoinHandle<Watcher>>,
+) -> Vec<Watcher> {
+    let mut watchers = Vec::new(alloc);
+    for handle in handles {
+        let _ = watchers.push(handle.join(rt));
+    }
+    watchers
 }

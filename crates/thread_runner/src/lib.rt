@@ -16,6 +16,45 @@
 //!
 //! Which step comes next is chosen by a [`Schedule`], on which nothing rests but that the run comes
 //! to rest.
+//!
+//! # An example
+//!
+//! A job is taken to rest beside a reader in a thread of its own; then another one is told of all,
+//! and reads it.
+//!
+//! ```
+//! let opened = Station::<O, S, X, P, L, &R>::with_readers(rt, alloc, core, schedule, blank);
+//! let (mut station, mut share) = opened.map_err(|(fault, _)| fault)?;
+//! let mut reader = station.reader()?;
+//! let station = Mutex::new(station);
+//! let (seen, report) = join(
+//!     rt,
+//!     move || reader.read(0),
+//!     ||
+//!         requires { (share.parts ≡ L.parts) × (L.parts ≡ 65) }
+//!     {
+//!         run(
+//!             rt, alloc, &station, &mut share, 4, 100, 1_000_000, 8, &NoPause,
+//!         )
+//!     },
+//! );
+//! let rows = all_rows(&mut station.into_inner())?;
+//! report?;
+//! Ok((seen?, rows))
+//! ```
+//!
+//! Where `all_rows(station)` is
+//!
+//! ```
+//! let mut reader = station.reader()?;
+//! reader.learn(station.publish()?);
+//! Ok(reader.read(0)?)
+//! ```
+//!
+//! These are the bodies of `run_beside_a_reader` and `all_rows` in `station_tests`
+//! (src/example.rt), where they are proved and run, with the bounds of their types. The closure's
+//! clause is what [`run`] asks for: the whole share of the ledger, which `with_readers` has handed
+//! out.
 #![tactic(auto)]
 
 mod calls;
