@@ -24,7 +24,7 @@ use Rattle.operators.specs.declared.row.Row.{Row}
 use Rattle.operators.specs.declared.row_op.RowOp.{RowOp}
 use Rattle.operators.specs.declared.row_state.RowState.{RowState}
 use Rattle.script_file.specs.declared.step.Step.{Step}
-use Rattle.script_file.specs.declared.step.Step.TheVariants.{Read, Work, Claim, Finish, Barrier, Trigger, Inject, Persist, Complete, Commit, Fail, Restart, Append, Fault}
+use Rattle.script_file.specs.declared.step.Step.TheVariants.{Read, Work, Claim, Finish, Barrier, Trigger, Inject, Persist, Complete, Commit, Settle, Drain, Fail, Restart, Append, Fault}
 use Rattle.task_part.specs.Spelling.{part_spelling}
 
 -- The core's call that the step names; `work` names the three that make up a task's work, and a fault none, but the device's call that is to fail.
@@ -39,6 +39,8 @@ asked_by (Inject task) = asked.Call (call.Inject task)
 asked_by (Persist task) = asked.Call (call.Persist task)
 asked_by Complete = asked.Call call.Complete
 asked_by (Commit sink) = asked.Call (call.Commit sink)
+asked_by Settle = asked.Call call.Settle
+asked_by (Drain turns) = asked.Call (call.Drain turns)
 asked_by Fail = asked.Call call.Fail
 asked_by Restart = asked.Call call.Restart
 asked_by (Append partition row) = asked.Call (call.Append partition row)

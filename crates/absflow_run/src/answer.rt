@@ -9,7 +9,7 @@ use crate::opening::RowCore;
 use abs_codec::Codec;
 use alignment::Effect;
 use commit_sink::Transactions;
-use dataflow_core::{Core, Desk, DeviceCall, Reply, Rules, Step as CoreStep};
+use dataflow_core::{Core, Desk, DeviceCall, Drained, Reply, Rules, Step as CoreStep};
 use fault_plan::When;
 use operators::{Operator, Row, RowOp};
 use script_file::{FaultCall, Step};
@@ -31,6 +31,13 @@ fn word_of(effect: Effect) -> &'static str {
     }
 }
 
+fn ending_of(drained: Drained) -> &'static str {
+    match drained {
+        Drained::AtRest => "at-rest",
+        Drained::TurnsSpent => "turns-spent",
+    }
+}
+
 impl fmt::Display for Answer {
     fn fmt<W: fmt::Write>(&self, f: &mut fmt::Formatter<W>) -> fmt::Result {
         match self.0 {
@@ -38,6 +45,10 @@ impl fmt::Display for Answer {
             Reply::Number(number) => write!(f, "ok {number}"),
             Reply::Barrier(effect) => {
                 let word = word_of(effect);
+                write!(f, "ok {word}")
+            }
+            Reply::Drained(drained) => {
+                let word = ending_of(drained);
                 write!(f, "ok {word}")
             }
             Reply::NoJob => write!(f, "no job"),
@@ -82,6 +93,8 @@ fn asked_by(step: Step) -> Asked
         Step::Persist(task) => Asked::Call(CoreStep::Persist(task)),
         Step::Complete => Asked::Call(CoreStep::Complete),
         Step::Commit(sink) => Asked::Call(CoreStep::Commit(sink)),
+        Step::Settle => Asked::Call(CoreStep::Settle),
+        Step::Drain(turns) => Asked::Call(CoreStep::Drain(turns as u64)),
         Step::Fail => Asked::Call(CoreStep::Fail),
         Step::Restart => Asked::Call(CoreStep::Restart),
         Step::Append(partition, row) => Asked::Call(CoreStep::Append(partition, row.into_row())),

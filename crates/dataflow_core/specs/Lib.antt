@@ -5,3 +5,4 @@ pub mod Desks
 pub mod Replies
 pub mod Runs
 pub mod Steps
+pub mod Unclaimed

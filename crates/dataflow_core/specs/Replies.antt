@@ -4,7 +4,8 @@ use Rattle.alignment.specs.declared.input.Effect.{Effect}
 use Rattle.source_log.specs.declared.partitions.SourceFault.{SourceFault}
 use Rattle.core_model.specs.declared.fault.CoreFault.{CoreFault}
 use Rattle.dataflow_core.specs.declared.replies.Reply.{Reply}
-use Rattle.dataflow_core.specs.declared.replies.Reply.TheVariants.{Accepted, Number, Barrier, Refused, Source}
+use Rattle.dataflow_core.specs.declared.replies.Reply.TheVariants.{Accepted, Number, Barrier, Drained, Refused, Source}
+use Rattle.engine_rounds.specs.declared.ending.Drained as ending
 
 abbrev pub accepted_as : Result Unit CoreFault → Reply
 accepted_as (Ok u) = Accepted
@@ -22,6 +23,10 @@ restarted_as (Err fault) = Refused fault
 abbrev pub copied_as : Result Effect CoreFault → Reply
 copied_as (Ok effect) = Barrier effect
 copied_as (Err fault) = Refused fault
+
+abbrev pub drained_as : Result ending.Drained CoreFault → Reply
+drained_as (Ok drained) = Drained drained
+drained_as (Err fault) = Refused fault
 
 abbrev pub appended_as : Result Unit SourceFault → Reply
 appended_as (Ok u) = Accepted

@@ -11,11 +11,12 @@ use Rattle.dataflow_core.specs.Calls.{Fails, Restarts, Reads, Injects, Triggers,
 use Rattle.dataflow_core.specs.Claims.{Refuses, Claims, TakesBarrierUnclaimed, EndsFinish}
 use Rattle.dataflow_core.specs.CoreState.{CoreState, claims_after}
 use Rattle.dataflow_core.specs.Desks.{ClaimedJob, DeskJobs, job_at}
-use Rattle.dataflow_core.specs.Replies.{accepted_as, numbered_as, restarted_as, copied_as, appended_as}
+use Rattle.dataflow_core.specs.Replies.{accepted_as, numbered_as, restarted_as, copied_as, drained_as, appended_as}
+use Rattle.dataflow_core.specs.Unclaimed.{Settles, Drains}
 use Rattle.dataflow_core.specs.declared.replies.Reply.{Reply}
 use Rattle.dataflow_core.specs.declared.replies.Reply.TheVariants.{NoJob, Number, Refused, Source}
 use Rattle.dataflow_core.specs.declared.runs.Step.{Step}
-use Rattle.dataflow_core.specs.declared.runs.Step.TheVariants.{Read, Claim, Finish, Barrier, Trigger, Inject, Persist, Complete, Commit, Fail, Restart, Append}
+use Rattle.dataflow_core.specs.declared.runs.Step.TheVariants.{Read, Claim, Finish, Barrier, Trigger, Inject, Persist, Complete, Commit, Settle, Drain, Fail, Restart, Append}
 
 -- what is appended fits
 abbrev pub StepFits : {R : Type 0} → (R → Type 0) → Step R → Type 0
@@ -72,6 +73,8 @@ module _ {R K S O : Type 0} (lang : Language R K S O) (KeyFits : K → Type 0) (
   EndsStep (Persist task) old desk new left reply = TellsApart old desk new left reply accepted_as (Persists old.engine new.engine spelling task)
   EndsStep Complete old desk new left reply = TellsApart old desk new left reply numbered_as (Completes old.engine new.engine)
   EndsStep (Commit sink) old desk new left reply = TellsApart old desk new left reply accepted_as (Commits old.engine new.engine sink)
+  EndsStep Settle old desk new left reply = TellsApart old desk new left reply accepted_as (Settles old new lang RecordFits)
+  EndsStep (Drain turns) old desk new left reply = TellsApart old desk new left reply drained_as (Drains old new lang RecordFits turns)
   EndsStep Fail old desk new left reply = TellsApart old desk new left reply accepted_as (Fails old.engine new.engine)
   EndsStep Restart old desk new left reply =
       TellsCall old desk new left reply restarted_as (λ r. Restarts old.engine new.engine lang KeyFits RecordFits IsGood r × (new ≡ record old { engine = new.engine; claims = claims_after r old.claims }))

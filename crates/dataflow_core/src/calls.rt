@@ -26,7 +26,7 @@ ghost use Rattle.dataflow_core.specs.CoreState.{claims_after};
 ghost use Rattle.dataflow_core.specs.Steps.{IsStep, IsRestart};
 
 use crate::held::{Claim, drop_claims};
-use crate::rules::Rules;
+use engine_rules::Rules;
 use commit_sink::Transactions;
 use engine::{CoreFault, Engine};
 use job_graph::Graph;

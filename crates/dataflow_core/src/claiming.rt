@@ -11,7 +11,7 @@ ghost use Rattle.dataflow_core.specs.Steps.{IsStep};
 use crate::calls::Core;
 use crate::held::{Claim, claim_of, end_claim, is_busy, keep_claim};
 use crate::jobs::{Done, Job};
-use crate::rules::Rules;
+use engine_rules::Rules;
 use alignment::Effect;
 use claims::Work;
 use commit_sink::Transactions;

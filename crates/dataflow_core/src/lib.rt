@@ -7,6 +7,10 @@
 //! claims (`claims`). A result is taken exactly where its attempt and serial are those of a claim
 //! that is held now (`K6` where not) and its work is what the task would do now (`K7` where not). A
 //! core over new devices is exactly once, whatever calls were made on it (`is_fresh`).
+//!
+//! `settle` and `drain` make many steps in one call, without claims: `settle` completes the pending
+//! checkpoint, and is refused only where memory is or a device fails; `drain` brings the job to
+//! rest and commits its whole output, or spends its turns.
 #![tactic(auto)]
 
 mod calls;
@@ -17,14 +21,15 @@ mod held;
 mod jobs;
 mod replies;
 mod rows;
-mod rules;
 mod runs;
+mod settling;
 
 pub use calls::Core;
 pub use desks::Desk;
 pub use engine::{CoreFault, DeviceCall};
+pub use engine_rules::Rules;
+pub use engine_settling::Drained;
 pub use held::Claim;
 pub use jobs::{Done, Job};
 pub use replies::Reply;
-pub use rules::Rules;
 pub use runs::Step;

@@ -1,10 +1,11 @@
 //! How a call ended, told as one value.
 
 ghost use Rattle.std.specs.Prelude.{◌≡◌};
-ghost use Rattle.dataflow_core.specs.Replies.{accepted_as, numbered_as, restarted_as, copied_as, appended_as};
+ghost use Rattle.dataflow_core.specs.Replies.{accepted_as, numbered_as, restarted_as, copied_as, drained_as, appended_as};
 
 use alignment::Effect;
 use engine::CoreFault;
+use engine_settling::Drained;
 use source_log::SourceFault;
 
 /// How a step ended. The number is that of a job at the desk, or of a checkpoint, or 0 for none.
@@ -13,6 +14,7 @@ pub enum Reply {
     Accepted,
     Number(u64),
     Barrier(Effect),
+    Drained(Drained),
     /// No job of that number is at the desk.
     NoJob,
     Refused(CoreFault),
@@ -52,6 +54,15 @@ pub(crate) fn copied(outcome: Result<Effect, CoreFault>) -> Reply
 {
     match outcome {
         Ok(effect) => Reply::Barrier(effect),
+        Err(fault) => Reply::Refused(fault),
+    }
+}
+
+pub(crate) fn drained(outcome: Result<Drained, CoreFault>) -> Reply
+    ensures { result ≡ drained_as outcome }
+{
+    match outcome {
+        Ok(drained) => Reply::Drained(drained),
         Err(fault) => Reply::Refused(fault),
     }
 }

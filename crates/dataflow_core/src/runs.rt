@@ -11,8 +11,8 @@ ghost use Rattle.dataflow_core.specs.Steps.{Preserves};
 
 use crate::calls::Core;
 use crate::desks::Desk;
-use crate::replies::{Reply, accepted, appended, copied, numbered, restarted};
-use crate::rules::Rules;
+use crate::replies::{Reply, accepted, appended, copied, drained, numbered, restarted};
+use engine_rules::Rules;
 use abs_codec::Codec;
 use commit_sink::Transactions;
 use engine::CoreFault;
@@ -39,6 +39,10 @@ pub enum Step<R> {
     Complete,
     /// A sink subtask commits.
     Commit(u32),
+    /// The pending checkpoint is completed, and committed by every sink.
+    Settle,
+    /// The job is drained, with so many turns.
+    Drain(u64),
     Fail,
     Restart,
     /// A record is put last in a partition.
@@ -128,6 +132,8 @@ impl<O: Operator, S: SnapshotStore, X: Transactions, P: Partitions<Record = O::R
             Step::Persist(task) => accepted(self.persist(*task)),
             Step::Complete => numbered(self.complete()),
             Step::Commit(sink) => accepted(self.commit(*sink)),
+            Step::Settle => accepted(self.settle()),
+            Step::Drain(turns) => drained(self.drain(*turns)),
             Step::Fail => accepted(self.fail()),
             Step::Restart => restarted(self.restart()),
             Step::Append(partition, row) => self.append_copy(*partition, row),

@@ -1,5 +1,6 @@
 pub mod Idling
 pub mod Many
+pub mod Waiting
 pub mod Resting
 pub mod Taking
 pub mod Turning

@@ -1,6 +1,6 @@
 //! Rounds of turns, until no task has a step left to make.
 
-ghost use Rattle.std.specs.Prelude.{◌≡◌, ◌≢◌, ◌<◌, None, false, IsTrue};
+ghost use Rattle.std.specs.Prelude.{◌≡◌, ◌≢◌, ◌<◌, None, false, IsTrue, OnOk};
 ghost use Rattle.abs_codec.specs.Spelling.{Fits};
 ghost use Rattle.core_model.specs.Language.{language};
 ghost use Rattle.core_model.specs.Sound.{IsSound};
@@ -32,6 +32,7 @@ fn take_turn<O: Operator, S: SnapshotStore, X: Transactions, P: Partitions<Recor
         O.Key.reading O.State.reading) (Fits O.Record.HasSpelling O.Record.spelling) engine.old
         engine.new task left.old left.new result }
     ensures counted { IsCounted engine.old.faults engine.new.faults result }
+    ensures pending { OnOk result (pending_in engine.new.held ≡ pending_in engine.old.held) }
 {
     match turn(engine, alloc, task) {
         Ok(true) => {
@@ -56,6 +57,7 @@ fn round<O: Operator, S: SnapshotStore, X: Transactions, P: Partitions<Record = 
         O.Key.reading O.State.reading) (Fits O.Record.HasSpelling O.Record.spelling) engine.old
         engine.new left.old left.new result }
     ensures counted { IsCounted engine.old.faults engine.new.faults result }
+    ensures pending { OnOk result (pending_in engine.new.held ≡ pending_in engine.old.held) }
 {
     let before = *left;
     let tasks = engine.graph().tasks();
@@ -109,7 +111,7 @@ pub fn idle_engines_rest<
 }
 
 /// Goes in rounds over the tasks, with a turn for each step that is made, until no task has a step
-/// to make, or as many steps were made as there are turns.
+/// to make, or as many steps were made as there are turns. No checkpoint begins or ends.
 pub fn rounds<O: Operator, S: SnapshotStore, X: Transactions, P: Partitions<Record = O::Record>>(
     engine: &mut Engine<O, S, X, P>,
     alloc: Global,
@@ -120,6 +122,7 @@ pub fn rounds<O: Operator, S: SnapshotStore, X: Transactions, P: Partitions<Reco
         O.Key.reading O.State.reading) (Fits O.Record.HasSpelling O.Record.spelling) engine.old
         engine.new turns result }
     ensures counted { IsCounted engine.old.faults engine.new.faults result }
+    ensures pending { OnOk result (pending_in engine.new.held ≡ pending_in engine.old.held) }
 {
     let mut left = turns;
     'spending: while left > 0 {

@@ -1,10 +1,11 @@
 //! A task takes its turn.
 
-ghost use Rattle.std.specs.Prelude.{◌≡◌, ◌≢◌, ◌↔◌, ℕ, None, false, IsTrue, MatchOption, slice_get};
+ghost use Rattle.std.specs.Prelude.{◌≡◌, ◌≢◌, ◌↔◌, ℕ, None, false, IsTrue, OnOk, MatchOption, slice_get};
 ghost use Rattle.abs_codec.specs.Spelling.{Fits};
 ghost use Rattle.claims.specs.Due.{IsWorker, WorksFrom};
 ghost use Rattle.core_model.specs.Calls.{IsSource};
 ghost use Rattle.core_model.specs.Language.{language};
+ghost use Rattle.engine.specs.Readers.{pending_in};
 ghost use Rattle.engine.specs.Running.{IsCounted};
 ghost use Rattle.engine_rounds.specs.Idle.{HasInput, HasStepIn, IsIdleIn};
 ghost use Rattle.engine_rounds.specs.Turns.{turned_as, EndsTurn, EndsWorkAt};
@@ -40,6 +41,7 @@ fn read_turn<O: Operator, S: SnapshotStore, X: Transactions, P: Partitions<Recor
         O.Key.reading O.State.reading) (Fits O.Record.HasSpelling O.Record.spelling) engine.old
         engine.new task result }
     ensures counted { IsCounted engine.old.faults engine.new.faults result }
+    ensures pending { OnOk result (pending_in engine.new.held ≡ pending_in engine.old.held) }
 {
     turned(engine.read(task))
 }
@@ -57,6 +59,7 @@ pub(crate) fn work_at<
         O.Key.reading O.State.reading) (Fits O.Record.HasSpelling O.Record.spelling) engine.old
         engine.new task input result }
     ensures counted { IsCounted engine.old.faults engine.new.faults result }
+    ensures pending { OnOk result (pending_in engine.new.held ≡ pending_in engine.old.held) }
 {
     match engine.offer(task, input) {
         Ok(work) => turned(engine.accept(task, input, work.run(alloc))),
@@ -76,6 +79,7 @@ fn work_turn<O: Operator, S: SnapshotStore, X: Transactions, P: Partitions<Recor
         O.Key.reading O.State.reading) (Fits O.Record.HasSpelling O.Record.spelling) engine.old
         engine.new task result }
     ensures counted { IsCounted engine.old.faults engine.new.faults result }
+    ensures pending { OnOk result (pending_in engine.new.held ≡ pending_in engine.old.held) }
 {
     let _ = engine.graph().tasks();
     let inputs = engine.graph().inputs(task).len() as u32;
@@ -101,6 +105,7 @@ pub(crate) fn turn<
         O.Key.reading O.State.reading) (Fits O.Record.HasSpelling O.Record.spelling) engine.old
         engine.new task result }
     ensures counted { IsCounted engine.old.faults engine.new.faults result }
+    ensures pending { OnOk result (pending_in engine.new.held ≡ pending_in engine.old.held) }
 {
     match engine.graph().role(task) {
         Some(Role::Source(_)) => read_turn(engine, task),

@@ -4,7 +4,7 @@ use Rattle.std.specs.Str.{bytes_eq}
 use Rattle.serde_json.specs.Data.{Data}
 use Rattle.serde_json.specs.Find.{as_str}
 use Rattle.script_file.specs.declared.step.Step.{Step}
-use Rattle.script_file.specs.declared.step.Step.TheVariants.{Read, Work, Claim, Finish, Barrier, Trigger, Inject, Persist, Complete, Commit, Fail, Restart, Append, Fault}
+use Rattle.script_file.specs.declared.step.Step.TheVariants.{Read, Work, Claim, Finish, Barrier, Trigger, Inject, Persist, Complete, Commit, Settle, Drain, Fail, Restart, Append, Fault}
 use Rattle.script_file.specs.declared.fault.ItemFault.{ItemFault}
 use Rattle.script_file.specs.declared.fault.ItemFault.TheVariants as one
 use Rattle.script_file.specs.declared.fault.ScriptFault.{ScriptFault}
@@ -60,18 +60,20 @@ step_with word rest =
     else (if bytes_eq word (codes "inject") then one_number Inject rest
     else (if bytes_eq word (codes "persist") then one_number Persist rest
     else (if bytes_eq word (codes "commit") then one_number Commit rest
+    else (if bytes_eq word (codes "drain") then one_number Drain rest
     else (if bytes_eq word (codes "append") then (appended rest >>= λ a. Ok (Append a.0 a.1))
     else (if bytes_eq word (codes "fault") then (fault_of rest >>= λ f. Ok (Fault f.0 f.1))
-    else Err one.Bad)))))))))
+    else Err one.Bad))))))))))
 
 -- the step that a text is
 unfoldable pub step_of : List ℕ → Result Step ItemFault
 step_of text =
     if bytes_eq text (codes "trigger") then Ok Trigger
     else (if bytes_eq text (codes "complete") then Ok Complete
+    else (if bytes_eq text (codes "settle") then Ok Settle
     else (if bytes_eq text (codes "fail") then Ok Fail
     else (if bytes_eq text (codes "restart") then Ok Restart
-    else (bad (cut text) >>= λ parts. step_with parts.0 parts.1))))
+    else (bad (cut text) >>= λ parts. step_with parts.0 parts.1)))))
 
 -- the step of this number in its list
 abbrev pub of_number : ℕ → Result Step ItemFault → Result Step ScriptFault

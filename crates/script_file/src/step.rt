@@ -39,6 +39,10 @@ pub enum Step {
     Complete,
     /// `commit S`: the sink's transactions up to the last complete checkpoint are committed.
     Commit(u32),
+    /// `settle`: the pending checkpoint is completed, and committed by every sink.
+    Settle,
+    /// `drain N`: the job is drained in rounds of at most so many turns.
+    Drain(u32),
     /// `fail`: the job fails.
     Fail,
     /// `restart`: the job starts again from its last complete checkpoint.
@@ -108,6 +112,7 @@ fn step_with(alloc: Global, word: &str, rest: &str) -> Result<Step, ItemFault>
         "inject" => Ok(Step::Inject(number_of(rest)?)),
         "persist" => Ok(Step::Persist(number_of(rest)?)),
         "commit" => Ok(Step::Commit(number_of(rest)?)),
+        "drain" => Ok(Step::Drain(number_of(rest)?)),
         "append" => {
             let (partition, row) = appended(alloc, rest)?;
             Ok(Step::Append(partition, row))
@@ -128,6 +133,7 @@ pub fn parse_step(alloc: Global, text: &str) -> Result<Step, ItemFault>
     match text {
         "trigger" => Ok(Step::Trigger),
         "complete" => Ok(Step::Complete),
+        "settle" => Ok(Step::Settle),
         "fail" => Ok(Step::Fail),
         "restart" => Ok(Step::Restart),
         _ => {

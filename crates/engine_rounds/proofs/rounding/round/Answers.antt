@@ -9,6 +9,7 @@ loop-task-init g c = record {
   made = took_none (language g.O.Operator.meaning g.O.Key.Ord.cmp g.O.Record.Codec.spelling g.O.Record.Codec.reading g.O.Key.Codec.reading g.O.State.Codec.reading) (Fits g.O.Record.Codec.HasSpelling g.O.Record.Codec.spelling) c.args.engine.now c.args.left.now c.requires.running;
   idle = λ same. (refl, λ t below. absurd (omega (arith, below)));
   faults = refl;
+  pending = refl;
 }
 
 pub loop-task-preserved : goal.loop-task-preserved
@@ -21,6 +22,7 @@ loop-task-preserved g c =
       made = took_on lang fits c.args.engine.now c.loop-task.engine c.take_turn.new.engine c.args.left.now c.loop-task.left c.take_turn.new.left made turn.0;
       idle = idle_on lang fits c.args.engine.now c.loop-task.engine c.take_turn.new.engine c.loop-task.task c.args.left.now c.loop-task.left c.take_turn.new.left made turn.0 turn.1 c.loop-task.invariant.idle;
       faults = c.in-Ok.ensures.counted ∙ c.loop-task.invariant.faults;
+      pending = c.in-Ok.ensures.pending ∙ c.loop-task.invariant.pending;
     }
 
 pub returns-in-Err-clause-ends : goal.returns-in-Err-clause-ends

@@ -1,6 +1,7 @@
 use Rattle.std.proofs.Common.{◌≡◌, ◌<◌, ◌+◌, ℕ, List, length}
 use Rattle.abs_codec.specs.Spelling.{Fits}
 use Rattle.core_model.specs.Language.{language}
+use Rattle.engine.specs.Readers.{pending_in}
 use Rattle.dataflow_model.specs.Machine.{Move}
 use Rattle.engine_rounds.specs.Idle.{IsIdleIn}
 use Rattle.engine_rounds.specs.Turns.{Made}
@@ -12,4 +13,5 @@ invariant-loop-task g l = record {
   made : (moves : List Move) × (length moves + l.left ≡ l.fn.left) × Made (language g.O.Operator.meaning g.O.Key.Ord.cmp g.O.Record.Codec.spelling g.O.Record.Codec.reading g.O.Key.Codec.reading g.O.State.Codec.reading) (Fits g.O.Record.Codec.HasSpelling g.O.Record.Codec.spelling) l.fn.engine l.engine moves;
   idle : l.left ≡ l.fn.left → (l.engine ≡ l.fn.engine) × ((t : ℕ) → t < l.task → IsIdleIn l.fn.engine t);
   faults : l.engine.faults ≡ l.fn.engine.faults;
+  pending : pending_in l.engine.held ≡ pending_in l.fn.engine.held;
 }

@@ -8,6 +8,7 @@ pub spending-init : goal.spending-init
 spending-init g c = record {
   made = took_none (language g.O.Operator.meaning g.O.Key.Ord.cmp g.O.Record.Codec.spelling g.O.Record.Codec.reading g.O.Key.Codec.reading g.O.State.Codec.reading) (Fits g.O.Record.Codec.HasSpelling g.O.Record.Codec.spelling) c.args.engine.now c.args.turns c.requires.running;
   faults = refl;
+  pending = refl;
 }
 
 pub spending-preserved : goal.spending-preserved
@@ -18,6 +19,7 @@ spending-preserved g c =
     record {
       made = took_on lang fits c.args.engine.now c.spending.engine c.round.new.engine c.args.turns c.spending.left c.round.new.left c.spending.invariant.made one;
       faults = c.in-Ok-true.ensures.counted ∙ c.spending.invariant.faults;
+      pending = c.in-Ok-true.ensures.pending ∙ c.spending.invariant.pending;
     }
 
 pub returns-in-Err-clause-ends : goal.returns-in-Err-clause-ends

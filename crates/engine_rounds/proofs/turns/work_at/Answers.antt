@@ -1,6 +1,7 @@
 use Rattle.abs_codec.specs.Spelling.{Fits}
 use Rattle.core_model.specs.Language.{language}
 use Rattle.engine_rounds.proofs.Turning.{offered_due, accept_turns}
+use Rattle.engine_rounds.proofs.Waiting.{work_turn_waits}
 use Rattle.engine_rounds.proofs.turns.work_at.Goals as goal
 
 pub returns-in-Ok-clause-ends : goal.returns-in-Ok-clause-ends
@@ -12,3 +13,8 @@ returns-in-Ok-clause-ends g c =
     rw c.turned.ensures
     (accept_turns lang fits old c.accept.new.self c.args.task c.args.input (record { goes = c.accept.ensures.goes; sound = c.accept.ensures.sound; begins = c.accept.ensures.begins }) c.requires.running c.run.result
     (rw (← c.run.ensures) at due) c.accept.result c.accept.ensures.ends c.accept.ensures.plain)
+
+pub returns-in-Ok-clause-pending : goal.returns-in-Ok-clause-pending
+returns-in-Ok-clause-pending g c =
+    rw c.turned.ensures
+    (work_turn_waits c.args.engine.now c.accept.new.self (language g.O.Operator.meaning g.O.Key.Ord.cmp g.O.Record.Codec.spelling g.O.Record.Codec.reading g.O.Key.Codec.reading g.O.State.Codec.reading) c.args.task c.args.input c.requires.running c.run.result c.accept.result c.accept.ensures.ends)

@@ -1,0 +1,13 @@
+pub mod Gating
+pub mod Ordering
+pub mod Leading
+pub mod Queues
+pub mod Steps
+pub mod Still
+pub mod Committed
+pub mod Bringing
+pub mod Parts
+pub mod Looping
+pub mod Works
+pub mod Ending
+pub mod Chained

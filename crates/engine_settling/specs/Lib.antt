@@ -1,0 +1,5 @@
+pub mod Advancing
+pub mod Awaiting
+pub mod Resting
+pub mod Bringing
+pub mod Settled

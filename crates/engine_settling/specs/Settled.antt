@@ -1,0 +1,103 @@
+-- How settling and draining end.
+use Rattle.std.specs.Prelude.{◌≡◌, ◌≢◌, ◌≤◌, ◌<◌, ◌^◌, ℕ, true, List, [], Some, None, Result, Ok, Err, MatchOption, length, slice_get}
+use Rattle.dataflow_model.specs.Machine.{Move}
+use Rattle.job_graph.specs.declared.role.Role.TheVariants as role
+use Rattle.snapshot_store.specs.Store.{is_complete}
+use Rattle.core_model.specs.Language.{Language}
+use Rattle.core_model.specs.LastCommitted.{committed_of, complete_numbers, last_committed}
+use Rattle.core_model.specs.Sound.{IsSound}
+use Rattle.core_model.specs.State.{State}
+use Rattle.core_model.specs.declared.fault.CoreFault.{CoreFault}
+use Rattle.core_model.specs.declared.fault.CoreFault.TheVariants.{NoCheckpoint, Memory, Device, CommitFault, NumbersSpent}
+use Rattle.engine.specs.Readers.{pending_in}
+use Rattle.engine_rounds.specs.Turns.{Made}
+use Rattle.engine_rounds.specs.Works.{Works, CanMove}
+use Rattle.engine_rounds.specs.declared.ending.Drained.{Drained}
+use Rattle.engine_rounds.specs.declared.ending.Drained.TheVariants.{AtRest, TurnsSpent}
+use Rattle.engine_settling.specs.Bringing.{WentDown}
+use Rattle.engine_settling.specs.Resting.{IsStillIn, CutRests}
+
+module _ {R K S O : Type 0} (s : State O R K S) where
+  -- the checkpoint is complete, and the last one that is; none is pending
+  pub record IsCompleted (n : ℕ) : Type 0 where
+    pub complete : is_complete s.stored n ≡ true
+    pub last : (other : ℕ) → is_complete s.stored other ≡ true → other ≤ n
+    pub none_pending : pending_in s.held ≡ None
+
+  -- each sink has committed it last
+  abbrev pub IsCommitted : ℕ → Type 0
+  IsCommitted n = (task subtask : ℕ) → slice_get s.graph.tasks task ≡ Some (role.Sink subtask) → last_committed s.stored s.ledger subtask ≡ Some n
+
+  -- each sink among the first so many tasks has committed once for each complete checkpoint
+  abbrev pub HaveCommittedBefore : ℕ → Type 0
+  HaveCommittedBefore tasks = (task subtask : ℕ) → task < tasks → slice_get s.graph.tasks task ≡ Some (role.Sink subtask) → length (committed_of s.ledger subtask) ≡ length (complete_numbers s.stored)
+
+  abbrev pub HaveCommitted : Type 0
+  HaveCommitted = HaveCommittedBefore (length s.graph.tasks)
+
+module _ {R K S O : Type 0} (lang : Language R K S O) (RecordFits : R → Type 0) (old new : State O R K S) where
+  -- plain steps were made, and the job still runs
+  abbrev pub MadeSome : Type 0
+  MadeSome = (moves : List Move) × Made lang RecordFits old new moves
+
+  -- The pending checkpoint is completed, or a device fails.
+  abbrev pub EndsCompletion : Result Unit CoreFault → Type 0
+  EndsCompletion (Ok u) = (n : ℕ) × (pending_in old.held ≡ Some n) × MadeSome × IsCompleted new n × (IsStillIn old → CutRests lang new n)
+  EndsCompletion (Err Device) = WentDown lang RecordFits old new
+  EndsCompletion (Err other) = ⊥
+
+  -- Commits leave the store and the pending checkpoint.
+  pub record Commits : Type 0 where
+    pub made : MadeSome
+    pub stored : new.stored ≡ old.stored
+    pub pending : pending_in new.held ≡ pending_in old.held
+
+  -- Every sink of a sound engine has committed once for each complete checkpoint, or a commit failed.
+  abbrev pub EndsCommits : Result Unit CoreFault → Type 0
+  EndsCommits (Ok u) = Commits × (IsSound lang RecordFits old → HaveCommitted new)
+  EndsCommits (Err CommitFault) = Commits
+  EndsCommits (Err other) = ⊥
+
+  -- The pending checkpoint is complete, and every sink of a sound engine has committed it last. It is refused where none is pending, and else only for want
+  -- of memory or where a device failed; the steps that were made are kept.
+  abbrev pub EndsSettle : Result Unit CoreFault → Type 0
+  EndsSettle (Ok u) = (n : ℕ) × (pending_in old.held ≡ Some n) × MadeSome × IsCompleted new n × (IsSound lang RecordFits old → IsCommitted new n)
+  EndsSettle (Err NoCheckpoint) = (pending_in old.held ≡ None) × (new ≡ old)
+  EndsSettle (Err Memory) = MadeSome
+  EndsSettle (Err CommitFault) = MadeSome
+  EndsSettle (Err Device) = WentDown lang RecordFits old new
+  EndsSettle (Err other) = ⊥
+
+  -- and where nothing moved before, the checkpoint's cut is at rest
+  abbrev pub RestsIfStill : Result Unit CoreFault → Type 0
+  RestsIfStill (Ok u) = IsStillIn old → (n : ℕ) → pending_in old.held ≡ Some n → CutRests lang new n
+  RestsIfStill (Err fault) = Unit {0}
+
+  -- What was pending is complete, and none is pending any more.
+  abbrev pub EndsStart : Result Unit CoreFault → Type 0
+  EndsStart (Ok u) = MadeSome × (pending_in new.held ≡ None)
+  EndsStart (Err Memory) = MadeSome
+  EndsStart (Err CommitFault) = MadeSome
+  EndsStart (Err Device) = WentDown lang RecordFits old new
+  EndsStart (Err other) = ⊥
+
+  -- A checkpoint is complete whose cut is at rest, and every sink of a sound engine has committed it last.
+  abbrev pub EndsAtRest : Result Unit CoreFault → Type 0
+  EndsAtRest (Ok u) = MadeSome × ((n : ℕ) × IsCompleted new n × CutRests lang new n × (IsSound lang RecordFits old → IsCommitted new n))
+  EndsAtRest (Err Memory) = MadeSome
+  EndsAtRest (Err CommitFault) = MadeSome
+  EndsAtRest (Err NumbersSpent) = MadeSome × (2 ^ 63 ≤ new.stored.next)
+  EndsAtRest (Err Device) = WentDown lang RecordFits old new
+  EndsAtRest (Err other) = ⊥
+
+  -- At rest: a checkpoint is complete whose cut is at rest, and every sink of a sound engine has committed it last. Turns spent: in the rounds as many steps were made
+  -- as there are turns, and a further one is possible. Refused for want of memory, where a device failed, and where no number is left.
+  abbrev pub EndsDrain : (turns : ℕ) → Result Drained CoreFault → Type 0
+  EndsDrain turns (Ok AtRest) = MadeSome × ((n : ℕ) × IsCompleted new n × CutRests lang new n × (IsSound lang RecordFits old → IsCommitted new n))
+  EndsDrain turns (Ok TurnsSpent) =
+      MadeSome × ((before : State O R K S) × (moves : List Move) × (length moves ≡ turns) × ((first : List Move) × Made lang RecordFits old before first) × Made lang RecordFits before new moves) × CanMove lang new
+  EndsDrain turns (Err Memory) = MadeSome
+  EndsDrain turns (Err CommitFault) = MadeSome
+  EndsDrain turns (Err NumbersSpent) = MadeSome × (2 ^ 63 ≤ new.stored.next)
+  EndsDrain turns (Err Device) = WentDown lang RecordFits old new
+  EndsDrain turns (Err other) = ⊥
