@@ -14,6 +14,7 @@ use Rattle.job_state.specs.declared.holding.Holding.TheVariants as holds
 use Rattle.snapshot_store.specs.Store.{Stored, IsNumbered, is_complete}
 use Rattle.source_log.specs.Partitions.{records_at}
 use Rattle.core_model.specs.Calls.{EndsTrigger, IsBlocked, NoRecord, left_by, tidied}
+use Rattle.core_model.specs.Commits.{EndsCommit}
 use Rattle.core_model.specs.Keeps.{Keeps, Shape}
 use Rattle.core_model.specs.Language.{Language}
 use Rattle.core_model.specs.LastCommitted.{committed_of, complete_numbers, last_committed}
@@ -23,7 +24,7 @@ use Rattle.core_model.specs.declared.fault.CoreFault.{CoreFault}
 use Rattle.core_model.specs.declared.fault.CoreFault.TheVariants.{NotRunning, NoCheckpoint, CheckpointPending, Memory, Device, CommitFault, NumbersSpent}
 use Rattle.core_plain.specs.Plain.{Stays}
 use Rattle.engine.specs.Readers.{pending_in}
-use Rattle.engine.specs.Running.{OnStore}
+use Rattle.engine.specs.Running.{OnStore, OnTransactions}
 use Rattle.engine_rounds.specs.Idle.{IsIdle, IsIdleIn, AreIdle}
 use Rattle.engine_rounds.specs.Turns.{Made, EndsRounds}
 use Rattle.engine_rounds.specs.Works.{Works, CanMove}
@@ -34,10 +35,10 @@ use Rattle.engine_rounds.proofs.Turning.{Calls}
 use Rattle.engine_settling.specs.Advancing.{IsPending}
 use Rattle.engine_settling.specs.Bringing.{Holds, Brings, WentDown, EndsPart}
 use Rattle.engine_settling.specs.Resting.{IsStill, IsStillIn, CutRests}
-use Rattle.engine_settling.specs.Settled.{IsCompleted, IsCommitted, HaveCommittedBefore, HaveCommitted, MadeSome, EndsCompletion, Commits, EndsCommits, EndsSettle, RestsIfStill, EndsStart, EndsAtRest, EndsDrain}
+use Rattle.engine_settling.specs.Settled.{IsCompleted, IsCommitted, HaveCommittedBefore, HaveCommitted, MadeSome, EndsCompletion, Commits, EndsCommitAt, EndsCommits, EndsSettle, RestsIfStill, EndsStart, EndsAtRest, EndsDrain}
 use Rattle.engine_settling.proofs.Bringing.{holds_one, is_held, shape_at, works_stays}
 use Rattle.engine_settling.proofs.Committed.{committed_last}
-use Rattle.engine_settling.proofs.Ending.{cut_rests_in}
+use Rattle.engine_settling.proofs.Ending.{cut_rests_in, commit_done, commit_fails, commit_reaches, commit_leaves}
 use Rattle.engine_settling.proofs.Gating.{receiver_of}
 use Rattle.engine_settling.proofs.Still.{idle_queues, still_started}
 
@@ -81,9 +82,9 @@ module _ {R K S O : Type 0} (lang : Language R K S O) (RecordFits : R → Type 0
   pub commits_both : (old middle new : State O R K S) → Commits lang RecordFits old middle → Commits lang RecordFits middle new → Commits lang RecordFits old new
   commits_both old middle new one two = record { made = made_both old middle new one.made two.made; stored = two.stored ∙ one.stored; pending = two.pending ∙ one.pending }
 
-  pub commits_early : (old middle new : State O R K S) (f : CoreFault) → Commits lang RecordFits old middle → EndsCommits lang RecordFits middle new (Err f) → EndsCommits lang RecordFits old new (Err f)
-  commits_early old middle new CommitFault one two = commits_both old middle new one two
-  commits_early old middle new other one two = absurd two
+  pub commits_early : (old middle new : State O R K S) (task : ℕ) (f : CoreFault) → Commits lang RecordFits old middle → EndsCommitAt lang RecordFits middle new task (Err f) → EndsCommits lang RecordFits old new (Err f)
+  commits_early old middle new task CommitFault one two = commits_both old middle new one two
+  commits_early old middle new task other one two = absurd two
 
   -- one more sink has committed
   pub committed_more : (middle new : State O R K S) (task sink : ℕ) → Commits lang RecordFits middle new → slice_get middle.graph.tasks task ≡ Some (role.Sink sink) → HaveCommittedBefore middle task
@@ -108,6 +109,25 @@ module _ {R K S O : Type 0} (lang : Language R K S O) (RecordFits : R → Type 0
         | inr less ↦ before t other less at
       ]
 
+  -- so for one task after another
+  pub commit_next : (old middle new : State O R K S) (task : ℕ) → (IsSound lang RecordFits old → HaveCommittedBefore middle task) → Commits lang RecordFits old middle → EndsCommitAt lang RecordFits middle new task (Ok tt)
+      → IsSound lang RecordFits old → HaveCommittedBefore new (task + 1)
+  commit_next old middle new task before commits one sound = one.1 (commits.made.1.0.sound sound) (before sound)
+
+  pub committed_none : (s : State O R K S) → HaveCommittedBefore s 0
+  committed_none s t subtask below at = absurd (omega (arith, below))
+
+  pub committed_all : (s : State O R K S) (n : ℕ) → length s.graph.tasks ≤ n → HaveCommittedBefore s n → HaveCommitted s
+  committed_all s n all before t subtask below at = before t subtask (omega (arith, all, below)) at
+
+  -- what is complete stays so
+  completed_on : (old new : State O R K S) (n : ℕ) → Commits lang RecordFits old new → IsCompleted old n → IsCompleted new n
+  completed_on old new n c completed = record {
+    complete = ap (λ (x : Stored). is_complete x n) c.stored ∙ completed.complete;
+    last = λ other e. completed.last other (sym (ap (λ (x : Stored). is_complete x other) c.stored) ∙ e);
+    none_pending = c.pending ∙ completed.none_pending;
+  }
+
   -- ---- settling
 
   pub settle_done : (old middle between new : State O R K S) (IsGood : O → S → Type 0) → Brings lang RecordFits old middle → EndsCompletion lang RecordFits middle between (Ok tt) → Keeps lang RecordFits IsGood between
@@ -118,14 +138,13 @@ module _ {R K S O : Type 0} (lang : Language R K S O) (RecordFits : R → Type 0
       let c = commits.0 in
       let was : pending_in old.held ≡ Some n = sym (brings_pending old middle brings) ∙ completes.1 in
       let numbered : IsNumbered new.stored = subst IsNumbered (sym c.stored) keeps.numbered in
-      let complete : is_complete new.stored n ≡ true = ap (λ (x : Stored). is_complete x n) c.stored ∙ completes.3.complete in
-      let last : (other : ℕ) → is_complete new.stored other ≡ true → other ≤ n = λ other e. completes.3.last other (sym (ap (λ (x : Stored). is_complete x other) c.stored) ∙ e) in (
+      let completed : IsCompleted new n = completed_on between new n c completes.3 in (
         (
           n,
           was,
           made_both old between new made c.made,
-          record { complete = complete; last = last; none_pending = c.pending ∙ completes.3.none_pending },
-          λ sound task subtask at. committed_last new.stored new.ledger subtask n numbered complete last (commits.1 (made.1.0.sound sound) task subtask (slice_get_within new.graph.tasks task (role.Sink subtask) at) at),
+          completed,
+          λ sound task subtask at. committed_last new.stored new.ledger subtask n numbered completed.complete completed.last (commits.1 (made.1.0.sound sound) task subtask (slice_get_within new.graph.tasks task (role.Sink subtask) at) at),
         ),
         λ still m is.
             let same : n ≡ m = same_Some n m (sym was ∙ is) in
@@ -144,7 +163,8 @@ module _ {R K S O : Type 0} (lang : Language R K S O) (RecordFits : R → Type 0
   settle_uncompleted old middle new other b e = absurd e
 
   pub settle_uncommitted : (old middle between new : State O R K S) (f : CoreFault) → Brings lang RecordFits old middle → EndsCompletion lang RecordFits middle between (Ok tt) → EndsCommits lang RecordFits between new (Err f) → EndsSettle lang RecordFits old new (Err f)
-  settle_uncommitted old middle between new CommitFault b c e = made_both old between new (made_both old middle between (made_of old middle b) c.2) e.made
+  settle_uncommitted old middle between new CommitFault b c e =
+      (c.0, sym (brings_pending old middle b) ∙ c.1, made_both old between new (made_both old middle between (made_of old middle b) c.2) e.made, completed_on between new c.0 e c.3)
   settle_uncommitted old middle between new other b c e = absurd e
 
   module _ (IsGood : O → S → Type 0) (old middle between new : State O R K S) (brings : Brings lang RecordFits old middle) (completes : EndsCompletion lang RecordFits middle between (Ok tt)) (keeps : Keeps lang RecordFits IsGood between) where
@@ -160,14 +180,14 @@ module _ {R K S O : Type 0} (lang : Language R K S O) (RecordFits : R → Type 0
 
   pub start_commits : (old new : State O R K S) (r : Result Unit CoreFault) → pending_in old.held ≡ None → EndsCommits lang RecordFits old new r → EndsStart lang RecordFits old new r
   start_commits old new (Ok u) none e = (e.0.made, e.0.pending ∙ none)
-  start_commits old new (Err CommitFault) none e = e.made
+  start_commits old new (Err CommitFault) none e = (e.made, e.pending ∙ none)
   start_commits old new (Err other) none e = absurd e
 
   pub start_settles : (old new : State O R K S) (r : Result Unit CoreFault) → pending_in old.held ≢ None → EndsSettle lang RecordFits old new r → EndsStart lang RecordFits old new r
   start_settles old new (Ok u) some e = (e.2, e.3.none_pending)
   start_settles old new (Err NoCheckpoint) some e = absurd (some e.0)
   start_settles old new (Err Memory) some e = e
-  start_settles old new (Err CommitFault) some e = e
+  start_settles old new (Err CommitFault) some e = (e.2, e.3.none_pending)
   start_settles old new (Err Device) some e = e
   start_settles old new (Err other) some e = absurd e
 
@@ -178,7 +198,7 @@ module _ {R K S O : Type 0} (lang : Language R K S O) (RecordFits : R → Type 0
       (made_both old middle new made e.2, (e.0, e.3, rests still e.0 e.1, λ sound. e.4 (made.1.0.sound sound)))
   rest_settles old middle new n (Err NoCheckpoint) made still is e rests = absurd (none-some n (sym e.0 ∙ is))
   rest_settles old middle new n (Err Memory) made still is e rests = made_both old middle new made e
-  rest_settles old middle new n (Err CommitFault) made still is e rests = made_both old middle new made e
+  rest_settles old middle new n (Err CommitFault) made still is e rests = (made_both old middle new made e.2, e.3.none_pending)
   rest_settles old middle new n (Err Device) made still is e rests = made_down old middle new made e
   rest_settles old middle new n (Err other) made still is e rests = absurd e
 
@@ -188,9 +208,9 @@ module _ {R K S O : Type 0} (lang : Language R K S O) (RecordFits : R → Type 0
   drain_start old new turns Device e = e
   drain_start old new turns other e = absurd e
 
-  pub drain_spent : (old middle new : State O R K S) (turns : ℕ) → Some_made old middle → EndsRounds lang RecordFits middle new turns (Ok TurnsSpent) → EndsDrain lang RecordFits old new turns (Ok TurnsSpent)
-  drain_spent old middle new turns made e =
-      (made_both old middle new made (e.0, e.2), (middle, e.0, e.1, made, e.2), e.3)
+  pub drain_spent : (old middle new : State O R K S) (turns : ℕ) → Some_made old middle → pending_in middle.held ≡ None → EndsRounds lang RecordFits middle new turns (Ok TurnsSpent) → EndsDrain lang RecordFits old new turns (Ok TurnsSpent)
+  drain_spent old middle new turns made none e =
+      (made_both old middle new made (e.0, e.2), (middle, e.0, e.1, made, none, e.2), e.3)
 
   pub drain_rounds : (old middle new : State O R K S) (turns : ℕ) (f : CoreFault) → Some_made old middle → EndsRounds lang RecordFits middle new turns (Err f) → EndsDrain lang RecordFits old new turns (Err f)
   drain_rounds old middle new turns NotRunning made e = absurd (made.1.1 e.3.0)
@@ -211,10 +231,44 @@ module _ {R K S O : Type 0} (lang : Language R K S O) (RecordFits : R → Type 0
 
       of : (f : CoreFault) → EndsAtRest lang RecordFits between new (Err f) → EndsDrain lang RecordFits old new turns (Err f)
       of Memory e = made_both old between new before e
-      of CommitFault e = made_both old between new before e
+      of CommitFault e = (made_both old between new before e.0, e.1)
       of NumbersSpent e = (made_both old between new before e.0, e.1)
       of Device e = made_down old between new before e
       of other e = absurd e
+
+  -- ---- what is made, however they end
+
+  pub settle_works : (old new : State O R K S) (r : Result Unit CoreFault) → EndsSettle lang RecordFits old new r → (moves : List Move) × Works lang RecordFits moves old new
+  settle_works old new (Ok u) e = (e.2.0, e.2.1.0)
+  settle_works old new (Err NoCheckpoint) e = ([], works_none lang RecordFits old new e.1)
+  settle_works old new (Err Memory) e = (e.0, e.1.0)
+  settle_works old new (Err CommitFault) e = (e.2.0, e.2.1.0)
+  settle_works old new (Err Device) e = (e.0, e.1)
+  settle_works old new (Err other) e = absurd e
+
+  pub drain_works : (old new : State O R K S) (turns : ℕ) (r : Result Drained CoreFault) → EndsDrain lang RecordFits old new turns r → (moves : List Move) × Works lang RecordFits moves old new
+  drain_works old new turns (Ok AtRest) e = (e.0.0, e.0.1.0)
+  drain_works old new turns (Ok TurnsSpent) e = (e.0.0, e.0.1.0)
+  drain_works old new turns (Err Memory) e = (e.0, e.1.0)
+  drain_works old new turns (Err CommitFault) e = (e.0.0, e.0.1.0)
+  drain_works old new turns (Err NumbersSpent) e = (e.0.0, e.0.1.0)
+  drain_works old new turns (Err Device) e = (e.0, e.1)
+  drain_works old new turns (Err other) e = absurd e
+
+-- ---- a sink commits
+
+module _ {R K S O : Type 0} (lang : Language R K S O) (RecordFits : R → Type 0) (IsGood : O → S → Type 0) (old new : State O R K S) (keeps : Keeps lang RecordFits IsGood old) (calls : Calls lang RecordFits old new) (stays : Stays lang old new) (running : old.held ≢ None) (task sink : ℕ) (is : slice_get old.graph.tasks task ≡ Some (role.Sink sink)) where
+  pub commit_at : (r : Result Unit CoreFault) → OnTransactions old new (λ h k. EndsCommit old.graph sink h k old.ledger new.ledger) r → EndsCommitAt lang RecordFits old new task r
+  commit_at (Ok u) e =
+      let commits = commit_done lang RecordFits IsGood old new keeps calls stays sink running u e in (
+        commits,
+        λ sound before.
+            committed_more lang RecordFits old new task sink commits is before
+            (commit_reaches lang RecordFits IsGood old new keeps calls stays sink running u e sound)
+            (commit_leaves lang RecordFits IsGood old new keeps calls stays sink running u e),
+      )
+  commit_at (Err CommitFault) e = commit_fails lang RecordFits IsGood old new keeps calls stays sink running task is CommitFault e
+  commit_at (Err other) e = absurd (commit_fails lang RecordFits IsGood old new keeps calls stays sink running task is other e)
 
 -- the next number stays where parts are discarded
 next_tidied : (last : Option ℕ) (stored : Stored) → (tidied last stored).next ≡ stored.next

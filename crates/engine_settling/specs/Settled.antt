@@ -1,5 +1,5 @@
 -- How settling and draining end.
-use Rattle.std.specs.Prelude.{◌≡◌, ◌≢◌, ◌≤◌, ◌<◌, ◌^◌, ℕ, true, List, [], Some, None, Result, Ok, Err, MatchOption, length, slice_get}
+use Rattle.std.specs.Prelude.{◌≡◌, ◌≢◌, ◌≤◌, ◌<◌, ◌+◌, ◌^◌, ℕ, true, List, [], Some, None, Result, Ok, Err, MatchOption, length, slice_get}
 use Rattle.dataflow_model.specs.Machine.{Move}
 use Rattle.job_graph.specs.declared.role.Role.TheVariants as role
 use Rattle.snapshot_store.specs.Store.{is_complete}
@@ -58,13 +58,19 @@ module _ {R K S O : Type 0} (lang : Language R K S O) (RecordFits : R → Type 0
   EndsCommits (Err CommitFault) = Commits
   EndsCommits (Err other) = ⊥
 
+  -- So for one task: a sink commits, and any other commits nothing.
+  abbrev pub EndsCommitAt : (task : ℕ) → Result Unit CoreFault → Type 0
+  EndsCommitAt task (Ok u) = Commits × (IsSound lang RecordFits old → HaveCommittedBefore old task → HaveCommittedBefore new (task + 1))
+  EndsCommitAt task (Err CommitFault) = Commits
+  EndsCommitAt task (Err other) = ⊥
+
   -- The pending checkpoint is complete, and every sink of a sound engine has committed it last. It is refused where none is pending, and else only for want
-  -- of memory or where a device failed; the steps that were made are kept.
+  -- of memory or where a device failed: where a commit failed, it is complete all the same. The steps that were made are kept.
   abbrev pub EndsSettle : Result Unit CoreFault → Type 0
   EndsSettle (Ok u) = (n : ℕ) × (pending_in old.held ≡ Some n) × MadeSome × IsCompleted new n × (IsSound lang RecordFits old → IsCommitted new n)
   EndsSettle (Err NoCheckpoint) = (pending_in old.held ≡ None) × (new ≡ old)
   EndsSettle (Err Memory) = MadeSome
-  EndsSettle (Err CommitFault) = MadeSome
+  EndsSettle (Err CommitFault) = (n : ℕ) × (pending_in old.held ≡ Some n) × MadeSome × IsCompleted new n
   EndsSettle (Err Device) = WentDown lang RecordFits old new
   EndsSettle (Err other) = ⊥
 
@@ -77,7 +83,7 @@ module _ {R K S O : Type 0} (lang : Language R K S O) (RecordFits : R → Type 0
   abbrev pub EndsStart : Result Unit CoreFault → Type 0
   EndsStart (Ok u) = MadeSome × (pending_in new.held ≡ None)
   EndsStart (Err Memory) = MadeSome
-  EndsStart (Err CommitFault) = MadeSome
+  EndsStart (Err CommitFault) = MadeSome × (pending_in new.held ≡ None)
   EndsStart (Err Device) = WentDown lang RecordFits old new
   EndsStart (Err other) = ⊥
 
@@ -85,19 +91,19 @@ module _ {R K S O : Type 0} (lang : Language R K S O) (RecordFits : R → Type 0
   abbrev pub EndsAtRest : Result Unit CoreFault → Type 0
   EndsAtRest (Ok u) = MadeSome × ((n : ℕ) × IsCompleted new n × CutRests lang new n × (IsSound lang RecordFits old → IsCommitted new n))
   EndsAtRest (Err Memory) = MadeSome
-  EndsAtRest (Err CommitFault) = MadeSome
+  EndsAtRest (Err CommitFault) = MadeSome × (pending_in new.held ≡ None)
   EndsAtRest (Err NumbersSpent) = MadeSome × (2 ^ 63 ≤ new.stored.next)
   EndsAtRest (Err Device) = WentDown lang RecordFits old new
   EndsAtRest (Err other) = ⊥
 
-  -- At rest: a checkpoint is complete whose cut is at rest, and every sink of a sound engine has committed it last. Turns spent: in the rounds as many steps were made
-  -- as there are turns, and a further one is possible. Refused for want of memory, where a device failed, and where no number is left.
+  -- At rest: a checkpoint is complete whose cut is at rest, and every sink of a sound engine has committed it last. Turns spent: after what was pending was settled,
+  -- as many steps were made as there are turns, and a further one is possible. Refused for want of memory, where a device failed, and where no number is left.
   abbrev pub EndsDrain : (turns : ℕ) → Result Drained CoreFault → Type 0
   EndsDrain turns (Ok AtRest) = MadeSome × ((n : ℕ) × IsCompleted new n × CutRests lang new n × (IsSound lang RecordFits old → IsCommitted new n))
   EndsDrain turns (Ok TurnsSpent) =
-      MadeSome × ((before : State O R K S) × (moves : List Move) × (length moves ≡ turns) × ((first : List Move) × Made lang RecordFits old before first) × Made lang RecordFits before new moves) × CanMove lang new
+      MadeSome × ((before : State O R K S) × (moves : List Move) × (length moves ≡ turns) × ((first : List Move) × Made lang RecordFits old before first) × (pending_in before.held ≡ None) × Made lang RecordFits before new moves) × CanMove lang new
   EndsDrain turns (Err Memory) = MadeSome
-  EndsDrain turns (Err CommitFault) = MadeSome
+  EndsDrain turns (Err CommitFault) = MadeSome × (pending_in new.held ≡ None)
   EndsDrain turns (Err NumbersSpent) = MadeSome × (2 ^ 63 ≤ new.stored.next)
   EndsDrain turns (Err Device) = WentDown lang RecordFits old new
   EndsDrain turns (Err other) = ⊥

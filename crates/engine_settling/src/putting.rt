@@ -5,7 +5,7 @@ ghost use Rattle.coordinator.specs.Coordinator.{has_acked};
 ghost use Rattle.engine.specs.Running.{IsCounted};
 ghost use Rattle.engine_settling.specs.Advancing.{HaveEnded, HaveAcked};
 ghost use Rattle.engine_settling.specs.Bringing.{Holds, EndsPart};
-ghost use Rattle.engine_settling.specs.Settled.{EndsCompletion, EndsCommits};
+ghost use Rattle.engine_settling.specs.Settled.{EndsCompletion, EndsCommitAt, EndsCommits};
 
 use crate::outcomes::done;
 use commit_sink::Transactions;
@@ -71,6 +71,23 @@ pub(crate) fn complete<
     }
 }
 
+/// The sink that a task is, if it is one, commits.
+fn commit_task<O: Operator, S: SnapshotStore, X: Transactions, P: Partitions<Record = O::Record>>(
+    engine: &mut Engine<O, S, X, P>,
+    task: u32,
+) -> Result<(), CoreFault>
+    requires running { engine.old.held ≢ None }
+    ensures ends { EndsCommitAt ⟦<O as Rules>⟧.lang ⟦<O as Rules>⟧.RecordFits engine.old engine.new
+        task result }
+    ensures counted { IsCounted engine.old.faults engine.new.faults result }
+{
+    engine.is_fresh();
+    match engine.graph().role(task) {
+        Some(Role::Sink(subtask)) => engine.commit(subtask),
+        _ => Ok(()),
+    }
+}
+
 /// Every sink commits.
 pub(crate) fn commit_sinks<
     O: Operator,
@@ -84,12 +101,9 @@ pub(crate) fn commit_sinks<
     ensures counted { IsCounted engine.old.faults engine.new.faults result }
 {
     for task in 0..engine.graph().tasks() {
-        if let Some(Role::Sink(subtask)) = engine.graph().role(task) {
-            engine.is_fresh();
-            match engine.commit(subtask) {
-                Ok(()) => {}
-                Err(fault) => return Err(fault),
-            }
+        match commit_task(engine, task) {
+            Ok(()) => {}
+            Err(fault) => return Err(fault),
         }
     }
     Ok(())
