@@ -18,8 +18,8 @@ programs=()
 [ $# -eq 0 ] || mapfile -t programs < <(realpath -- "$@")
 cd "$(dirname "$0")/.."
 
-# The stages of conformance/ whose steps are all served; and those of which some are not, each script of which is run up to the first of these.
-# (Of stage12 `settle`, `drain`, `persist T K` and `claim T I K` are not.)
+# The stages of conformance/ whose steps are all served; and those of which some are not, each script of which is run up to the first of these, or whole
+# where it has none. (Of stage12 `persist T K` and `claim T I K` are not; 33 of its scripts have none of them.)
 served="stage08"
 begun="stage12"
 
