@@ -255,6 +255,11 @@ module _ {R K S O : Type 0} (lang : Language R K S O) (RecordFits : R → Type 0
   drain_works old new turns (Err Device) e = (e.0, e.1)
   drain_works old new turns (Err other) e = absurd e
 
+  -- ---- a task that is no sink commits nothing
+
+  pub commits_nothing : (s : State O R K S) (task : ℕ) → s.held ≢ None → (o : Option Role) → slice_get s.graph.tasks task ≡ o → ((subtask : ℕ) → o ≢ Some (role.Sink subtask)) → EndsCommitAt lang RecordFits s s task (Ok tt)
+  commits_nothing s task running o is none = (commits_none s running, λ sound before. committed_same s task (λ subtask at. none subtask (sym is ∙ at)) before)
+
 -- ---- a sink commits
 
 module _ {R K S O : Type 0} (lang : Language R K S O) (RecordFits : R → Type 0) (IsGood : O → S → Type 0) (old new : State O R K S) (keeps : Keeps lang RecordFits IsGood old) (calls : Calls lang RecordFits old new) (stays : Stays lang old new) (running : old.held ≢ None) (task sink : ℕ) (is : slice_get old.graph.tasks task ≡ Some (role.Sink sink)) where

@@ -1,10 +1,13 @@
 -- How far the loops of settling are.
-use Rattle.std.proofs.Common.{◌≡◌, ◌≢◌, ◌⊎◌, ◌<◌, ◌≤◌, ◌+◌, inl, inr, Option, Some, None, Result, Ok, Err, MatchOption, ℕ, Bool, true, false, List, [], ◌∷◌, zero, suc, slice_get, length, refl, sym, ap, subst, ◌∙◌, arith}
+use Rattle.std.proofs.Common.{◌≡◌, ◌≢◌, ◌⊎◌, ◌<◌, ◌≤◌, ◌+◌, inl, inr, Option, Some, None, Result, Ok, Err, MatchOption, ℕ, Bool, true, false, not, List, [], ◌∷◌, zero, suc, slice_get, length, refl, sym, ap, subst, ◌∙◌, arith}
+use mathlib.Core.Bool.{beq}
 use Rattle.std.proofs.Math.Nat.{eq-or-lt_of_le}
+use Rattle.std.proofs.lemmas.Bool.{true≢false, false≢true}
 use Rattle.std.proofs.lemmas.Option.{none-some, same_Some, slice_get_within}
 use Rattle.claims.specs.Due.{WorksFrom}
 use Rattle.coordinator.specs.Coordinator.{has_acked}
 use Rattle.dataflow_model.specs.Graph.{Channel}
+use Rattle.engine.specs.Readers.{came_in}
 use Rattle.job_graph.specs.Expanded.{Expanded, IsExpanded, inputs_of, meets, is_marked, is_source}
 use Rattle.job_graph.specs.declared.role.Role.{Role}
 use Rattle.job_graph.specs.declared.role.Role.TheVariants as role
@@ -53,6 +56,19 @@ module _ {R K S : Type 0} where
   pub record AcksBefore (graph : Expanded) (h : Held R K S) (tasks : ℕ) : Type 0 where
     pub ended : HaveEnded graph h
     pub acked : HaveAckedBefore graph h tasks
+
+-- marks that differ, and marks that do not
+pub differ : (a b : Bool) → not (beq a b) ≡ true → a ≢ b
+differ true true e same = false≢true e
+differ false false e same = false≢true e
+differ true false e same = false≢true (sym same)
+differ false true e same = false≢true same
+
+pub agree : (a b : Bool) → not (beq a b) ≡ false → a ≡ b
+agree true true e = refl
+agree false false e = refl
+agree true false e = absurd (true≢false e)
+agree false true e = absurd (true≢false e)
 
 -- a task below the number of tasks is there
 no_task : (tasks : List Role) (task : ℕ) → task < length tasks → slice_get tasks task ≡ None → ⊥
@@ -144,6 +160,10 @@ module _ {R K S O : Type 0} (lang : Language R K S O) (RecordFits : R → Type 0
             let leads : slice_get (inputs_of s.graph task) input.0 ≡ Some number = subst (λ (t : ℕ). slice_get (inputs_of s.graph t) input.0 ≡ Some number) to input.2 in
             let within : input.0 < length (inputs_of s.graph task) = slice_get_within (inputs_of s.graph task) input.0 number leads in
             a.come input.0 (omega (arith, within, all)) number leads (marked_as s.graph number channel at ∙ mark))
+
+    -- whether its barrier came
+    pub came_holds : (s : State O R K S) (number : ℕ) (b : Bool) → Holds s (λ g h. IsPending h × HaveSendersCopied g h marked task) → came_in s.held number ≡ b → Holds s (λ g h. came_at h number ≡ b)
+    came_holds s number b p e = holds_map s Sent (λ g h. came_at h number ≡ b) p (λ h is a. sym (ap (λ (o : Option (Held R K S)). came_in o number) is) ∙ e)
 
     -- one input: its barrier is awaited, came already, or it is not marked so, or there is none
     pub input_awaited : (s : State O R K S) (input number : ℕ) → WorksFrom s.graph task input number → meets is_marked s.graph.channels number ≡ marked → Holds s (λ g h. IsPending h × HaveSendersCopied g h marked task)

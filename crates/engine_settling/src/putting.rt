@@ -84,7 +84,9 @@ fn commit_task<O: Operator, S: SnapshotStore, X: Transactions, P: Partitions<Rec
     engine.is_fresh();
     match engine.graph().role(task) {
         Some(Role::Sink(subtask)) => engine.commit(subtask),
-        _ => Ok(()),
+        Some(Role::Operator(_)) => Ok(()),
+        Some(Role::Source(_)) => Ok(()),
+        None => Ok(()),
     }
 }
 
