@@ -16,30 +16,30 @@ loop-place-init g c = record {
   faults = refl;
 }
 
-pub task_at-requires : goal.task_at-requires
-task_at-requires g c =
+pub task_at-task-requires : goal.task_at-task-requires
+task_at-task-requires g c =
     let b = c.loop-place.invariant.brings in
     let same = graph_same (language g.O.Operator.meaning g.O.Key.Ord.cmp g.O.Record.Codec.spelling g.O.Record.Codec.reading g.O.Key.Codec.reading g.O.State.Codec.reading) (Fits g.O.Record.Codec.HasSpelling g.O.Record.Codec.spelling) b.moves c.args.engine.now c.loop-place.engine b.works in
     let expanded : IsExpanded c.args.engine.now.graph = rw c.graph.ensures at c.tasks-place-end.ensures.expanded in
     omega (arith, order_length c.args.engine.now.graph expanded, ap (λ (x : Expanded). length x.order) same, ap (λ (x : Expanded). length x.order) c.graph-in-loop-place.ensures, c.loop-place-test.true, c.tasks-place-end.ensures.count, ap (λ (x : Expanded). length x.tasks) c.graph.ensures)
 
-pub take_inputs-requires-clause-sent : goal.take_inputs-requires-clause-sent
-take_inputs-requires-clause-sent g c =
+pub take_inputs-requires : goal.take_inputs-requires
+take_inputs-requires g c =
     let b = c.loop-place.invariant.brings in
     let same = graph_same (language g.O.Operator.meaning g.O.Key.Ord.cmp g.O.Record.Codec.spelling g.O.Record.Codec.reading g.O.Key.Codec.reading g.O.State.Codec.reading) (Fits g.O.Record.Codec.HasSpelling g.O.Record.Codec.spelling) b.moves c.args.engine.now c.loop-place.engine b.works in
     let expanded : IsExpanded c.args.engine.now.graph = rw c.graph.ensures at c.tasks-place-end.ensures.expanded in
-    copies_sent (language g.O.Operator.meaning g.O.Key.Ord.cmp g.O.Record.Codec.spelling g.O.Record.Codec.reading g.O.Key.Codec.reading g.O.State.Codec.reading) (Fits g.O.Record.Codec.HasSpelling g.O.Record.Codec.spelling) (IsGoodState (Fits g.O.State.Codec.HasSpelling g.O.State.Codec.spelling) g.O.Operator.Suits) c.loop-place.engine c.loop-place.place c.task_at.result (subst IsExpanded (sym same) expanded) (ap (λ (x : Expanded). slice_get x.order c.loop-place.place) (sym c.graph-in-loop-place.ensures) ∙ c.task_at.ensures) c.loop-place.invariant.so_far
+    record { sent = copies_sent (language g.O.Operator.meaning g.O.Key.Ord.cmp g.O.Record.Codec.spelling g.O.Record.Codec.reading g.O.Key.Codec.reading g.O.State.Codec.reading) (Fits g.O.Record.Codec.HasSpelling g.O.Record.Codec.spelling) (IsGoodState (Fits g.O.State.Codec.HasSpelling g.O.State.Codec.spelling) g.O.Operator.Suits) c.loop-place.engine c.loop-place.place c.task_at-task.result (subst IsExpanded (sym same) expanded) (ap (λ (x : Expanded). slice_get x.order c.loop-place.place) (sym c.graph-in-loop-place.ensures) ∙ c.task_at-task.ensures) c.loop-place.invariant.so_far }
 
 pub returns-in-Err-clause-ends : goal.returns-in-Err-clause-ends
 returns-in-Err-clause-ends g c =
-    part_early (language g.O.Operator.meaning g.O.Key.Ord.cmp g.O.Record.Codec.spelling g.O.Record.Codec.reading g.O.Key.Codec.reading g.O.State.Codec.reading) (Fits g.O.Record.Codec.HasSpelling g.O.Record.Codec.spelling) c.args.engine.now c.loop-place.engine c.take_inputs.new.engine (λ graph h. HaveCome graph h false c.task_at.result) HaveCopied c.in-Err.fault c.loop-place.invariant.brings c.in-Err.ensures.ends
+    part_early (language g.O.Operator.meaning g.O.Key.Ord.cmp g.O.Record.Codec.spelling g.O.Record.Codec.reading g.O.Key.Codec.reading g.O.State.Codec.reading) (Fits g.O.Record.Codec.HasSpelling g.O.Record.Codec.spelling) c.args.engine.now c.loop-place.engine c.take_inputs.new.engine (λ graph h. HaveCome graph h false c.task_at-task.result) HaveCopied c.in-Err.fault c.loop-place.invariant.brings c.in-Err.ensures.ends
 
 pub loop-place-preserved : goal.loop-place-preserved
 loop-place-preserved g c =
     let one = c.in-Ok.ensures.ends in
     let graphs = graph_same (language g.O.Operator.meaning g.O.Key.Ord.cmp g.O.Record.Codec.spelling g.O.Record.Codec.reading g.O.Key.Codec.reading g.O.State.Codec.reading) (Fits g.O.Record.Codec.HasSpelling g.O.Record.Codec.spelling) one.0.moves c.loop-place.engine c.take_inputs.new.engine one.0.works in record {
       brings = brings_both (language g.O.Operator.meaning g.O.Key.Ord.cmp g.O.Record.Codec.spelling g.O.Record.Codec.reading g.O.Key.Codec.reading g.O.State.Codec.reading) (Fits g.O.Record.Codec.HasSpelling g.O.Record.Codec.spelling) c.args.engine.now c.loop-place.engine c.take_inputs.new.engine c.loop-place.invariant.brings one.0;
-      so_far = copies_more (language g.O.Operator.meaning g.O.Key.Ord.cmp g.O.Record.Codec.spelling g.O.Record.Codec.reading g.O.Key.Codec.reading g.O.State.Codec.reading) (Fits g.O.Record.Codec.HasSpelling g.O.Record.Codec.spelling) (IsGoodState (Fits g.O.State.Codec.HasSpelling g.O.State.Codec.spelling) g.O.Operator.Suits) c.loop-place.engine c.take_inputs.new.engine c.loop-place.place c.task_at.result one.0 c.is_fresh.ensures.kept (ap (λ (x : Expanded). slice_get x.order c.loop-place.place) (graphs ∙ sym c.graph-in-loop-place.ensures) ∙ c.task_at.ensures) c.loop-place.invariant.so_far one.1;
+      so_far = copies_more (language g.O.Operator.meaning g.O.Key.Ord.cmp g.O.Record.Codec.spelling g.O.Record.Codec.reading g.O.Key.Codec.reading g.O.State.Codec.reading) (Fits g.O.Record.Codec.HasSpelling g.O.Record.Codec.spelling) (IsGoodState (Fits g.O.State.Codec.HasSpelling g.O.State.Codec.spelling) g.O.Operator.Suits) c.loop-place.engine c.take_inputs.new.engine c.loop-place.place c.task_at-task.result one.0 c.is_fresh.ensures.kept (ap (λ (x : Expanded). slice_get x.order c.loop-place.place) (graphs ∙ sym c.graph-in-loop-place.ensures) ∙ c.task_at-task.ensures) c.loop-place.invariant.so_far one.1;
       faults = c.in-Ok.ensures.counted ∙ c.loop-place.invariant.faults;
     }
 
