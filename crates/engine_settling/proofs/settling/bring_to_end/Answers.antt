@@ -4,12 +4,11 @@ use Rattle.engine_settling.specs.Advancing.{IsPending, HaveSourcesCopied, HaveCo
 use Rattle.engine_settling.proofs.Bringing.{brings_both, part_on, part_early}
 use Rattle.engine_settling.proofs.Looping.{pending_all, sources_ready, copies_ready, ended_of}
 use Rattle.engine_settling.proofs.settling.bring_to_end.Goals as goal
-pub copy_tasks-requires-clause-sources : goal.copy_tasks-requires-clause-sources
-copy_tasks-requires-clause-sources g c = sources_ready (language g.O.Operator.meaning g.O.Key.Ord.cmp g.O.Record.Codec.spelling g.O.Record.Codec.reading g.O.Key.Codec.reading g.O.State.Codec.reading) (Fits g.O.Record.Codec.HasSpelling g.O.Record.Codec.spelling) c.args.engine.now c.inject_sources.new.engine c.in-Ok.ensures.ends.0 c.requires.pending c.in-Ok.ensures.ends.1
+pub copy_tasks-requires : goal.copy_tasks-requires
+copy_tasks-requires g c = record { sources = sources_ready (language g.O.Operator.meaning g.O.Key.Ord.cmp g.O.Record.Codec.spelling g.O.Record.Codec.reading g.O.Key.Codec.reading g.O.State.Codec.reading) (Fits g.O.Record.Codec.HasSpelling g.O.Record.Codec.spelling) c.args.engine.now c.inject_sources.new.engine c.in-Ok.ensures.ends.0 c.requires.pending c.in-Ok.ensures.ends.1 }
 
-pub close_logs-requires-clause-copied : goal.close_logs-requires-clause-copied
-close_logs-requires-clause-copied g c =
-    copies_ready (language g.O.Operator.meaning g.O.Key.Ord.cmp g.O.Record.Codec.spelling g.O.Record.Codec.reading g.O.Key.Codec.reading g.O.State.Codec.reading) (Fits g.O.Record.Codec.HasSpelling g.O.Record.Codec.spelling) c.args.engine.now c.copy_tasks.new.engine (brings_both (language g.O.Operator.meaning g.O.Key.Ord.cmp g.O.Record.Codec.spelling g.O.Record.Codec.reading g.O.Key.Codec.reading g.O.State.Codec.reading) (Fits g.O.Record.Codec.HasSpelling g.O.Record.Codec.spelling) c.args.engine.now c.inject_sources.new.engine c.copy_tasks.new.engine c.in-Ok.ensures.ends.0 c.in-Ok-copy_tasks.ensures.ends.0) c.requires.pending c.in-Ok-copy_tasks.ensures.ends.1
+pub close_logs-requires : goal.close_logs-requires
+close_logs-requires g c = record { copied = copies_ready (language g.O.Operator.meaning g.O.Key.Ord.cmp g.O.Record.Codec.spelling g.O.Record.Codec.reading g.O.Key.Codec.reading g.O.State.Codec.reading) (Fits g.O.Record.Codec.HasSpelling g.O.Record.Codec.spelling) c.args.engine.now c.copy_tasks.new.engine (brings_both (language g.O.Operator.meaning g.O.Key.Ord.cmp g.O.Record.Codec.spelling g.O.Record.Codec.reading g.O.Key.Codec.reading g.O.State.Codec.reading) (Fits g.O.Record.Codec.HasSpelling g.O.Record.Codec.spelling) c.args.engine.now c.inject_sources.new.engine c.copy_tasks.new.engine c.in-Ok.ensures.ends.0 c.in-Ok-copy_tasks.ensures.ends.0) c.requires.pending c.in-Ok-copy_tasks.ensures.ends.1 }
 
 pub returns-in-Err-clause-ends : goal.returns-in-Err-clause-ends
 returns-in-Err-clause-ends g c = part_early (language g.O.Operator.meaning g.O.Key.Ord.cmp g.O.Record.Codec.spelling g.O.Record.Codec.reading g.O.Key.Codec.reading g.O.State.Codec.reading) (Fits g.O.Record.Codec.HasSpelling g.O.Record.Codec.spelling) c.args.engine.now c.args.engine.now c.inject_sources.new.engine HaveSourcesCopied HaveEnded c.in-Err.fault (pending_all (language g.O.Operator.meaning g.O.Key.Ord.cmp g.O.Record.Codec.spelling g.O.Record.Codec.reading g.O.Key.Codec.reading g.O.State.Codec.reading) (Fits g.O.Record.Codec.HasSpelling g.O.Record.Codec.spelling) c.args.engine.now c.requires.pending) c.in-Err.ensures.ends
