@@ -12,7 +12,7 @@ use Rattle.core_model.specs.declared.fault.CoreFault.TheVariants.{NotReady, Memo
 use Rattle.core_plain.specs.Plain.{Stays}
 use Rattle.engine.specs.Running.{IsCounted, WhileRunning}
 use Rattle.engine_rounds.specs.Works.{Works}
-use Rattle.engine_rounds.proofs.Many.{IsLike, ran, like, stays_down, moves_none, works_none, works_both}
+use Rattle.engine_rounds.proofs.Many.{IsLike, like, stays_down, moves_none, works_none, works_both}
 use Rattle.engine_rounds.proofs.Turning.{Calls, works_of}
 use Rattle.engine_settling.specs.Advancing.{Advances}
 use Rattle.engine_settling.specs.Bringing.{done_as, Holds, Brings, WentDown, EndsPart}

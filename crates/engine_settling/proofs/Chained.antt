@@ -1,12 +1,11 @@
 -- The parts of settling and draining, one after another.
-use Rattle.std.proofs.Common.{true, ◌≡◌, ◌≢◌, ◌⊎◌, ◌<◌, ◌≤◌, ◌+◌, ◌^◌, inl, inr, Option, Some, None, Result, Ok, Err, MatchOption, ℕ, List, [], ◌∷◌, ◌++◌, slice_get, length, refl, sym, ap, subst, ◌∙◌, arith}
+use Rattle.std.proofs.Common.{◌≡◌, ◌≢◌, ◌⊎◌, ◌<◌, ◌≤◌, ◌+◌, ◌^◌, inl, inr, Option, Some, None, Result, Ok, Err, ℕ, List, [], ◌++◌, slice_get, length, refl, sym, ap, subst, ◌∙◌, arith}
 use Rattle.std.proofs.Math.Nat.{eq-or-lt_of_le}
 use Rattle.std.proofs.lemmas.Bool.Decides.{eqb_tells}
 use Rattle.std.proofs.lemmas.Option.{none-some, same_Some, MatchOption-at_some, slice_get_within}
 use Rattle.claims.specs.Due.{WorksFrom}
-use Rattle.commit_sink.specs.Ledger.{Ledger}
 use Rattle.dataflow_model.specs.Machine.{Move}
-use Rattle.job_graph.specs.Expanded.{Expanded, IsReceiver, inputs_of}
+use Rattle.job_graph.specs.Expanded.{Expanded}
 use Rattle.job_graph.specs.declared.role.Role.{Role}
 use Rattle.job_graph.specs.declared.role.Role.TheVariants as role
 use Rattle.job_state.specs.Held.{Held}
@@ -15,9 +14,9 @@ use Rattle.snapshot_store.specs.Store.{Stored, IsNumbered, is_complete}
 use Rattle.source_log.specs.Partitions.{records_at}
 use Rattle.core_model.specs.Calls.{EndsTrigger, IsBlocked, NoRecord, left_by, tidied}
 use Rattle.core_model.specs.Commits.{EndsCommit}
-use Rattle.core_model.specs.Keeps.{Keeps, Shape}
+use Rattle.core_model.specs.Keeps.{Keeps}
 use Rattle.core_model.specs.Language.{Language}
-use Rattle.core_model.specs.LastCommitted.{committed_of, complete_numbers, last_committed}
+use Rattle.core_model.specs.LastCommitted.{committed_of, complete_numbers}
 use Rattle.core_model.specs.Sound.{IsSound}
 use Rattle.core_model.specs.State.{State}
 use Rattle.core_model.specs.declared.fault.CoreFault.{CoreFault}
@@ -25,17 +24,16 @@ use Rattle.core_model.specs.declared.fault.CoreFault.TheVariants.{NotRunning, No
 use Rattle.core_plain.specs.Plain.{Stays}
 use Rattle.engine.specs.Readers.{pending_in}
 use Rattle.engine.specs.Running.{OnStore, OnTransactions}
-use Rattle.engine_rounds.specs.Idle.{IsIdle, IsIdleIn, AreIdle}
-use Rattle.engine_rounds.specs.Turns.{Made, EndsRounds}
-use Rattle.engine_rounds.specs.Works.{Works, CanMove}
+use Rattle.engine_rounds.specs.Idle.{IsIdle, AreIdle}
+use Rattle.engine_rounds.specs.Turns.{EndsRounds}
+use Rattle.engine_rounds.specs.Works.{Works}
 use Rattle.engine_rounds.specs.declared.ending.Drained.{Drained}
 use Rattle.engine_rounds.specs.declared.ending.Drained.TheVariants.{AtRest, TurnsSpent}
 use Rattle.engine_rounds.proofs.Many.{ran, works_none, works_both}
 use Rattle.engine_rounds.proofs.Turning.{Calls}
-use Rattle.engine_settling.specs.Advancing.{IsPending}
-use Rattle.engine_settling.specs.Bringing.{Holds, Brings, WentDown, EndsPart}
+use Rattle.engine_settling.specs.Bringing.{Brings, WentDown, EndsPart}
 use Rattle.engine_settling.specs.Resting.{IsStill, IsStillIn, CutRests}
-use Rattle.engine_settling.specs.Settled.{IsCompleted, IsCommitted, HaveCommittedBefore, HaveCommitted, MadeSome, EndsCompletion, Commits, EndsCommitAt, EndsCommits, EndsSettle, RestsIfStill, EndsStart, EndsAtRest, EndsDrain}
+use Rattle.engine_settling.specs.Settled.{IsCompleted, HaveCommittedBefore, HaveCommitted, MadeSome, EndsCompletion, Commits, EndsCommitAt, EndsCommits, EndsSettle, RestsIfStill, EndsStart, EndsAtRest, EndsDrain}
 use Rattle.engine_settling.proofs.Bringing.{holds_one, is_held, shape_at, works_stays}
 use Rattle.engine_settling.proofs.Committed.{committed_last}
 use Rattle.engine_settling.proofs.Ending.{cut_rests_in, commit_done, commit_fails, commit_reaches, commit_leaves}

@@ -1,37 +1,33 @@
 -- A checkpoint is completed, the sinks commit, and a job is at rest.
-use Rattle.std.proofs.Common.{◌≡◌, ◌≢◌, ◌⊎◌, ◌<◌, ◌≤◌, ◌+◌, ◌^◌, inl, inr, Option, Some, None, Result, Ok, Err, OnOk, MatchOption, ℕ, Bool, true, false, List, [], ◌∷◌, ◌++◌, slice_get, length, refl, sym, ap, subst, ◌∙◌, arith}
-use Rattle.std.proofs.Math.Nat.{eq-or-lt_of_le}
-use Rattle.std.proofs.lemmas.Option.{none-some, same_Some, MatchOption-at_some}
-use Rattle.commit_sink.specs.Ledger.{Ledger}
-use Rattle.coordinator.specs.Coordinator.{Coordination, IsReady, has_acked}
-use Rattle.dataflow_model.specs.Machine.{Move}
+use Rattle.std.proofs.Common.{◌≡◌, ◌≢◌, Option, Some, None, Result, Ok, Err, MatchOption, ℕ, List, [], slice_get, length, refl, sym, ap, subst, ◌∙◌, arith}
+use Rattle.std.proofs.lemmas.Option.{MatchOption-at_some}
+use Rattle.coordinator.specs.Coordinator.{Coordination}
 use Rattle.job_graph.specs.Expanded.{Expanded}
-use Rattle.job_graph.specs.declared.role.Role.{Role}
 use Rattle.job_graph.specs.declared.role.Role.TheVariants as role
 use Rattle.job_state.specs.Held.{Held}
-use Rattle.snapshot_store.specs.Store.{Stored, is_complete}
-use Rattle.core_model.specs.Calls.{EndsComplete, EndsTrigger, left_by}
+use Rattle.snapshot_store.specs.Store.{Stored}
+use Rattle.core_model.specs.Calls.{EndsComplete, left_by}
 use Rattle.core_model.specs.Commits.{EndsCommit}
 use Rattle.core_model.specs.CompleteCut.{HasTheCut}
-use Rattle.core_model.specs.Keeps.{Keeps, Shape}
+use Rattle.core_model.specs.Keeps.{Keeps}
 use Rattle.core_model.specs.Language.{Language}
-use Rattle.core_model.specs.LastCommitted.{committed_of, complete_numbers, last_committed}
+use Rattle.core_model.specs.LastCommitted.{committed_of, complete_numbers}
 use Rattle.core_model.specs.Sound.{IsSound}
 use Rattle.core_model.specs.State.{State}
 use Rattle.core_model.specs.declared.fault.CoreFault.{CoreFault}
-use Rattle.core_model.specs.declared.fault.CoreFault.TheVariants.{NotRunning, NoSuchTask, NoCheckpoint, NotAllAcked, CheckpointPending, Memory, Device, CommitFault, NumbersSpent}
+use Rattle.core_model.specs.declared.fault.CoreFault.TheVariants.{NoSuchTask, NoCheckpoint, NotAllAcked, Device, CommitFault}
 use Rattle.core_plain.specs.Plain.{Stays}
 use Rattle.engine.specs.Readers.{pending_in}
 use Rattle.engine.specs.Running.{OnStore, OnTransactions}
 use Rattle.engine_rounds.specs.Works.{Works}
-use Rattle.engine_rounds.proofs.Many.{ran, works_none, works_both}
+use Rattle.engine_rounds.proofs.Many.{ran}
 use Rattle.engine_rounds.proofs.Turning.{Calls}
 use Rattle.engine_settling.specs.Advancing.{HaveEnded, HaveAcked}
-use Rattle.engine_settling.specs.Bringing.{Holds, Brings, WentDown}
-use Rattle.engine_settling.specs.Resting.{IsStill, IsStillIn, CutRests}
-use Rattle.engine_settling.specs.Settled.{IsCompleted, IsCommitted, HaveCommittedBefore, HaveCommitted, MadeSome, EndsCompletion, Commits, EndsCommits}
+use Rattle.engine_settling.specs.Bringing.{Holds}
+use Rattle.engine_settling.specs.Resting.{IsStill, CutRests}
+use Rattle.engine_settling.specs.Settled.{EndsCompletion, Commits, EndsCommits}
 use Rattle.engine_settling.proofs.Bringing.{holds_at, is_held, shape_at, runs_at, works_stays}
-use Rattle.engine_settling.proofs.Committed.{committed_last, completed_runs, commits_apart, commits_reach_sound}
+use Rattle.engine_settling.proofs.Committed.{completed_runs, commits_apart, commits_reach_sound}
 use Rattle.engine_settling.proofs.Leading.{ready}
 use Rattle.engine_settling.proofs.Steps.{commit_coordination}
 use Rattle.engine_settling.proofs.Still.{cut_at_rest}
@@ -88,7 +84,7 @@ module _ {R K S O : Type 0} (lang : Language R K S O) (RecordFits : R → Type 0
           ([], (completes (Ok n) e, is_held new a.k is)),
           record { complete = done.0; last = done.1; none_pending = ap pending_in is ∙ done.2 },
           λ still. cut_rests_in lang (record old { stored = new.stored }) new n (ap (λ (s : State O R K S). s.graph) a.is) (ap (λ (s : State O R K S). s.operators) a.is) (ap (λ (s : State O R K S). s.partitions) a.is) refl
-          (cut_at_rest lang RecordFits IsGood old a.h shape (MatchOption-at_some ⊥ (λ h. IsStill old.graph old.partitions h) a.h a.was still) new.stored n (MatchOption-at_some ⊥ (λ h. HasTheCut lang old h new.stored n) a.h a.was cut)),
+              (cut_at_rest lang RecordFits IsGood old a.h shape (MatchOption-at_some ⊥ (λ h. IsStill old.graph old.partitions h) a.h a.was still) new.stored n (MatchOption-at_some ⊥ (λ h. HasTheCut lang old h new.stored n) a.h a.was cut)),
         )
 
     pub complete_fails : (f : CoreFault) → OnStore old new Completing (Err f) → EndsCompletion lang RecordFits old new (Err f)

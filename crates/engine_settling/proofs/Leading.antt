@@ -1,5 +1,5 @@
 -- The records that stand before the barrier in a queue, and when a checkpoint can be completed.
-use Rattle.std.proofs.Common.{◌≡◌, ◌≢◌, ◌<◌, ◌+◌, ◌&&◌, ◌++◌, Option, Some, None, IsTrue, is_some, slice_get, slice_index_or, length, drop, ℕ, Bool, true, false, List, [], ◌∷◌, refl, arith}
+use Rattle.std.proofs.Common.{◌≡◌, ◌≢◌, ◌<◌, ◌&&◌, ◌++◌, Option, Some, None, IsTrue, is_some, slice_get, slice_index_or, length, drop, ℕ, Bool, true, false, List, [], ◌∷◌, refl, arith}
 use Rattle.std.proofs.lemmas.Bool.{false≢true}
 use Rattle.std.proofs.lemmas.List.Elements.{All-from_get_or}
 use Rattle.std.proofs.lemmas.Option.{none-some}

@@ -1,5 +1,5 @@
 -- How far the loops of settling are.
-use Rattle.std.proofs.Common.{◌≡◌, ◌≢◌, ◌⊎◌, ◌<◌, ◌≤◌, ◌+◌, inl, inr, Option, Some, None, Result, Ok, Err, MatchOption, ℕ, Bool, true, false, not, List, [], ◌∷◌, zero, suc, slice_get, length, refl, sym, ap, subst, ◌∙◌, arith}
+use Rattle.std.proofs.Common.{◌≡◌, ◌≢◌, ◌<◌, ◌≤◌, ◌+◌, inl, inr, Option, Some, None, ℕ, Bool, true, false, not, List, [], ◌∷◌, zero, suc, slice_get, length, refl, sym, ap, subst, ◌∙◌, arith}
 use mathlib.Core.Bool.{beq}
 use Rattle.std.proofs.Math.Nat.{eq-or-lt_of_le}
 use Rattle.std.proofs.lemmas.Bool.{true≢false, false≢true}
@@ -12,14 +12,14 @@ use Rattle.job_graph.specs.Expanded.{Expanded, IsExpanded, inputs_of, meets, is_
 use Rattle.job_graph.specs.declared.role.Role.{Role}
 use Rattle.job_graph.specs.declared.role.Role.TheVariants as role
 use Rattle.job_state.specs.Held.{Held, copy_at, came_at}
-use Rattle.core_model.specs.Keeps.{Keeps, Shape}
+use Rattle.core_model.specs.Keeps.{Keeps}
 use Rattle.core_model.specs.Language.{Language}
 use Rattle.core_model.specs.State.{State}
 use Rattle.engine_settling.specs.Advancing.{Advances, IsPending, HaveSourcesCopied, HaveCopiedBefore, HaveCopied, HaveSendersCopied, HaveCome, HaveComeBefore, HaveAllCome, HaveAckedBefore, HaveAcked, HaveEnded}
 use Rattle.engine_settling.specs.Awaiting.{IsAwaited, HasCome}
 use Rattle.engine_settling.specs.Bringing.{Holds, Brings}
-use Rattle.engine_settling.proofs.Bringing.{holds_at, holds_map, holds_two, holds_kept, holds_running, brings_none, brings_both, shape_at}
-use Rattle.engine_settling.proofs.Gating.{channel_input, input_channel, copied_by, receiver_of, marked_as}
+use Rattle.engine_settling.proofs.Bringing.{holds_map, holds_two, holds_kept, holds_running, brings_none, brings_both, shape_at}
+use Rattle.engine_settling.proofs.Gating.{channel_input, input_channel, copied_by, marked_as}
 use Rattle.engine_settling.proofs.Ordering.{order_length, order_within, senders_copied, copied_more, copied_all, come_more, come_all, senders_of_all, copied_kept, come_before_kept}
 
 pending_kept : {R K S : Type 0} (h k : Held R K S) → Advances h k → IsPending h → IsPending k
@@ -156,10 +156,10 @@ module _ {R K S O : Type 0} (lang : Language R K S O) (RecordFits : R → Type 0
     inputs_all s n all p =
         holds_map s (Inputs n) (λ g h. HaveCome g h marked task) p
         (λ h is a number channel at to mark.
-            let input = channel_input s.graph number channel at in
-            let leads : slice_get (inputs_of s.graph task) input.0 ≡ Some number = subst (λ (t : ℕ). slice_get (inputs_of s.graph t) input.0 ≡ Some number) to input.2 in
-            let within : input.0 < length (inputs_of s.graph task) = slice_get_within (inputs_of s.graph task) input.0 number leads in
-            a.come input.0 (omega (arith, within, all)) number leads (marked_as s.graph number channel at ∙ mark))
+        let input = channel_input s.graph number channel at in
+        let leads : slice_get (inputs_of s.graph task) input.0 ≡ Some number = subst (λ (t : ℕ). slice_get (inputs_of s.graph t) input.0 ≡ Some number) to input.2 in
+        let within : input.0 < length (inputs_of s.graph task) = slice_get_within (inputs_of s.graph task) input.0 number leads in
+        a.come input.0 (omega (arith, within, all)) number leads (marked_as s.graph number channel at ∙ mark))
 
     -- whether its barrier came
     pub came_holds : (s : State O R K S) (number : ℕ) (b : Bool) → Holds s (λ g h. IsPending h × HaveSendersCopied g h marked task) → came_in s.held number ≡ b → Holds s (λ g h. came_at h number ≡ b)
@@ -286,7 +286,7 @@ module _ {R K S O : Type 0} (lang : Language R K S O) (RecordFits : R → Type 0
     logs_all s place keeps all p =
         holds_map s (Logs place) HaveAllCome p
         (λ h is a. come_all lang.cmp RecordFits IsGood s.graph s.operators h keeps.expanded (shape_at lang RecordFits IsGood s h is keeps) a.copied
-            (λ before task below at. a.come before task (omega (arith, below, all, order_length s.graph keeps.expanded)) at))
+        (λ before task below at. a.come before task (omega (arith, below, all, order_length s.graph keeps.expanded)) at))
 
   -- ---- the parts
 

@@ -1,44 +1,37 @@
 -- Each call as a part of settling.
-use Rattle.std.proofs.Common.{◌≡◌, ◌≢◌, ◌⊎◌, ◌<◌, inl, inr, Option, Some, None, Result, Ok, Err, MatchOption, ℕ, Bool, true, false, List, [], ◌∷◌, ◌++◌, drop, IsSome, zero, suc, slice_get, length, refl, sym, ap, subst, ◌∙◌, arith}
+use Rattle.std.proofs.Common.{◌≡◌, ◌≢◌, ◌⊎◌, ◌<◌, inl, inr, Option, Some, None, Result, Ok, Err, MatchOption, ℕ, true, List, [], ◌∷◌, IsSome, zero, suc, slice_get, length, refl, sym, ap, subst, arith}
 use Rattle.std.proofs.lemmas.Option.{none-some, same_Some, MatchOption-at_some}
 use Rattle.alignment.specs.declared.input.Effect.{Effect}
-use Rattle.alignment.specs.declared.input.Phase.TheVariants.{AtRest}
-use Rattle.channels.specs.declared.item.Item.TheVariants.{Record, Barrier}
 use Rattle.claims.specs.Carried.{given_of}
-use Rattle.claims.specs.Due.{IsWorker, WorksFrom, IsDue, EndsOffer, EndsAccept}
+use Rattle.claims.specs.Due.{IsWorker, WorksFrom, IsDue, EndsAccept}
 use Rattle.claims.specs.Tasks.{TakesAs, EndsBarrier}
-use Rattle.claims.specs.declared.parts.Given.{Given}
 use Rattle.claims.specs.declared.parts.Made.{Made}
 use Rattle.claims.specs.declared.parts.Made.TheVariants as made
 use Rattle.commit_sink.specs.Ledger.{Ledger}
 use Rattle.coordinator.specs.Coordinator.{has_acked}
-use Rattle.dataflow_model.specs.Graph.{Channel}
-use Rattle.dataflow_model.specs.Machine.{Move, Work}
-use Rattle.job_graph.specs.Expanded.{Expanded, inputs_of}
+use Rattle.dataflow_model.specs.Machine.{Move}
+use Rattle.job_graph.specs.Expanded.{Expanded}
 use Rattle.job_graph.specs.declared.role.Role.{Role}
 use Rattle.job_graph.specs.declared.role.Role.TheVariants as role
-use Rattle.job_state.specs.Held.{Held, copy_at, came_at, gate_at}
-use Rattle.job_state.specs.Sending.{items_at}
+use Rattle.job_state.specs.Held.{Held, copy_at, came_at}
 use Rattle.task_part.specs.declared.part.Part.{Part}
-use Rattle.core_model.specs.Calls.{EndsInject, EndsPersist, EndsOperatorBarrier, EndsSinkBarrier, IsSource, IsBlocked, IsBarrierNext, IsBarrierDue, NoRecord, input_at, left_by}
-use Rattle.core_model.specs.Keeps.{Keeps, Shape, barriers_in}
+use Rattle.core_model.specs.Calls.{EndsInject, EndsPersist, EndsOperatorBarrier, EndsSinkBarrier, IsSource, IsBarrierDue, NoRecord, input_at, left_by}
+use Rattle.core_model.specs.Keeps.{Keeps}
 use Rattle.core_model.specs.Language.{Language}
 use Rattle.core_model.specs.State.{State}
 use Rattle.core_model.specs.declared.fault.CoreFault.{CoreFault}
-use Rattle.core_model.specs.declared.fault.CoreFault.TheVariants.{NotRunning, NoSuchTask, NotReady, ChannelBlocked, NoCheckpoint, WrongResult, Memory, Device}
-use Rattle.core_plain.specs.Plain.{Stays, StepsIfOk}
-use Rattle.engine.specs.Readers.{HasHead}
+use Rattle.core_model.specs.declared.fault.CoreFault.TheVariants.{NoSuchTask, NotReady, ChannelBlocked, NoCheckpoint, WrongResult, Memory, Device}
+use Rattle.core_plain.specs.Plain.{Stays}
 use Rattle.engine.specs.Running.{OnAttempt, OnStore, OnTransactions}
 use Rattle.engine_rounds.specs.Works.{Works}
 use Rattle.engine_rounds.proofs.Many.{ran}
 use Rattle.engine_rounds.proofs.Turning.{Calls}
 use Rattle.engine_settling.specs.Advancing.{Advances, IsPending, HaveEnded}
-use Rattle.engine_settling.specs.Awaiting.{IsAwaited, leading, leading_in}
-use Rattle.engine_settling.specs.Bringing.{done_as, Holds, Brings, WentDown, EndsPart}
+use Rattle.engine_settling.specs.Awaiting.{IsAwaited}
+use Rattle.engine_settling.specs.Bringing.{done_as, Holds, Brings, EndsPart}
 use Rattle.engine_settling.specs.Resting.{IsStill}
-use Rattle.engine_settling.proofs.Bringing.{holds_one, holds_at, brings_same, shape_at, works_stays, is_held}
-use Rattle.engine_settling.proofs.Gating.{barrier_next, barrier_sent, input_channel, is_free, gate_rests}
-use Rattle.engine_settling.proofs.Leading.{leading_falls}
+use Rattle.engine_settling.proofs.Bringing.{holds_one, holds_at, shape_at, works_stays}
+use Rattle.engine_settling.proofs.Gating.{barrier_next, input_channel, gate_rests}
 use Rattle.engine_settling.proofs.Ordering.{advances_none}
 use Rattle.engine_settling.proofs.Steps.{inject_advances, inject_copies, inject_stays_still, barrier_advances, barrier_comes, barrier_stays_still, persist_advances, persist_acks, persist_stays_still, persist_done}
 
@@ -145,7 +138,7 @@ module _ {R K S O : Type 0} (lang : Language R K S O) (RecordFits : R → Type 0
         let is = ap (λ (s : State O R K S). s.held) a.is in
         let shape = shape_at lang RecordFits IsGood old a.h a.was keeps in (
           brings a.h a.k a.was is [] (injects (Ok u) e) (inject_advances lang RecordFits IsGood old.graph old.operators old.partitions a.h a.k keeps.expanded shape task a.ended)
-          (inject_stays_still lang RecordFits IsGood old.graph old.operators old.partitions a.h a.k keeps.expanded shape task a.ended),
+              (inject_stays_still lang RecordFits IsGood old.graph old.operators old.partitions a.h a.k keeps.expanded shape task a.ended),
           graph_held Copied [] a.k (injects (Ok u) e) is (inject_copies lang RecordFits IsGood old.graph old.operators old.partitions a.h a.k keeps.expanded shape task a.ended),
         )
     inject_part (Err NotReady) e =
@@ -190,7 +183,7 @@ module _ {R K S O : Type 0} (lang : Language R K S O) (RecordFits : R → Type 0
         let is = ap (λ (s : State O R K S). s.held) a.is in
         let shape = shape_at lang RecordFits IsGood old a.h a.was keeps in (
           brings a.h a.k a.was is [] (persists (Ok u) e) (persist_advances lang RecordFits IsGood old.graph old.operators old.partitions a.h a.k keeps.expanded shape task old.stored new.stored spelling a.ended)
-          (persist_stays_still lang RecordFits IsGood old.graph old.operators old.partitions a.h a.k keeps.expanded shape task old.stored new.stored spelling a.ended),
+              (persist_stays_still lang RecordFits IsGood old.graph old.operators old.partitions a.h a.k keeps.expanded shape task old.stored new.stored spelling a.ended),
           graph_held Acked [] a.k (persists (Ok u) e) is (persist_acks lang RecordFits IsGood old.graph old.operators old.partitions a.h a.k keeps.expanded shape task old.stored new.stored spelling a.ended),
         )
     persist_part (Err NotReady) e =
@@ -252,7 +245,7 @@ module _ {R K S O : Type 0} (lang : Language R K S O) (RecordFits : R → Type 0
           let shape = shape_at lang RecordFits IsGood old a.h a.was keeps in
           let leads = (awaited_at a.h a.was).works.1 in (
             brings a.h a.k a.was is [] (takes (Ok effect) e) (barrier_advances lang RecordFits IsGood old.graph old.operators old.partitions a.h a.k keeps.expanded shape task input channel leads old.ledger new.ledger effect a.ended)
-            (barrier_stays_still lang RecordFits IsGood old.graph old.operators old.partitions a.h a.k keeps.expanded shape task input channel leads old.ledger new.ledger effect a.ended),
+                (barrier_stays_still lang RecordFits IsGood old.graph old.operators old.partitions a.h a.k keeps.expanded shape task input channel leads old.ledger new.ledger effect a.ended),
             graph_held Come [] a.k (takes (Ok effect) e) is (barrier_comes lang RecordFits IsGood old.graph old.operators old.partitions a.h a.k keeps.expanded shape task input channel leads old.ledger new.ledger effect a.ended),
           )
 

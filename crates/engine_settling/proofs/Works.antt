@@ -1,20 +1,18 @@
 -- The record that stands first in an input is worked, as a part of settling.
-use Rattle.std.proofs.Common.{◌≡◌, ◌≢◌, ◌⊎◌, ◌<◌, inl, inr, Option, Some, None, Result, Ok, Err, IfOk, MatchOption, ℕ, Bool, true, false, List, [], ◌∷◌, ◌++◌, drop, IsTrue, slice_get, refl, sym, ap, subst, ◌∙◌}
+use Rattle.std.proofs.Common.{◌≡◌, ◌≢◌, ◌⊎◌, ◌<◌, inl, inr, Option, Some, None, Result, Ok, Err, IfOk, MatchOption, ℕ, false, List, [], ◌∷◌, IsTrue, refl, sym, ap, subst, ◌∙◌}
 use Rattle.std.proofs.lemmas.Bool.{false≢true}
-use Rattle.std.proofs.lemmas.Option.{none-some, same_Some, MatchOption-at_some}
+use Rattle.std.proofs.lemmas.Option.{same_Some, MatchOption-at_some}
 use Rattle.channels.specs.declared.item.Item.{Item}
-use Rattle.channels.specs.declared.item.Item.TheVariants.{Record}
 use Rattle.claims.specs.Carried.{given_of}
 use Rattle.claims.specs.Due.{WorksFrom, IsDue, EndsOffer, EndsAccept}
 use Rattle.claims.specs.declared.parts.Given.{Given}
 use Rattle.claims.specs.declared.parts.Made.{Made}
-use Rattle.dataflow_model.specs.Graph.{Channel}
-use Rattle.dataflow_model.specs.Machine.{Move, Work}
+use Rattle.dataflow_model.specs.Machine.{Work}
 use Rattle.job_graph.specs.Expanded.{Expanded}
-use Rattle.job_state.specs.Held.{Held, copy_at, came_at}
+use Rattle.job_state.specs.Held.{Held}
 use Rattle.job_state.specs.Sending.{items_at}
 use Rattle.core_model.specs.Calls.{IsBlocked, NoRecord, input_at, left_by}
-use Rattle.core_model.specs.Keeps.{Keeps, Shape}
+use Rattle.core_model.specs.Keeps.{Keeps}
 use Rattle.core_model.specs.Language.{Language}
 use Rattle.core_model.specs.State.{State}
 use Rattle.core_model.specs.declared.fault.CoreFault.{CoreFault}
@@ -22,20 +20,19 @@ use Rattle.core_model.specs.declared.fault.CoreFault.TheVariants.{NotRunning, No
 use Rattle.core_plain.specs.Plain.{Stays, StepsIfOk}
 use Rattle.engine.specs.Readers.{HasHead}
 use Rattle.engine.specs.Running.{OnTransactions}
-use Rattle.engine_rounds.specs.Works.{Works}
 use Rattle.engine_rounds.specs.Turns.{EndsWorkAt, turned_as}
 use Rattle.engine_rounds.proofs.Many.{ran}
-use Rattle.engine_rounds.proofs.Turning.{Calls, offered_due, accept_turns}
+use Rattle.engine_rounds.proofs.Turning.{Calls, accept_turns}
 use Rattle.engine_settling.specs.Advancing.{Advances, IsPending}
 use Rattle.engine_settling.specs.Awaiting.{IsAwaited, leading, leading_in}
-use Rattle.engine_settling.specs.Bringing.{Holds, Brings, WentDown, EndsPart}
+use Rattle.engine_settling.specs.Bringing.{Holds, EndsPart}
 use Rattle.engine_settling.specs.Resting.{IsStill}
 use Rattle.engine_settling.proofs.Bringing.{holds_one, holds_at, brings_same, shape_at}
 use Rattle.engine_settling.proofs.Gating.{barrier_sent, input_channel, is_free}
 use Rattle.engine_settling.proofs.Leading.{leading_falls}
 use Rattle.engine_settling.proofs.Ordering.{advances_none}
 use Rattle.engine_settling.proofs.Parts.{accept_refused}
-use Rattle.engine_settling.proofs.Steps.{work_advances, work_head, work_came, work_copies, work_not_still}
+use Rattle.engine_settling.proofs.Steps.{work_advances, work_head, work_came, work_not_still}
 
 -- where no record stands first in the channel of a running job
 pub no_head : {R K S : Type 0} (held : Option (Held R K S)) (channel : ℕ) → (MatchOption held ⊥ (λ h. HasHead h channel) → IsTrue false) → held ≢ None → MatchOption held ⊥ (λ h. NoRecord h channel)

@@ -1,5 +1,5 @@
 -- How settling and draining end.
-use Rattle.std.specs.Prelude.{◌≡◌, ◌≢◌, ◌≤◌, ◌<◌, ◌+◌, ◌^◌, ℕ, true, List, [], Some, None, Result, Ok, Err, MatchOption, length, slice_get}
+use Rattle.std.specs.Prelude.{◌≡◌, ◌≤◌, ◌<◌, ◌+◌, ◌^◌, ℕ, true, List, Some, None, Result, Ok, Err, length, slice_get}
 use Rattle.dataflow_model.specs.Machine.{Move}
 use Rattle.job_graph.specs.declared.role.Role.TheVariants as role
 use Rattle.snapshot_store.specs.Store.{is_complete}
@@ -11,7 +11,7 @@ use Rattle.core_model.specs.declared.fault.CoreFault.{CoreFault}
 use Rattle.core_model.specs.declared.fault.CoreFault.TheVariants.{NoCheckpoint, Memory, Device, CommitFault, NumbersSpent}
 use Rattle.engine.specs.Readers.{pending_in}
 use Rattle.engine_rounds.specs.Turns.{Made}
-use Rattle.engine_rounds.specs.Works.{Works, CanMove}
+use Rattle.engine_rounds.specs.Works.{CanMove}
 use Rattle.engine_rounds.specs.declared.ending.Drained.{Drained}
 use Rattle.engine_rounds.specs.declared.ending.Drained.TheVariants.{AtRest, TurnsSpent}
 use Rattle.engine_settling.specs.Bringing.{WentDown}

@@ -1,4 +1,4 @@
-use Rattle.std.proofs.Common.{◌≡◌, true, ap, arith, refl, length, sym, subst, slice_get, ◌∙◌, Some}
+use Rattle.std.proofs.Common.{true, ap, arith, refl, length, sym, subst, slice_get, ◌∙◌}
 use Rattle.abs_codec.specs.Spelling.{Fits}
 use Rattle.core_model.specs.Language.{language}
 use Rattle.operators.specs.Operator.{IsGoodState}

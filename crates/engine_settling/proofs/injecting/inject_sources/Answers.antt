@@ -1,9 +1,8 @@
-use Rattle.std.proofs.Common.{◌≡◌, ◌≢◌, None, Some, ap, arith, sym, ◌∙◌, length, slice_get, refl}
+use Rattle.std.proofs.Common.{◌≢◌, None, ap, arith, ◌∙◌, length, slice_get, refl}
 use Rattle.std.proofs.lemmas.Bool.{false≢true}
 use Rattle.abs_codec.specs.Spelling.{Fits}
 use Rattle.core_model.specs.Language.{language}
 use Rattle.job_graph.specs.Expanded.{Expanded}
-use Rattle.job_graph.specs.declared.role.Role.TheVariants as role
 use Rattle.job_state.specs.Held.{copy_at}
 use Rattle.engine_settling.specs.Advancing.{IsPending, HaveSourcesCopied}
 use Rattle.engine_settling.proofs.Bringing.{brings_none, brings_both, part_early, holds_running, graph_same}

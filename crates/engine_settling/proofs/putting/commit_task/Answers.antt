@@ -1,4 +1,4 @@
-use Rattle.std.proofs.Common.{◌≡◌, Some, None, ap, sym, slice_get, ◌∙◌}
+use Rattle.std.proofs.Common.{Some, None, ap, sym, slice_get, ◌∙◌}
 use Rattle.abs_codec.specs.Spelling.{Fits}
 use Rattle.core_model.specs.Language.{language}
 use Rattle.operators.specs.Operator.{IsGoodState}

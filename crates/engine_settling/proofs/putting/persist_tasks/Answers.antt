@@ -1,12 +1,13 @@
 use Rattle.abs_codec.specs.Spelling.{Fits}
 use Rattle.core_model.specs.Language.{language}
-use Rattle.std.proofs.Common.{◌≡◌, true, ap, arith, sym, ◌∙◌, length, refl}
+use Rattle.std.proofs.Common.{◌≡◌, true, ap, arith, ◌∙◌, length, refl}
 use Rattle.coordinator.specs.Coordinator.{has_acked}
 use Rattle.job_graph.specs.Expanded.{Expanded}
 use Rattle.engine_settling.proofs.Bringing.{brings_none, brings_both, part_early, holds_running, graph_same}
 use Rattle.engine_settling.proofs.Looping.{acks_start, acks_ended, acks_more, acks_all}
 use Rattle.engine_settling.specs.Advancing.{HaveEnded, HaveAcked}
 use Rattle.engine_settling.proofs.putting.persist_tasks.Goals as goal
+
 pub loop-task-init : goal.loop-task-init
 loop-task-init g c = record {
   brings = brings_none (language g.O.Operator.meaning g.O.Key.Ord.cmp g.O.Record.Codec.spelling g.O.Record.Codec.reading g.O.Key.Codec.reading g.O.State.Codec.reading) (Fits g.O.Record.Codec.HasSpelling g.O.Record.Codec.spelling) c.args.engine.now (holds_running c.args.engine.now HaveEnded c.requires.ended);

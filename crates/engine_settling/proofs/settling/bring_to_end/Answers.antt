@@ -1,9 +1,10 @@
 use Rattle.abs_codec.specs.Spelling.{Fits}
 use Rattle.core_model.specs.Language.{language}
-use Rattle.engine_settling.specs.Advancing.{IsPending, HaveSourcesCopied, HaveCopied, HaveAllCome, HaveEnded}
+use Rattle.engine_settling.specs.Advancing.{HaveSourcesCopied, HaveCopied, HaveAllCome, HaveEnded}
 use Rattle.engine_settling.proofs.Bringing.{brings_both, part_on, part_early}
 use Rattle.engine_settling.proofs.Looping.{pending_all, sources_ready, copies_ready, ended_of}
 use Rattle.engine_settling.proofs.settling.bring_to_end.Goals as goal
+
 pub copy_tasks-requires : goal.copy_tasks-requires
 copy_tasks-requires g c = record { sources = sources_ready (language g.O.Operator.meaning g.O.Key.Ord.cmp g.O.Record.Codec.spelling g.O.Record.Codec.reading g.O.Key.Codec.reading g.O.State.Codec.reading) (Fits g.O.Record.Codec.HasSpelling g.O.Record.Codec.spelling) c.args.engine.now c.inject_sources.new.engine c.in-Ok.ensures.ends.0 c.requires.pending c.in-Ok.ensures.ends.1 }
 

@@ -4,6 +4,7 @@ use Rattle.engine_settling.specs.Advancing.{HaveEnded, HaveAcked}
 use Rattle.engine_settling.proofs.Bringing.{part_on, part_early, holds_two}
 use Rattle.engine_settling.proofs.Looping.{pending_all, ended_all}
 use Rattle.engine_settling.proofs.settling.put_parts.Goals as goal
+
 pub returns-in-Err-clause-ends : goal.returns-in-Err-clause-ends
 returns-in-Err-clause-ends g c =
     part_early (language g.O.Operator.meaning g.O.Key.Ord.cmp g.O.Record.Codec.spelling g.O.Record.Codec.reading g.O.Key.Codec.reading g.O.State.Codec.reading) (Fits g.O.Record.Codec.HasSpelling g.O.Record.Codec.spelling) c.args.engine.now c.args.engine.now c.bring_to_end.new.engine HaveEnded (λ graph h. HaveEnded graph h × HaveAcked graph h) c.in-Err.fault (pending_all (language g.O.Operator.meaning g.O.Key.Ord.cmp g.O.Record.Codec.spelling g.O.Record.Codec.reading g.O.Key.Codec.reading g.O.State.Codec.reading) (Fits g.O.Record.Codec.HasSpelling g.O.Record.Codec.spelling) c.args.engine.now c.requires.pending) c.in-Err.ensures.ends

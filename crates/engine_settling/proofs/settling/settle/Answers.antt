@@ -4,6 +4,7 @@ use Rattle.operators.specs.Operator.{IsGoodState}
 use Rattle.engine_settling.specs.Advancing.{HaveEnded, HaveAcked}
 use Rattle.engine_settling.proofs.Chained.{settle_early, settle_uncompleted, settle_by, rests_by}
 use Rattle.engine_settling.proofs.settling.settle.Goals as goal
+
 pub returns-in-Err-clause-ends : goal.returns-in-Err-clause-ends
 returns-in-Err-clause-ends g c = settle_early (language g.O.Operator.meaning g.O.Key.Ord.cmp g.O.Record.Codec.spelling g.O.Record.Codec.reading g.O.Key.Codec.reading g.O.State.Codec.reading) (Fits g.O.Record.Codec.HasSpelling g.O.Record.Codec.spelling) c.args.engine.now c.put_parts.new.engine (λ graph h. HaveEnded graph h × HaveAcked graph h) c.in-Err.fault c.in-Err.ensures.ends
 

@@ -1,4 +1,4 @@
-use Rattle.std.proofs.Common.{◌≡◌, true, false, ap, refl, sym, subst, ◌∙◌}
+use Rattle.std.proofs.Common.{◌≡◌, true, false, ap, sym, subst, ◌∙◌}
 use Rattle.abs_codec.specs.Spelling.{Fits}
 use Rattle.claims.specs.Due.{WorksFrom}
 use Rattle.core_model.specs.Language.{language}
@@ -16,7 +16,7 @@ returns-in_default-clause-ends g c =
     let old = c.args.engine.now in (
       brings_none (language g.O.Operator.meaning g.O.Key.Ord.cmp g.O.Record.Codec.spelling g.O.Record.Codec.reading g.O.Key.Codec.reading g.O.State.Codec.reading) (Fits g.O.Record.Codec.HasSpelling g.O.Record.Codec.spelling) old (holds_running old (λ graph h. IsPending h × HaveSendersCopied graph h c.args.marked c.args.task) c.requires.sent),
       input_none (language g.O.Operator.meaning g.O.Key.Ord.cmp g.O.Record.Codec.spelling g.O.Record.Codec.reading g.O.Key.Codec.reading g.O.State.Codec.reading) (Fits g.O.Record.Codec.HasSpelling g.O.Record.Codec.spelling) c.args.marked c.args.task old c.args.input (λ number works. c.in_default.ensures.none number (subst (λ (x : Expanded). WorksFrom x c.args.task c.args.input number) (sym c.graph.ensures) works))
-      (λ number leads. works_from old.graph c.is_fresh.ensures.kept.expanded c.args.task c.args.input number leads) c.requires.sent,
+          (λ number leads. works_from old.graph c.is_fresh.ensures.kept.expanded c.args.task c.args.input number leads) c.requires.sent,
     )
 
 pub returns-then-is_marked-marked-clause-ends : goal.returns-then-is_marked-marked-clause-ends

@@ -1,4 +1,4 @@
-use Rattle.std.proofs.Common.{◌≡◌, ap, arith, refl, length, sym, ◌∙◌}
+use Rattle.std.proofs.Common.{ap, arith, refl, length, ◌∙◌}
 use Rattle.abs_codec.specs.Spelling.{Fits}
 use Rattle.core_model.specs.Language.{language}
 use Rattle.job_graph.specs.Expanded.{Expanded, inputs_of}

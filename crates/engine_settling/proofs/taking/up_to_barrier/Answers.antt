@@ -1,10 +1,10 @@
-use Rattle.std.proofs.Common.{◌≡◌, true, refl, ◌∙◌, MatchOption}
+use Rattle.std.proofs.Common.{◌≡◌, true, refl, ◌∙◌}
 use Rattle.abs_codec.specs.Spelling.{Fits}
 use Rattle.core_model.specs.Language.{language}
 use Rattle.job_state.specs.Held.{came_at}
 use Rattle.operators.specs.Operator.{IsGoodState}
 use Rattle.engine_settling.specs.Awaiting.{IsAwaited}
-use Rattle.engine_settling.proofs.Bringing.{brings_none, brings_both, part_on, part_early, holds_running}
+use Rattle.engine_settling.proofs.Bringing.{brings_none, brings_both, part_early, holds_running}
 use Rattle.engine_settling.proofs.Parts.{barrier_done, barrier_fails}
 use Rattle.engine_settling.proofs.Works.{no_head}
 use Rattle.engine_settling.proofs.taking.up_to_barrier.Goals as goal
