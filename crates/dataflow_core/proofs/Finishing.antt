@@ -9,7 +9,7 @@ use Rattle.core_model.specs.Language.{Language}
 use Rattle.core_model.specs.State.{State}
 use Rattle.core_model.specs.declared.fault.CoreFault.{CoreFault}
 use Rattle.core_model.specs.declared.fault.CoreFault.TheVariants.{NotRunning}
-use Rattle.core_plain.specs.Plain.{StepsBy, StepsIfOk, Stays}
+use Rattle.core_plain.specs.Plain.{StepsIfOk, Stays}
 use Rattle.dataflow_model.specs.Machine as machine
 use Rattle.engine.specs.Running.{OnTransactions}
 use Rattle.job_graph.specs.Expanded.{Expanded}

@@ -1,15 +1,13 @@
 -- What may be claimed, and why a claim is refused.
-use Rattle.std.proofs.Common.{◌≡◌, ◌<◌, ◌≤◌, ◌^◌, ℕ, Bool, true, false, Option, Some, None, Result, Ok, Err, IfOk, IfErr, MatchOption, slice_get, List, refl, subst, sym, ap}
-use Rattle.job_graph.specs.declared.role.Role.{Role}
-use Rattle.job_graph.specs.declared.role.Role.TheVariants as role
+use Rattle.std.proofs.Common.{◌≡◌, ◌<◌, ◌≤◌, ◌^◌, ℕ, Option, Some, None, Result, Ok, Err, IfOk, IfErr, MatchOption, refl, subst, sym}
 use Rattle.job_state.specs.Held.{Held}
-use Rattle.claims.specs.Due.{IsWorker, WorksFrom, IsDue, EndsAsking, EndsOffer}
+use Rattle.claims.specs.Due.{IsWorker, IsDue, EndsOffer}
 use Rattle.claims.specs.declared.parts.Given.{Given}
 use Rattle.claims.specs.declared.parts.Given.TheVariants as given
 use Rattle.core_model.specs.Language.{Language}
 use Rattle.core_model.specs.declared.fault.CoreFault.{CoreFault}
 use Rattle.core_model.specs.declared.fault.CoreFault.TheVariants.{NotRunning, NoSuchTask, NotReady, ChannelBlocked, Busy, Stale, WrongResult, CheckpointPending, NoCheckpoint, NotAllAcked, Memory, Device, CommitFault, NumbersSpent, BadSnapshot}
-use Rattle.dataflow_core.specs.Claims.{IsBusy, HasInput, HasRecord, RefusesClaim, Refuses, MayClaim, spent_as}
+use Rattle.dataflow_core.specs.Claims.{IsBusy, HasRecord, RefusesClaim, Refuses, MayClaim, spent_as}
 use Rattle.dataflow_core.specs.CoreState.{CoreState}
 
 module _ {R K S O : Type 0} (lang : Language R K S O) (s : CoreState O R K S) (task input : ℕ) where

@@ -1,5 +1,5 @@
 -- What calls preserve, whatever they are.
-use Rattle.std.proofs.Common.{◌≡◌, Option, Some, Result, ℕ, List, [], ◌++◌, slice_get, refl, sym, ap, subst, ◌∙◌, append_assoc}
+use Rattle.std.proofs.Common.{◌≡◌, Option, Result, ℕ, List, [], ◌++◌, slice_get, sym, ap, subst, ◌∙◌, append_assoc}
 use Rattle.std.proofs.lemmas.List.{append-nil}
 use Rattle.commit_sink.specs.Ledger.{committed_rows}
 use Rattle.core_model.specs.Language.{Language}

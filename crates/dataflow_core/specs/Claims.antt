@@ -1,5 +1,5 @@
 -- Claims: a task's hold on the record at the head of an input.
-use Rattle.std.specs.Prelude.{◌≡◌, ◌≢◌, ◌⊎◌, ◌+◌, ◌<◌, ◌≤◌, ◌^◌, ◌++◌, ℕ, List, [], ◌∷◌, Option, Some, None, Result, Ok, Err, MatchOption, slice_get}
+use Rattle.std.specs.Prelude.{◌≡◌, ◌≢◌, ◌⊎◌, ◌+◌, ◌<◌, ◌≤◌, ◌^◌, ◌++◌, ℕ, List, [], ◌∷◌, Some, None, Result, Ok, Err, MatchOption, slice_get}
 use Rattle.std.specs.List.{remove}
 use Rattle.alignment.specs.declared.input.Effect.{Effect}
 use Rattle.claims.specs.Due.{WorksFrom, IsDue, EndsAccept}
@@ -7,7 +7,6 @@ use Rattle.claims.specs.declared.parts.Given.{Given}
 use Rattle.claims.specs.declared.parts.Made.{Made}
 use Rattle.core_model.specs.Calls.{input_at, IsBlocked, NoRecord, IsRecordDue}
 use Rattle.core_model.specs.Language.{Language}
-use Rattle.core_model.specs.State.{State}
 use Rattle.core_model.specs.declared.fault.CoreFault.{CoreFault}
 use Rattle.core_model.specs.declared.fault.CoreFault.TheVariants.{NotRunning, NoSuchTask, Busy, ChannelBlocked, NotReady, NumbersSpent, Memory, Stale, WrongResult}
 use Rattle.core_plain.specs.Plain.{StepsBy, Stays}

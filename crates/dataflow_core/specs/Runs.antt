@@ -1,5 +1,5 @@
 -- Calls of a core over a desk, one and many.
-use Rattle.std.specs.Prelude.{◌≡◌, ◌⊎◌, ◌++◌, ℕ, List, [], ◌∷◌, Option, Some, None, Result, MatchOption, length, slice_set}
+use Rattle.std.specs.Prelude.{◌≡◌, ◌⊎◌, ◌++◌, ℕ, List, [], ◌∷◌, Some, None, Result, MatchOption, length, slice_set}
 use Rattle.claims.specs.Carried.{given_of}
 use Rattle.claims.specs.declared.parts.Made.{Made}
 use Rattle.core_model.specs.Language.{Language}

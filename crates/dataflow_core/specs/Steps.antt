@@ -1,5 +1,5 @@
 -- What each call does to the engine.
-use Rattle.std.specs.Prelude.{◌≡◌, ◌≢◌, ℕ, Option, Some, Result, Ok, Err, MatchOption, IfOk, slice_get}
+use Rattle.std.specs.Prelude.{◌≡◌, ◌≢◌, ℕ, Option, Some, Result, Err, MatchOption, IfOk, slice_get}
 use Rattle.commit_sink.specs.Ledger.{committed_rows}
 use Rattle.dataflow_model.specs.Graph.{Begins}
 use Rattle.job_graph.specs.declared.role.Role.TheVariants as role

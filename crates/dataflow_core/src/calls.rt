@@ -26,9 +26,9 @@ ghost use Rattle.dataflow_core.specs.CoreState.{claims_after};
 ghost use Rattle.dataflow_core.specs.Steps.{IsStep, IsRestart};
 
 use crate::held::{Claim, drop_claims};
-use engine_rules::Rules;
 use commit_sink::Transactions;
 use engine::{CoreFault, Engine};
+use engine_rules::Rules;
 use job_graph::Graph;
 use operators::Operator;
 use snapshot_store::SnapshotStore;

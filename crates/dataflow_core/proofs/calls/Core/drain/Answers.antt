@@ -1,9 +1,9 @@
-use Rattle.std.proofs.Common.{rules, ◌≡◌, ◌↔◌, ℕ, [], IsTrue, ◌+◌, ◌-◌, ◌*◌, ◌<◌, ◌≤◌, length, ◌/◌, ◌%◌, Bool, true, false, nat_eq, nat_lt, List, ◌∷◌, ◌++◌, slice_index_or, slice_set, bit_and, bit_or, Fits, w8, w32, w64, Bor, MutBor}
-use Rattle.engine.specs.Running.{IsCounted}
-use Rattle.dataflow_core.specs.Steps.{IsStep}
-use Rattle.dataflow_core.specs.Unclaimed.{Settles, Drains}
+use Rattle.abs_codec.specs.Spelling.{Fits}
+use Rattle.core_model.specs.Language.{language}
+use Rattle.engine_settling.proofs.Chained.{drain_works}
+use Rattle.dataflow_core.proofs.Unclaiming.{step_works}
 use Rattle.dataflow_core.proofs.calls.Core.drain.Goals as goal
 
--- src/settling.rt:55:5
 pub returns-clause-step : goal.returns-clause-step
-returns-clause-step g c = ?
+returns-clause-step g c =
+    rw (← c.self.view_is) (step_works (language g.O.Operator.meaning g.O.Key.Ord.cmp g.O.Record.Codec.spelling g.O.Record.Codec.reading g.O.Key.Codec.reading g.O.State.Codec.reading) (Fits g.O.Record.Codec.HasSpelling g.O.Record.Codec.spelling) c.self.inside.engine c.drain.new.engine (drain_works (language g.O.Operator.meaning g.O.Key.Ord.cmp g.O.Record.Codec.spelling g.O.Record.Codec.reading g.O.Key.Codec.reading g.O.State.Codec.reading) (Fits g.O.Record.Codec.HasSpelling g.O.Record.Codec.spelling) c.self.inside.engine c.drain.new.engine c.args.turns c.drain.result c.drain.ensures.ends))
