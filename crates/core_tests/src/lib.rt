@@ -9,6 +9,7 @@
 mod cores;
 #[cfg(test)]
 mod devices;
+mod ending;
 #[cfg(test)]
 mod failed_copies;
 #[cfg(test)]
@@ -27,3 +28,5 @@ mod steps;
 mod test_core;
 #[cfg(test)]
 mod writers;
+
+pub use ending::end_job;

@@ -10,7 +10,27 @@
 //!
 //! `settle` and `drain` make many steps in one call, without claims: `settle` completes the pending
 //! checkpoint, and is refused only where memory is or a device fails; `drain` brings the job to
-//! rest and commits its whole output, or spends its turns.
+//! rest, with a last checkpoint that every sink commits, or spends its turns.
+//!
+//! # An example
+//!
+//! A caller starts a job that is down, and brings it to its end.
+//!
+//! ```
+//! let started = core.restart();
+//! core.is_fresh();
+//! match started {
+//!     Ok(_) => {}
+//!     Err(fault) => return Err(fault),
+//! }
+//! let ended = core.drain(turns);
+//! core.is_fresh();
+//! ended
+//! ```
+//!
+//! This is the body of `end_job` in `core_tests` (src/ending.rt). Proved of it, from the clauses of
+//! these calls alone: where the core was opened over new devices (`fresh`), what its sinks have
+//! committed is exactly once, however that ends (`exact`).
 #![tactic(auto)]
 
 mod calls;

@@ -16,6 +16,40 @@
 //!
 //! Which step comes next is chosen by a [`Schedule`], on which nothing rests but that the run comes
 //! to rest.
+//!
+//! # An example
+//!
+//! Workers take a job to rest, beside readers in threads of their own.
+//!
+//! ```
+//! let opened = Station::<O, S, X, P, L, &R>::with_readers(rt, alloc, core, schedule, blank);
+//! let (mut station, mut share) = opened.ok()?;
+//! let watchers = start(rt, alloc, &mut station, meeting);
+//! let station = Mutex::new(station);
+//! let pause: &Meeting = meeting;
+//! let report = run(
+//!     rt, alloc, &station, &mut share, workers, every, TURNS, 0, pause,
+//! );
+//! meeting.ends();
+//! let watchers = join_all(rt, alloc, watchers);
+//! ```
+//!
+//! There `start` takes readers of the station, and moves each into a thread that reads until the
+//! run is over. So does a reader that is told what was published:
+//!
+//! ```
+//! let mut reader = station.reader().ok()?;
+//! let told = station.publish().ok()?;
+//! let there = move || {
+//!     reader.learn(told);
+//!     let rows = reader.read(0).ok();
+//!     (reader, rows)
+//! };
+//! Some(join(rt, there, || ()).0)
+//! ```
+//!
+//! These are lines of `play` and of `told_there` in `station_tests` (src/playing.rt), where they
+//! are proved and run, with the bounds of their types.
 #![tactic(auto)]
 
 mod calls;
