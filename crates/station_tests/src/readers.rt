@@ -89,7 +89,7 @@ fn expect_many(rt: &impl Abort, alloc: Global, played: &Option<Played>) -> Resul
     expect_rows(rt, alloc, played.after.told.as_ref(), &wanted)
 }
 
-/// Runs the line over many rows, by four workers, with a checkpoint every ten rows. Half of them
+/// Runs the line over many rows, by four workers, with a checkpoint every ten jobs. Half of them
 /// are held back until each reader has read some.
 fn watched_many<R: Threads + Wait + Clock + Sync>(
     rt: &R,
@@ -98,7 +98,7 @@ fn watched_many<R: Threads + Wait + Clock + Sync>(
     let rows = input_of(alloc, MANY)?;
     let how = How {
         workers: 4,
-        every: 20,
+        every: 10,
     };
     watched(rt, alloc, &rows, how, Meeting::new(MANY as usize, MANY))
 }
