@@ -61,6 +61,7 @@ module _ {R K S O : Type 0} (lang : Language R K S O) where
           one_each = e.one_each;
           in_order = e.in_order;
           in_run = e.in_run;
+          cuts = e.cuts;
           exactly = λ task subtask j is many.
               let x = e.exactly task j (is_sink_of s task subtask is) (count_at s.graph s.ledger task subtask is keeps.ordered ∙ many) in
               (x.0, x.1, x.2, x.3, x.4 ∙ rows_at s.graph s.ledger task subtask is keeps.ordered);

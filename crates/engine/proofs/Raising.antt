@@ -88,7 +88,7 @@ module _ {R K S O : Type 0} (lang : Language R K S O) (RecordFits : R → Type 0
 pub sound_exact : {R K S O : Type 0} (lang : Language R K S O) (RecordFits : R → Type 0) (IsGood : O → S → Type 0) (s : State O R K S) → Keeps lang RecordFits IsGood s → IsSound lang RecordFits s → IsExactlyOnce lang s
 sound_exact lang RecordFits IsGood s keeps sound =
     let e = keeps_rows_exact lang RecordFits IsGood (as_fresh lang RecordFits IsGood s) (keeps_as_fresh lang RecordFits IsGood s keeps sound) refl in
-    record { moves = e.moves; moments = e.moments; is_run = e.is_run; one_each = e.one_each; in_order = e.in_order; in_run = e.in_run; exactly = e.exactly }
+    record { moves = e.moves; moments = e.moments; is_run = e.is_run; one_each = e.one_each; in_order = e.in_order; in_run = e.in_run; cuts = e.cuts; exactly = e.exactly }
 
 -- the devices of a sound engine are legal
 pub hands_out_legal : {R K S O : Type 0} (lang : Language R K S O) (RecordFits : R → Type 0) (IsGood : O → S → Type 0) (s : State O R K S) → Keeps lang RecordFits IsGood s → IsSound lang RecordFits s

@@ -39,6 +39,8 @@ use Rattle.engine_settling.proofs.Committed.{committed_last}
 use Rattle.engine_settling.proofs.Ending.{cut_rests_in, commit_done, commit_fails, commit_reaches, commit_leaves}
 use Rattle.engine_settling.proofs.Gating.{receiver_of}
 use Rattle.engine_settling.proofs.Still.{idle_queues, still_started}
+use Rattle.engine_settling.proofs.Whole.{is_whole}
+use Rattle.engine.proofs.Raising.{sound_exact}
 
 same_sink : {a b : ℕ} → ◌≡◌ {A = Role} (role.Sink a) (role.Sink b) → a ≡ b
 same_sink e = cc
@@ -142,7 +144,9 @@ module _ {R K S O : Type 0} (lang : Language R K S O) (RecordFits : R → Type 0
           was,
           made_both old between new made c.made,
           completed,
-          λ sound task subtask at. committed_last new.stored new.ledger subtask n numbered completed.complete completed.last (commits.1 (made.1.0.sound sound) task subtask (slice_get_within new.graph.tasks task (role.Sink subtask) at) at),
+          λ sound task subtask at.
+              let each = commits.1 (made.1.0.sound sound) task subtask (slice_get_within new.graph.tasks task (role.Sink subtask) at) at in
+              (committed_last new.stored new.ledger subtask n numbered completed.complete completed.last each, each),
         ),
         λ still m is.
             let same : n ≡ m = same_Some n m (sym was ∙ is) in
@@ -216,10 +220,21 @@ module _ {R K S O : Type 0} (lang : Language R K S O) (RecordFits : R → Type 0
   drain_rounds old middle new turns Device made e = made_down old middle new made (e.0, e.2, e.3)
   drain_rounds old middle new turns other made e = absurd e.3
 
-  pub drain_rests : (old middle between new : State O R K S) (turns : ℕ) → Some_made old middle → EndsRounds lang RecordFits middle between turns (Ok AtRest) → EndsAtRest lang RecordFits between new (Ok tt) → EndsDrain lang RecordFits old new turns (Ok AtRest)
-  drain_rests old middle between new turns made rounds e =
+  pub drain_rests : (old middle between new : State O R K S) (IsGood : O → S → Type 0) → Keeps lang RecordFits IsGood new → (turns : ℕ) → Some_made old middle → EndsRounds lang RecordFits middle between turns (Ok AtRest)
+      → EndsAtRest lang RecordFits between new (Ok tt) → EndsDrain lang RecordFits old new turns (Ok AtRest)
+  drain_rests old middle between new IsGood keeps turns made rounds e =
       let before = made_both old middle between made (rounds.0, rounds.2) in
-      (made_both old between new before e.0, (e.1.0, e.1.1, e.1.2, λ sound. e.1.3 (before.1.0.sound sound)))
+      let all = made_both old between new before e.0 in (
+        all,
+        (
+          e.1.0,
+          e.1.1,
+          e.1.2,
+          λ sound.
+              let committed = e.1.3 (before.1.0.sound sound) in
+              (committed, is_whole lang new e.1.0 keeps.numbered (sound_exact lang RecordFits IsGood new keeps (all.1.0.sound sound)) e.1.1 e.1.2 committed),
+        ),
+      )
 
   pub drain_ends : (old middle between new : State O R K S) (turns : ℕ) (f : CoreFault) → Some_made old middle → EndsRounds lang RecordFits middle between turns (Ok AtRest) → EndsAtRest lang RecordFits between new (Err f) → EndsDrain lang RecordFits old new turns (Err f)
   drain_ends old middle between new turns f made rounds e = of f e

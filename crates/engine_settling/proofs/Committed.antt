@@ -27,11 +27,11 @@ use Rattle.core_model.proofs.StoreView.{last_of_line}
 
 -- ---- the last complete checkpoint
 
-at_end : (front : List ℕ) (n : ℕ) → slice_get (front ++ n ∷ []) (length front) ≡ Some n
+pub at_end : (front : List ℕ) (n : ℕ) → slice_get (front ++ n ∷ []) (length front) ≡ Some n
 at_end [] n = refl
 at_end (x ∷ front) n = at_end front n
 
-length_end : (front : List ℕ) (n : ℕ) → length (front ++ n ∷ []) ≡ suc (length front)
+pub length_end : (front : List ℕ) (n : ℕ) → length (front ++ n ∷ []) ≡ suc (length front)
 length_end [] n = refl
 length_end (x ∷ front) n = ap suc (length_end front n)
 

@@ -5,6 +5,7 @@ pub mod Queues
 pub mod Steps
 pub mod Still
 pub mod Committed
+pub mod Whole
 pub mod Bringing
 pub mod Parts
 pub mod Looping

@@ -3,3 +3,4 @@ pub mod Awaiting
 pub mod Resting
 pub mod Bringing
 pub mod Settled
+pub mod Whole

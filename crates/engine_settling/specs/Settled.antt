@@ -16,6 +16,7 @@ use Rattle.engine_rounds.specs.declared.ending.Drained.{Drained}
 use Rattle.engine_rounds.specs.declared.ending.Drained.TheVariants.{AtRest, TurnsSpent}
 use Rattle.engine_settling.specs.Bringing.{WentDown}
 use Rattle.engine_settling.specs.Resting.{IsStillIn, CutRests}
+use Rattle.engine_settling.specs.Whole.{IsWhole}
 
 module _ {R K S O : Type 0} (s : State O R K S) where
   -- the checkpoint is complete, and the last one that is; none is pending
@@ -24,9 +25,11 @@ module _ {R K S O : Type 0} (s : State O R K S) where
     pub last : (other : ℕ) → is_complete s.stored other ≡ true → other ≤ n
     pub none_pending : pending_in s.held ≡ None
 
-  -- each sink has committed it last
+  -- each sink has committed it last, after as many others as there are complete ones before it
   abbrev pub IsCommitted : ℕ → Type 0
-  IsCommitted n = (task subtask : ℕ) → slice_get s.graph.tasks task ≡ Some (role.Sink subtask) → last_committed s.stored s.ledger subtask ≡ Some n
+  IsCommitted n =
+      (task subtask : ℕ) → slice_get s.graph.tasks task ≡ Some (role.Sink subtask)
+      → (last_committed s.stored s.ledger subtask ≡ Some n) × (length (committed_of s.ledger subtask) ≡ length (complete_numbers s.stored))
 
   -- each sink among the first so many tasks has committed once for each complete checkpoint
   abbrev pub HaveCommittedBefore : ℕ → Type 0
@@ -96,10 +99,10 @@ module _ {R K S O : Type 0} (lang : Language R K S O) (RecordFits : R → Type 0
   EndsAtRest (Err Device) = WentDown lang RecordFits old new
   EndsAtRest (Err other) = ⊥
 
-  -- At rest: a checkpoint is complete whose cut is at rest, and every sink of a sound engine has committed it last. Turns spent: after what was pending was settled,
+  -- At rest: a checkpoint is complete whose cut is at rest, and every sink of a sound engine has committed it last: the whole output of a run that has ended. Turns spent: after what was pending was settled,
   -- as many steps were made as there are turns, and a further one is possible. Refused for want of memory, where a device failed, and where no number is left.
   abbrev pub EndsDrain : (turns : ℕ) → Result Drained CoreFault → Type 0
-  EndsDrain turns (Ok AtRest) = MadeSome × ((n : ℕ) × IsCompleted new n × CutRests lang new n × (IsSound lang RecordFits old → IsCommitted new n))
+  EndsDrain turns (Ok AtRest) = MadeSome × ((n : ℕ) × IsCompleted new n × CutRests lang new n × (IsSound lang RecordFits old → IsCommitted new n × IsWhole lang new))
   EndsDrain turns (Ok TurnsSpent) =
       MadeSome × ((before : State O R K S) × (moves : List Move) × (length moves ≡ turns) × ((first : List Move) × Made lang RecordFits old before first) × (pending_in before.held ≡ None) × Made lang RecordFits before new moves) × CanMove lang new
   EndsDrain turns (Err Memory) = MadeSome

@@ -79,7 +79,10 @@ pub fn drain<O: Operator, S: SnapshotStore, X: Transactions, P: Partitions<Recor
         Err(fault) => return Err(fault),
     }
     match end_at_rest(engine, alloc) {
-        Ok(()) => Ok(Drained::AtRest),
+        Ok(()) => {
+            engine.is_fresh();
+            Ok(Drained::AtRest)
+        }
         Err(fault) => Err(fault),
     }
 }
