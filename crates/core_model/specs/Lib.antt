@@ -4,12 +4,10 @@ pub mod View
 pub mod Keeps
 pub mod LastCommitted
 pub mod ExactlyOnce
-pub mod Laws
 pub mod Calls
 pub mod Goes
-pub mod CallLaws
+pub mod ByTests
 pub mod Commits
-pub mod CheckpointLaws
 pub mod CompleteCut
 pub mod Restart
 pub mod RestartLaws

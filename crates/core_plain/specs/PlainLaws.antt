@@ -9,7 +9,7 @@ use Rattle.snapshot_store.specs.Store.{Stored}
 use Rattle.task_part.specs.declared.part.Part.{Part}
 use Rattle.core_model.specs.declared.fault.CoreFault.{CoreFault}
 use Rattle.core_model.specs.Calls.{left_by, EndsRead, EndsOperate, EndsPutOut, EndsInject, EndsOperatorBarrier, EndsSinkBarrier, EndsPersist, EndsTrigger, EndsComplete}
-use Rattle.core_model.specs.CallLaws.{RunsWith, IsOperatorTask, IsSinkTask}
+use Rattle.core_model.specs.ByTests.{RunsWith, IsOperatorTask, IsSinkTask}
 use Rattle.core_model.specs.Commits.{EndsCommit}
 use Rattle.core_model.specs.Language.{Language}
 use Rattle.core_model.specs.State.{State}

@@ -11,7 +11,7 @@ use Rattle.operators.specs.declared.row.Row.{Row}
 use Rattle.operators.specs.declared.row_state.RowState.{RowState}
 use Rattle.operators.specs.declared.row_op.RowOp.{RowOp}
 use Rattle.operators.specs.declared.row_op.RowOp.TheVariants.{Add}
-use Rattle.core_model.specs.CallLaws.{Passes, IsGoodBy}
+use Rattle.core_model.specs.ByTests.{Passes, IsGoodBy}
 use Rattle.core_model.specs.Goes.{Goes}
 use Rattle.core_model.specs.Keeps.{Keeps}
 use Rattle.core_model.specs.Language.{Language}

@@ -1,5 +1,5 @@
 use Rattle.job_graph.specs.declared.role.Role.TheVariants as role
-use Rattle.core_model.specs.CallLaws.{Passes, IsGoodBy}
+use Rattle.core_model.specs.ByTests.{Passes, IsGoodBy}
 use Rattle.core_plain.proofs.PlainReads.{plain_read}
 use Rattle.core_plain.proofs.PlainWorks.{plain_operate, plain_put_out}
 use Rattle.core_plain.proofs.PlainCopies.{plain_inject, plain_operator_barrier, plain_sink_barrier}

@@ -1,4 +1,4 @@
-use Rattle.core_model.specs.CallLaws.{Passes, IsGoodBy}
+use Rattle.core_model.specs.ByTests.{Passes, IsGoodBy}
 use Rattle.core_plain.proofs.PlainReached.{plain_reached}
 use Rattle.core_plain.proofs.fresh_engines_are_reached.Goals as goal
 

@@ -1,4 +1,4 @@
-use Rattle.core_model.specs.CallLaws.{Passes, IsGoodBy}
+use Rattle.core_model.specs.ByTests.{Passes, IsGoodBy}
 use Rattle.line_core.proofs.Lines.{commits_sums}
 use Rattle.line_core.proofs.adding_lines_commit_sums.Goals as goal
 

@@ -1,4 +1,4 @@
-use Rattle.core_model.specs.CallLaws.{Passes, IsGoodBy}
+use Rattle.core_model.specs.ByTests.{Passes, IsGoodBy}
 use Rattle.line_core.proofs.Lines.{withdraws_none}
 use Rattle.line_core.proofs.lines_withdraw_no_row.Goals as goal
 
