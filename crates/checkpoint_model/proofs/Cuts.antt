@@ -7,7 +7,7 @@ use Rattle.checkpoint_model.specs.Attempt.{Attempt}
 use Rattle.checkpoint_model.specs.Cuts.{LastCutsAreReached, RestartsAreReached}
 use Rattle.checkpoint_model.specs.Durable.{joined, settled}
 use Rattle.checkpoint_model.specs.Engine.{Running, IsSound}
-use Rattle.checkpoint_model.specs.Held.{held, held_running, held_run}
+use Rattle.checkpoint_model.specs.Pruned.{pruned, pruned_running, pruned_run}
 use Rattle.checkpoint_model.proofs.Headline.{get_within}
 use Rattle.checkpoint_model.proofs.Moments.{successive, plain_elsewhere}
 use Rattle.checkpoint_model.proofs.Restarting.{restarts}
@@ -21,9 +21,9 @@ at_end (x ∷ front) n = at_end front n
 take_all : {A : Type 0} (xs : List A) (k : ℕ) → length xs ≡ k → take k xs ≡ xs
 take_all xs k e = ap (take k) (sym (append-nil xs)) ∙ take_at xs [] k e
 
-down_is : {R K S : Type 0} (running : Option (Running R K S)) → held_running running ≡ None → running ≡ None
+down_is : {R K S : Type 0} (running : Option (Running R K S)) → pruned_running running ≡ None → running ≡ None
 down_is None e = refl
-down_is (Some run) e = absurd (none-some (held_run run) (sym e))
+down_is (Some run) e = absurd (none-some (pruned_run run) (sym e))
 
 module _ {R K S O B : Type 0} where
   pub last_cuts : (job : Job R K S O) (spell : R → B) → LastCutsAreReached job spell
@@ -49,11 +49,11 @@ module _ {R K S O B : Type 0} where
 
   pub restarts_reached : (job : Job R K S O) (spell : R → B) → RestartsAreReached job spell
   restarts_reached job spell is_logged devices seen receivers settled_all s restored =
-      let sound = subst (λ (r : Option (Running R K S)). IsSound job is_logged spell devices r) (down_is s.running s.is_held) s.sound in
+      let sound = subst (λ (r : Option (Running R K S)). IsSound job is_logged spell devices r) (down_is s.running s.is_pruned) s.sound in
       let r = restarts job spell is_logged devices 0 (λ task. []) settled_all sound in
       let plain = plain_elsewhere job r.1 r.0 r.2 in
       let same = one_seen_base job spell devices sound.cuts r.0 seen receivers sound.legal r.3 r.4 plain.tasks plain.channels restored in
-      let begin : Attempt R K S → Running R K S = λ a. record { attempt = held a; number = 0; named = λ task. [] } in
+      let begin : Attempt R K S → Running R K S = λ a. record { attempt = pruned a; number = 0; named = λ task. [] } in
       record {
         moves = r.1;
         base = r.0;

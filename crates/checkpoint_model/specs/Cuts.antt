@@ -6,7 +6,7 @@ use Rattle.checkpoint_model.specs.Laws.{HasReceivers}
 use Rattle.checkpoint_model.specs.Durable.{Devices, joined, settled, IsSink, IsCutOf}
 use Rattle.checkpoint_model.specs.EngineLaws.{IsSettled}
 use Rattle.checkpoint_model.specs.Headline.{Engine, IsRestored}
-use Rattle.checkpoint_model.specs.Held.{IsHeldSound, held_start}
+use Rattle.checkpoint_model.specs.Pruned.{IsPrunedSound, pruned_start}
 use Rattle.checkpoint_model.specs.Seen.{IsSeenRestored}
 
 module _ {R K S O B : Type 0} where
@@ -22,7 +22,7 @@ module _ {R K S O B : Type 0} where
   -- of a sound engine the last complete checkpoint's is
   abbrev pub LastCutsAreReached : Job R K S O → (R → B) → Type 0
   LastCutsAreReached job spell =
-      (is_logged : ℕ → Bool) (engine : Engine R K S B) (front : List ℕ) (n : ℕ) → IsHeldSound job is_logged spell engine.devices engine.running →
+      (is_logged : ℕ → Bool) (engine : Engine R K S B) (front : List ℕ) (n : ℕ) → IsPrunedSound job is_logged spell engine.devices engine.running →
       engine.devices.store.line ≡ front ++ n ∷ [] → IsReachedCut job spell engine.devices n
 
   -- A plain run comes to where an attempt starts from, with each sink's committed records as its output.
@@ -31,10 +31,10 @@ module _ {R K S O B : Type 0} where
     pub base : Configuration R K S
     pub reached : Reaches job moves start base
     pub restored : IsRestored job spell devices base
-    pub is_seen : held_start base ≡ held_start seen
+    pub is_seen : pruned_start base ≡ pruned_start seen
 
   -- so it does where a sound engine restarts
   abbrev pub RestartsAreReached : Job R K S O → (R → B) → Type 0
   RestartsAreReached job spell =
       (is_logged : ℕ → Bool) (devices : Devices R K S B) (seen : Configuration R K S) → HasReceivers job → ((task : ℕ) → IsSink job task → IsSettled (devices.sinks task)) →
-      IsHeldSound job is_logged spell devices None → IsSeenRestored job devices seen → IsReachedStart job spell devices seen
+      IsPrunedSound job is_logged spell devices None → IsSeenRestored job devices seen → IsReachedStart job spell devices seen

@@ -7,7 +7,7 @@ use mathlib.Core.Path.{fun_ext}
 use Rattle.checkpoint_model.specs.Durable.{Commits}
 use Rattle.checkpoint_model.specs.Engine.{Running}
 use Rattle.checkpoint_model.specs.Headline.{CommitsATransaction}
-use Rattle.checkpoint_model.specs.Held.{held_run}
+use Rattle.checkpoint_model.specs.Pruned.{pruned_run}
 use Rattle.commit_sink.specs.Ledger.{Ledger, IsOrdered, after_commit}
 use Rattle.commit_sink.specs.Sink.{Sinking}
 use Rattle.commit_sink.specs.declared.sink.Pending.{Pending}
@@ -130,7 +130,7 @@ module _ {R K S O : Type 0} (lang : Language R K S O) (RecordFits : R → Type 0
           of (inr commits) =
               let C : Option Role → Type 0 = λ r. (c : Commits (line_of s.stored) (transactions_at s.ledger r) (transactions_at ledger r)) × (c.front ≡ []) in
               let c : C (slice_get s.graph.tasks task) = subst C (sym is) commits in
-              goes_by lang s h k s.stored ledger n (run_of lang.cmp s.graph h) was (sym (ap held_run same_run))
+              goes_by lang s h k s.stored ledger n (run_of lang.cmp s.graph h) was (sym (ap pruned_run same_run))
               (CommitsATransaction task (record {
                 commits = record { store = refl; sink = c.0; others = other_shares };
                 is_first = c.1;

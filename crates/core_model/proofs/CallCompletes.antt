@@ -1,8 +1,8 @@
 -- The pending checkpoint is complete, as a call of the engine.
 use Rattle.std.proofs.Common.{◌≡◌, inl, inr, Some, None, Result, Ok, Err, slice_get, ℕ, refl, sym, ap, subst, ◌∙◌}
 use Rattle.checkpoint_model.specs.Headline.{CompletesACheckpoint}
-use Rattle.checkpoint_model.specs.Held.{held_run}
-use Rattle.checkpoint_model.proofs.HeldViews.{held_twice}
+use Rattle.checkpoint_model.specs.Pruned.{pruned_run}
+use Rattle.checkpoint_model.proofs.PrunedViews.{pruned_twice}
 use Rattle.coordinator.specs.Coordinator.{IsReady}
 use Rattle.job_state.specs.Held.{Held, with_completed}
 use Rattle.snapshot_store.specs.Store.{Stored, IsNumbered, completed}
@@ -25,7 +25,7 @@ module _ {R K S O : Type 0} (lang : Language R K S O) (RecordFits : R → Type 0
     goes_completed ready =
         let run = run_completed lang.cmp s.graph h (run_of lang.cmp s.graph h) in
         goes_by lang s h (with_completed checkpoint h) (completed s.stored checkpoint) s.ledger n run was
-        (sym (held_twice run) ∙ ap held_run (held_completed lang.cmp s.graph h checkpoint))
+        (sym (pruned_twice run) ∙ ap pruned_run (held_completed lang.cmp s.graph h checkpoint))
         (CompletesACheckpoint (engine_completes lang s h s.stored (λ t. transactions_at s.ledger (slice_get s.graph.tasks t)) checkpoint
         (runs_pending lang s h (runs_of lang RecordFits IsGood s keeps h was) checkpoint pending) pending ready ((shape_of lang RecordFits IsGood s keeps h was).acked ∙ sym keeps.stored_tasks) keeps.stored_tasks))
 

@@ -2,10 +2,10 @@
 use Rattle.std.proofs.Common.{◌≡◌, ◌++◌, Option, Some, option_map, slice_get, length, map, ℕ, true, List, sym, ap, subst, ◌∙◌}
 use Rattle.checkpoint_model.specs.Durable.{IsSink, joined}
 use Rattle.checkpoint_model.specs.Headline.{IsExactlyOnce}
-use Rattle.checkpoint_model.specs.Held.{held_run, held_running, IsHeldSound}
-use Rattle.checkpoint_model.specs.HeldLaws.{held_engine, IsBare}
-use Rattle.checkpoint_model.proofs.Held.{held_exact, held_withdraws}
-use Rattle.checkpoint_model.proofs.HeldReached.{sound_reached, held_sinks_commit}
+use Rattle.checkpoint_model.specs.Pruned.{pruned_run, pruned_running, IsPrunedSound}
+use Rattle.checkpoint_model.specs.PrunedLaws.{pruned_engine, IsBare}
+use Rattle.checkpoint_model.proofs.Pruned.{pruned_exact, pruned_withdraws}
+use Rattle.checkpoint_model.proofs.PrunedReached.{sound_reached, pruned_sinks_commit}
 use Rattle.commit_sink.specs.Ledger.{Ledger, IsOrdered, committed_rows}
 use Rattle.dataflow_model.specs.Graph.{Begins}
 use Rattle.dataflow_model.specs.Machine.{Configuration, Move, Reaches, start}
@@ -40,7 +40,7 @@ module _ {R K S O : Type 0} (lang : Language R K S O) where
   pub goes_withdraws : (s new : State O R K S) (task subtask : ℕ) → new.graph ≡ s.graph → slice_get s.graph.tasks task ≡ Some (role.Sink subtask) → IsOrdered s.ledger → IsOrdered new.ledger → Goes lang s new
       → Begins (committed_rows s.ledger subtask) (committed_rows new.ledger subtask)
   goes_withdraws s new task subtask same is old_ordered new_ordered goes =
-      let begins = held_withdraws (job_of lang s) lang.spelling (is_logged_in s) goes.0 (held_engine (engine_of lang s)) (held_engine (engine_of lang new)) goes.1 task in
+      let begins = pruned_withdraws (job_of lang s) lang.spelling (is_logged_in s) goes.0 (pruned_engine (engine_of lang s)) (pruned_engine (engine_of lang new)) goes.1 task in
       let was = rows_at s.graph s.ledger task subtask is old_ordered in
       let now = rows_at new.graph new.ledger task subtask (ap (λ (g : Expanded). slice_get g.tasks task) same ∙ is) new_ordered in
       (begins.0, sym now ∙ begins.1 ∙ ap (λ (l : List (List ℕ)). l ++ begins.0) was)
@@ -48,7 +48,7 @@ module _ {R K S O : Type 0} (lang : Language R K S O) where
   module _ (RecordFits : R → Type 0) (IsGood : O → S → Type 0) (s : State O R K S) (keeps : Keeps lang RecordFits IsGood s) (fresh : s.is_fresh ≡ true) where
     -- one plain run has a moment for each complete checkpoint, and each sink has committed its output at such a moment
     pub keeps_exact : IsExactlyOnce (job_of lang s) lang.spelling (devices_of lang s)
-    keeps_exact = held_exact (job_of lang s) lang.spelling (is_logged_in s) (held_engine (engine_of lang s)) (keeps.fresh fresh)
+    keeps_exact = pruned_exact (job_of lang s) lang.spelling (is_logged_in s) (pruned_engine (engine_of lang s)) (keeps.fresh fresh)
 
     -- so of the rows that it has committed
     pub keeps_rows_exact : rows.IsExactlyOnce lang s
@@ -71,11 +71,11 @@ module _ {R K S O : Type 0} (lang : Language R K S O) where
     pub keeps_output : (task subtask : ℕ) → slice_get s.graph.tasks task ≡ Some (role.Sink subtask)
         → (moves : List Move) × (at : Configuration R K S) × Reaches (job_of lang s) moves start at × (map lang.spelling (at.tasks task).output ≡ committed_rows s.ledger subtask)
     keeps_output task subtask is =
-        let c = held_sinks_commit (job_of lang s) lang.spelling (is_logged_in s) (held_engine (engine_of lang s)) task (is_sink_of s task subtask is) (keeps.fresh fresh) in
+        let c = pruned_sinks_commit (job_of lang s) lang.spelling (is_logged_in s) (pruned_engine (engine_of lang s)) task (is_sink_of s task subtask is) (keeps.fresh fresh) in
         (c.moves, c.at, c.reached, c.output ∙ rows_at s.graph s.ledger task subtask is keeps.ordered)
 
     -- a running engine stands for a configuration that the plain machine reaches
-    pub keeps_bare : (h : Held R K S) → s.held ≡ Some h → (moves : List Move) × (at : Configuration R K S) × Reaches (job_of lang s) moves start at × IsBare (job_of lang s) lang.spelling (devices_of lang s) (held_run (run_of lang.cmp s.graph h)) at
+    pub keeps_bare : (h : Held R K S) → s.held ≡ Some h → (moves : List Move) × (at : Configuration R K S) × Reaches (job_of lang s) moves start at × IsBare (job_of lang s) lang.spelling (devices_of lang s) (pruned_run (run_of lang.cmp s.graph h)) at
     keeps_bare h was =
-        sound_reached (job_of lang s) lang.spelling (is_logged_in s) (devices_of lang s) (held_run (run_of lang.cmp s.graph h))
-        (subst (λ (o : Option (Held R K S)). IsHeldSound (job_of lang s) (is_logged_in s) lang.spelling (devices_of lang s) (held_running (option_map (run_of lang.cmp s.graph) o))) was (keeps.fresh fresh))
+        sound_reached (job_of lang s) lang.spelling (is_logged_in s) (devices_of lang s) (pruned_run (run_of lang.cmp s.graph h))
+        (subst (λ (o : Option (Held R K S)). IsPrunedSound (job_of lang s) (is_logged_in s) lang.spelling (devices_of lang s) (pruned_running (option_map (run_of lang.cmp s.graph) o))) was (keeps.fresh fresh))

@@ -2,8 +2,8 @@
 use Rattle.std.proofs.Common.{◌≡◌, ◌⊎◌, ◌++◌, inl, inr, MatchOption, Option, Some, None, length, slice_set, unwrap_or, ℕ, List, [], ◌∷◌, refl, sym, ap, subst, ◌∙◌, append-nil, arith}
 use Rattle.std.proofs.lemmas.Bool.{cases_lt}
 use Rattle.std.proofs.lemmas.Bool.Decides.{eqb_tells}
-use Rattle.checkpoint_model.specs.HeldLaws.{held_engine}
-use Rattle.checkpoint_model.proofs.Held.{held_growth}
+use Rattle.checkpoint_model.specs.PrunedLaws.{pruned_engine}
+use Rattle.checkpoint_model.proofs.Pruned.{pruned_growth}
 use Rattle.dataflow_model.specs.Graph.{Begins}
 use Rattle.job_state.specs.Held.{Held}
 use Rattle.source_log.specs.Partitions.{records_at, appended}
@@ -48,7 +48,7 @@ module _ {R K S O : Type 0} (lang : Language R K S O) (RecordFits : R → Type 0
     ordered = keeps.ordered;
     shape = keeps.shape;
     runs = still s.held keeps.runs;
-    fresh = λ fresh. held_growth (job_of lang s) lang.spelling (is_logged_in s) (λ p. records_at partitions p) (held_engine (engine_of lang s)) grown (keeps.fresh fresh);
+    fresh = λ fresh. pruned_growth (job_of lang s) lang.spelling (is_logged_in s) (λ p. records_at partitions p) (pruned_engine (engine_of lang s)) grown (keeps.fresh fresh);
     whole = keeps.whole;
     formed = keeps.formed;
   }

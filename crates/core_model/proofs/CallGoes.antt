@@ -3,10 +3,10 @@ use Rattle.std.proofs.Common.{◌≡◌, ◌++◌, MatchOption, Option, Some, No
 use Rattle.std.proofs.lemmas.Option.{MatchOption-at_some}
 use Rattle.checkpoint_model.specs.Engine.{Running}
 use Rattle.checkpoint_model.specs.Headline.{Engine, RunningStep, Runs}
-use Rattle.checkpoint_model.specs.Held.{held_run, held_running, IsHeldSound, HeldFails, HeldLeads}
-use Rattle.checkpoint_model.specs.HeldLaws.{held_engine, OnlySinksName}
-use Rattle.checkpoint_model.proofs.Held.{held_sound}
-use Rattle.checkpoint_model.proofs.HeldSteps.{engine_steps_held}
+use Rattle.checkpoint_model.specs.Pruned.{pruned_run, pruned_running, IsPrunedSound, PrunedFails, PrunedLeads}
+use Rattle.checkpoint_model.specs.PrunedLaws.{pruned_engine, OnlySinksName}
+use Rattle.checkpoint_model.proofs.Pruned.{pruned_sound}
+use Rattle.checkpoint_model.proofs.PrunedSteps.{engine_steps_pruned}
 use Rattle.commit_sink.specs.Ledger.{Ledger, IsOrdered}
 use Rattle.dataflow_model.specs.Graph.{Job, SinkTask}
 use Rattle.job_graph.specs.PlainGraph.{task_of}
@@ -27,9 +27,9 @@ use Rattle.core_model.proofs.StoreWhole.{steps_whole}
 
 module _ {R K S O B : Type 0} (job : Job R K S O) (is_logged : ℕ → Bool) (spell : R → B) where
   -- one list of steps, and then another
-  pub leads_on : (engines more : List (Engine R K S B)) (old middle new : Engine R K S B) → HeldLeads job is_logged spell old engines middle → HeldLeads job is_logged spell middle more new
-      → HeldLeads job is_logged spell old (engines ++ more) new
-  leads_on [] more old middle new first then = subst (λ (e : Engine R K S B). HeldLeads job is_logged spell e more new) first then
+  pub leads_on : (engines more : List (Engine R K S B)) (old middle new : Engine R K S B) → PrunedLeads job is_logged spell old engines middle → PrunedLeads job is_logged spell middle more new
+      → PrunedLeads job is_logged spell old (engines ++ more) new
+  leads_on [] more old middle new first then = subst (λ (e : Engine R K S B). PrunedLeads job is_logged spell e more new) first then
   leads_on (next ∷ engines) more old middle new first then = (first.0, leads_on engines more next middle new first.1 then)
 
 -- ---- an engine's data
@@ -52,17 +52,17 @@ module _ {R K S O : Type 0} (lang : Language R K S O) where
   module _ (s : State O R K S) where
     -- nothing of the engine changed
     pub goes_nowhere : (new : State O R K S) → engine_of lang new ≡ engine_of lang s → Goes lang s new
-    goes_nowhere new same = ([], ap held_engine same)
+    goes_nowhere new same = ([], ap pruned_engine same)
 
     -- the job goes down
     pub goes_down : (stored : Stored) (ledger : Ledger) (n : ℕ) → stored ≡ s.stored → ledger ≡ s.ledger → Goes lang s (after s None stored ledger n)
     goes_down stored ledger n same_stored same_ledger = (
-      held_engine (engine_of lang (after s None stored ledger n)) ∷ [],
-      (HeldFails refl (λ i. devices_of lang (record s { stored = same_stored i; ledger = same_ledger i })), refl),
+      pruned_engine (engine_of lang (after s None stored ledger n)) ∷ [],
+      (PrunedFails refl (λ i. devices_of lang (record s { stored = same_stored i; ledger = same_ledger i })), refl),
     )
 
     -- a step of the running engine
-    pub goes_by : (h k : Held R K S) (stored : Stored) (ledger : Ledger) (n : ℕ) (next : Running R K S) → s.held ≡ Some h → held_run next ≡ held_run (run_of lang.cmp s.graph k)
+    pub goes_by : (h k : Held R K S) (stored : Stored) (ledger : Ledger) (n : ℕ) (next : Running R K S) → s.held ≡ Some h → pruned_run next ≡ pruned_run (run_of lang.cmp s.graph k)
         → RunningStep (job_of lang s) (is_logged_in s) lang.spelling (devices_of lang s) (devices_of lang (after s (Some k) stored ledger n)) (run_of lang.cmp s.graph h) next
         → Goes lang s (after s (Some k) stored ledger n)
     goes_by h k stored ledger n next was ends step =
@@ -70,14 +70,14 @@ module _ {R K S O : Type 0} (lang : Language R K S O) where
         let runs : running_of lang s ≡ Some (run_of lang.cmp s.graph h) = ap (option_map (run_of lang.cmp s.graph)) was in
         let only : (run : Running R K S) → running_of lang s ≡ Some run → OnlySinksName (job_of lang s) run =
         λ run is. subst (λ (r : Option (Running R K S)). MatchOption r (Unit {0}) (OnlySinksName (job_of lang s))) (sym runs ∙ is) (only_sinks_name s h) in (
-          held_engine to ∷ [],
+          pruned_engine to ∷ [],
           (
-            engine_steps_held (job_of lang s) lang.spelling (is_logged_in s) (engine_of lang s) to only (Runs (run_of lang.cmp s.graph h) next runs refl step),
+            engine_steps_pruned (job_of lang s) lang.spelling (is_logged_in s) (engine_of lang s) to only (Runs (run_of lang.cmp s.graph h) next runs refl step),
             λ i. record { devices = to.devices; running = Some (ends' i) },
           ),
         )
       where
-        ends' : held_run (run_of lang.cmp s.graph k) ≡ held_run next
+        ends' : pruned_run (run_of lang.cmp s.graph k) ≡ pruned_run next
         ends' = sym ends
 
   -- by one list of steps, and then by another
@@ -85,15 +85,15 @@ module _ {R K S O : Type 0} (lang : Language R K S O) where
       → Goes lang s new
   goes_on s held stored ledger n new first then = (
     first.0 ++ then.0,
-    leads_on (job_of lang s) (is_logged_in s) lang.spelling first.0 then.0 (held_engine (engine_of lang s)) (held_engine (engine_of lang (after s held stored ledger n))) (held_engine (engine_of lang new)) first.1 then.1,
+    leads_on (job_of lang s) (is_logged_in s) lang.spelling first.0 then.0 (pruned_engine (engine_of lang s)) (pruned_engine (engine_of lang (after s held stored ledger n))) (pruned_engine (engine_of lang new)) first.1 then.1,
   )
 
   module _ (RecordFits : R → Type 0) (IsGood : O → S → Type 0) (s : State O R K S) (keeps : Keeps lang RecordFits IsGood s) (held : Option (Held R K S)) (stored : Stored) (ledger : Ledger) (n : ℕ) where
     -- a fresh engine stays sound
     pub goes_keeps_fresh : Goes lang s (after s held stored ledger n) → s.is_fresh ≡ true
-        → IsHeldSound (job_of lang s) (is_logged_in s) lang.spelling (devices_of lang (after s held stored ledger n)) (held_running (running_of lang (after s held stored ledger n)))
+        → IsPrunedSound (job_of lang s) (is_logged_in s) lang.spelling (devices_of lang (after s held stored ledger n)) (pruned_running (running_of lang (after s held stored ledger n)))
     goes_keeps_fresh goes fresh =
-        held_sound (job_of lang s) lang.spelling (is_logged_in s) goes.0 (held_engine (engine_of lang s)) (held_engine (engine_of lang (after s held stored ledger n)))
+        pruned_sound (job_of lang s) lang.spelling (is_logged_in s) goes.0 (pruned_engine (engine_of lang s)) (pruned_engine (engine_of lang (after s held stored ledger n)))
         (receiver-graph_of s.graph s.operators keeps.expanded) goes.1 (keeps.fresh fresh)
 
     -- what an engine keeps, by its steps and what the devices and the job keep
@@ -113,7 +113,7 @@ module _ {R K S O : Type 0} (lang : Language R K S O) where
         runs = runs;
         fresh = goes_keeps_fresh goes;
         whole = λ fresh.
-            steps_whole (job_of lang s) (is_logged_in s) lang.spelling goes.0 (held_engine (engine_of lang s)) (held_engine (engine_of lang (after s held stored ledger n)))
+            steps_whole (job_of lang s) (is_logged_in s) lang.spelling goes.0 (pruned_engine (engine_of lang s)) (pruned_engine (engine_of lang (after s held stored ledger n)))
             (receiver-graph_of s.graph s.operators keeps.expanded) goes.1 (keeps.fresh fresh) (keeps.whole fresh);
         formed = formed;
       },

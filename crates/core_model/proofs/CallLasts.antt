@@ -6,8 +6,8 @@ use Rattle.std.proofs.lemmas.Option.{none-some, same_Some}
 use Rattle.std.proofs.lemmas.Bool.Decides.{eqb_tells}
 use Rattle.checkpoint_model.specs.Durable as durable
 use Rattle.checkpoint_model.specs.Durable.{is_on, IsSink, numbers_of, transactions_of}
-use Rattle.checkpoint_model.specs.HeldLaws.{held_engine}
-use Rattle.checkpoint_model.proofs.HeldReached.{held_up_to_last}
+use Rattle.checkpoint_model.specs.PrunedLaws.{pruned_engine}
+use Rattle.checkpoint_model.proofs.PrunedReached.{pruned_up_to_last}
 use Rattle.commit_sink.specs.Ledger.{Ledger, Transaction, transaction_at}
 use Rattle.commit_sink.specs.Sink.{Sinking}
 use Rattle.commit_sink.specs.declared.sink.Pending.{Pending}
@@ -92,7 +92,7 @@ module _ {R K S O : Type 0} (lang : Language R K S O) (RecordFits : R → Type 0
       pre_committed_all s.ledger subtask sink in_ledger (λ c. is_on (line_of s.stored) c ≡ false) (All-weaker (λ (p : Pending). is_complete s.stored p.checkpoint ≡ false) (λ p. is_on (line_of s.stored) p.checkpoint ≡ false) (λ p e. is_on-line_of s.stored p.checkpoint keeps.numbered ∙ e) sink.pending none) in
       let Exact : Option Role → Type 0 = λ r. All (λ q. is_on (line_of s.stored) q.checkpoint ≡ false) (transactions_at s.ledger r).pre_committed → length (transactions_at s.ledger r).committed ≡ length (line_of s.stored) in
       let here : Exact (slice_get s.graph.tasks task) =
-      held_up_to_last (job_of lang s) lang.spelling (is_logged_in s) (held_engine (engine_of lang s)) task (keeps.fresh fresh) (tasks-graph_of s.graph s.operators task ∙ ap (option_map (task_of s.operators)) is) in
+      pruned_up_to_last (job_of lang s) lang.spelling (is_logged_in s) (pruned_engine (engine_of lang s)) task (keeps.fresh fresh) (tasks-graph_of s.graph s.operators task ∙ ap (option_map (task_of s.operators)) is) in
       subst Exact is here off
 
   -- so where the sink has none pending

@@ -2,8 +2,8 @@
 use Rattle.std.proofs.Common.{◌≡◌, Option, Some, None, MatchOption, length, count_by, slice_get, option_map, ℕ, true, List, [], refl, sym, ap, subst, ◌∙◌}
 use mathlib.Core.Path.{fun_ext}
 use Rattle.checkpoint_model.specs.Durable.{Devices, new_devices}
-use Rattle.checkpoint_model.specs.Held.{held_running, IsHeldSound}
-use Rattle.checkpoint_model.proofs.Held.{new_held}
+use Rattle.checkpoint_model.specs.Pruned.{pruned_running, IsPrunedSound}
+use Rattle.checkpoint_model.proofs.Pruned.{new_pruned}
 use Rattle.commit_sink.specs.Ledger as ledgers
 use Rattle.commit_sink.specs.Ledger.{Ledger, IsOrdered}
 use Rattle.job_graph.specs.Expanded.{IsExpanded, is_source, is_sink}
@@ -52,9 +52,9 @@ module _ {R K S O : Type 0} (lang : Language R K S O) (s : State O R K S) where
       runs = subst (λ (o : Option (Held R K S)). MatchOption o (Unit {0}) (RunsIn lang s)) (sym down) tt;
       fresh = λ fresh.
           let blank = new fresh in
-          subst (λ (o : Option (Held R K S)). IsHeldSound (job_of lang s) (is_logged_in s) lang.spelling (devices_of lang s) (held_running (option_map (run_of lang.cmp s.graph) o))) (sym down)
-          (subst (λ (d : Devices R K S (List ℕ)). IsHeldSound (job_of lang s) (is_logged_in s) lang.spelling d None) (sym (new_devices_of (length s.graph.tasks) (count_by is_sink s.graph.tasks) blank.0 blank.1))
-          (new_held (job_of lang s) lang.spelling (is_logged_in s)));
+          subst (λ (o : Option (Held R K S)). IsPrunedSound (job_of lang s) (is_logged_in s) lang.spelling (devices_of lang s) (pruned_running (option_map (run_of lang.cmp s.graph) o))) (sym down)
+          (subst (λ (d : Devices R K S (List ℕ)). IsPrunedSound (job_of lang s) (is_logged_in s) lang.spelling d None) (sym (new_devices_of (length s.graph.tasks) (count_by is_sink s.graph.tasks) blank.0 blank.1))
+          (new_pruned (job_of lang s) lang.spelling (is_logged_in s)));
       whole = λ fresh.
           let blank : store_of lang s.stored ≡ (new_devices {R = R} {K = K} {S = S} {B = List ℕ}).store = ap (store_of lang) (new fresh).0 ∙ store_blank lang (List ℕ) (length s.graph.tasks) in
           subst (AllOrNone (job_of lang s)) (sym blank) (whole_new (List ℕ) (job_of lang s));

@@ -11,9 +11,9 @@ use Rattle.checkpoint_model.specs.Durable.{Append, Appends}
 use Rattle.checkpoint_model.specs.Engine.{Running}
 use Rattle.checkpoint_model.specs.EngineLaws.{with_attempt}
 use Rattle.checkpoint_model.specs.Headline.{MovesPlainly}
-use Rattle.checkpoint_model.specs.Held.{held_run}
+use Rattle.checkpoint_model.specs.Pruned.{pruned_run}
 use Rattle.checkpoint_model.specs.Seen.{without_output}
-use Rattle.checkpoint_model.proofs.HeldViews.{same_run}
+use Rattle.checkpoint_model.proofs.PrunedViews.{same_run}
 use Rattle.checkpoint_model.proofs.Seen.{same_attempt}
 use Rattle.commit_sink.specs.Ledger.{Ledger, IsOrdered, appended}
 use Rattle.commit_sink.specs.Sink.{Sinking}
@@ -69,10 +69,10 @@ module _ {R K S O : Type 0} (lang : Language R K S O) (s : State O R K S) (h : H
   put_run = with_attempt put_attempt before
 
   -- of its output nothing is held
-  pub put_held : held_run put_run ≡ held_run (run_of lang.cmp s.graph taken_held)
+  pub put_held : pruned_run put_run ≡ pruned_run (run_of lang.cmp s.graph taken_held)
   put_held =
-      same_run (held_run put_run) (held_run (run_of lang.cmp s.graph taken_held))
-      (same_attempt (held_run put_run).attempt (held_run (run_of lang.cmp s.graph taken_held)).attempt
+      same_run (pruned_run put_run) (pruned_run (run_of lang.cmp s.graph taken_held))
+      (same_attempt (pruned_run put_run).attempt (pruned_run (run_of lang.cmp s.graph taken_held)).attempt
       (λ t.
       elim (eqb_tells t task) [
         | inl e ↦ rw e.0 (ap (λ (m : ℕ). without_output (held_state {R = R} lang.cmp (slice_get h.tasks m))) (sym e.1))

@@ -11,7 +11,7 @@ use Rattle.checkpoint_model.specs.Durable as durable
 use Rattle.checkpoint_model.specs.Durable.{Begin, PreCommit, PreCommits, AreLast, transactions_of, is_on}
 use Rattle.checkpoint_model.specs.Engine.{Running}
 use Rattle.checkpoint_model.specs.Headline.{CopiesATask}
-use Rattle.checkpoint_model.proofs.HeldViews.{same_run}
+use Rattle.checkpoint_model.proofs.PrunedViews.{same_run}
 use Rattle.commit_sink.specs.Ledger.{Ledger, IsOrdered, transaction_at, begun, pre_committed}
 use Rattle.commit_sink.specs.declared.transactions.Progress.TheVariants.{PreCommitted}
 use Rattle.commit_sink.specs.Sink.{Sinking, names_with_open, pre_committed_last}

@@ -5,9 +5,9 @@ use Rattle.std.proofs.lemmas.Option.{same_Some}
 use Rattle.checkpoint_model.specs.Durable.{Devices, Call, Does}
 use Rattle.checkpoint_model.specs.Engine.{Running}
 use Rattle.checkpoint_model.specs.Headline.{Engine, RunningStep, Runs}
-use Rattle.checkpoint_model.specs.Held.{held_run, HeldStep, HeldFails, HeldCalls}
-use Rattle.checkpoint_model.specs.HeldLaws.{OnlySinksName, held_engine}
-use Rattle.checkpoint_model.proofs.HeldSteps.{engine_steps_held}
+use Rattle.checkpoint_model.specs.Pruned.{pruned_run, PrunedStep, PrunedFails, PrunedCalls}
+use Rattle.checkpoint_model.specs.PrunedLaws.{OnlySinksName, pruned_engine}
+use Rattle.checkpoint_model.proofs.PrunedSteps.{engine_steps_pruned}
 use Rattle.commit_sink.specs.Ledger.{Ledger, IsOrdered}
 use Rattle.job_state.specs.Held.{Held}
 use Rattle.core_model.specs.Goes.{Goes}
@@ -32,7 +32,7 @@ module _ {R K S O : Type 0} (lang : Language R K S O) (s : State O R K S) where
   Steps old new from to = RunningStep (job_of lang s) (is_logged_in s) lang.spelling old new from to
 
   abbrev pub HeldSteps : Engine R K S (List ℕ) → Engine R K S (List ℕ) → Type 0
-  HeldSteps old new = HeldStep (job_of lang s) (is_logged_in s) lang.spelling old new
+  HeldSteps old new = PrunedStep (job_of lang s) (is_logged_in s) lang.spelling old new
 
   abbrev pub up : Devices R K S (List ℕ) → Running R K S → Engine R K S (List ℕ)
   up devices run = record { devices = devices; running = Some run }
@@ -42,9 +42,9 @@ module _ {R K S O : Type 0} (lang : Language R K S O) (s : State O R K S) where
 
   -- a step of an engine that runs
   step_held : (h : Held R K S) (old : Engine R K S (List ℕ)) (run next : Running R K S) (new : Devices R K S (List ℕ)) → old.running ≡ Some run → run.named ≡ (run_of lang.cmp s.graph h).named → Steps old.devices new run next
-      → HeldSteps (held_engine old) (held_engine (up new next))
+      → HeldSteps (pruned_engine old) (pruned_engine (up new next))
   step_held h old run next new was names step =
-      engine_steps_held (job_of lang s) lang.spelling (is_logged_in s) old (up new next)
+      engine_steps_pruned (job_of lang s) lang.spelling (is_logged_in s) old (up new next)
       (λ other is. subst (OnlySinksName (job_of lang s)) (same_Some run other (sym was ∙ is)) (only_sinks h run names))
       (Runs run next was refl step)
 
@@ -54,10 +54,10 @@ module _ {R K S O : Type 0} (lang : Language R K S O) (s : State O R K S) where
 
     -- one step
     pub goes_one : (ledger : Ledger) (k : Held R K S) (n : ℕ) (next : Running R K S) → Steps (devices_of lang s) (devices_of lang (after ledger (Some k) n)) (run_of lang.cmp s.graph h) next
-        → held_run next ≡ held_run (run_of lang.cmp s.graph k) → Goes lang s (after ledger (Some k) n)
+        → pruned_run next ≡ pruned_run (run_of lang.cmp s.graph k) → Goes lang s (after ledger (Some k) n)
     goes_one ledger k n next step same =
         let new : Devices R K S (List ℕ) = devices_of lang (after ledger (Some k) n) in
-        (held_engine (up new next) ∷ [], (step_held h (engine_of lang s) (run_of lang.cmp s.graph h) next new was_running refl step, ap (λ r. up new r) (sym same)))
+        (pruned_engine (up new next) ∷ [], (step_held h (engine_of lang s) (run_of lang.cmp s.graph h) next new was_running refl step, ap (λ r. up new r) (sym same)))
 
     -- a step that leaves the devices, and another
     pub goes_two : (ledger : Ledger) (k : Held R K S) (n : ℕ) (middle : Running R K S) → middle.named ≡ (run_of lang.cmp s.graph h).named
@@ -67,7 +67,7 @@ module _ {R K S O : Type 0} (lang : Language R K S O) (s : State O R K S) where
         let new : Devices R K S (List ℕ) = devices_of lang (after ledger (Some k) n) in
         let between : Engine R K S (List ℕ) = up (devices_of lang s) middle in
         let to : Running R K S = run_of lang.cmp s.graph k in (
-          held_engine between ∷ held_engine (up new to) ∷ [],
+          pruned_engine between ∷ pruned_engine (up new to) ∷ [],
           (step_held h (engine_of lang s) (run_of lang.cmp s.graph h) middle (devices_of lang s) was_running refl first, (step_held h between middle to new refl names second, refl)),
         )
 
@@ -75,7 +75,7 @@ module _ {R K S O : Type 0} (lang : Language R K S O) (s : State O R K S) where
   pub goes_down_once : (ledger : Ledger) (n : ℕ) (call : Call R K S (List ℕ)) → Does call (devices_of lang s) (devices_of lang (after ledger None n)) → Goes lang s (after ledger None n)
   goes_down_once ledger n call does =
       let new : Devices R K S (List ℕ) = devices_of lang (after ledger None n) in
-      (down (devices_of lang s) ∷ down new ∷ [], (HeldFails refl refl, (HeldCalls call refl refl does, refl)))
+      (down (devices_of lang s) ∷ down new ∷ [], (PrunedFails refl refl, (PrunedCalls call refl refl does, refl)))
 
   -- two calls of it
   pub goes_down_twice : (between ledger : Ledger) (n : ℕ) (first second : Call R K S (List ℕ)) → Does first (devices_of lang s) (devices_of lang (after between None n)) → Does second (devices_of lang (after between None n)) (devices_of lang (after ledger None n))
@@ -83,7 +83,7 @@ module _ {R K S O : Type 0} (lang : Language R K S O) (s : State O R K S) where
   goes_down_twice between ledger n first second one two =
       let middle : Devices R K S (List ℕ) = devices_of lang (after between None n) in
       let new : Devices R K S (List ℕ) = devices_of lang (after ledger None n) in
-      (down (devices_of lang s) ∷ down middle ∷ down new ∷ [], (HeldFails refl refl, (HeldCalls first refl refl one, (HeldCalls second refl refl two, refl))))
+      (down (devices_of lang s) ∷ down middle ∷ down new ∷ [], (PrunedFails refl refl, (PrunedCalls first refl refl one, (PrunedCalls second refl refl two, refl))))
 
 module _ {R K S O : Type 0} (lang : Language R K S O) (RecordFits : R → Type 0) (IsGood : O → S → Type 0) (s : State O R K S) (keeps : Keeps lang RecordFits IsGood s) where
   -- the steps keep what every engine keeps, where the store stays

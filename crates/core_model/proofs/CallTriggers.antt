@@ -1,8 +1,8 @@
 -- A checkpoint begins, as a call of the engine.
 use Rattle.std.proofs.Common.{◌≡◌, ◌≤◌, inl, inr, MatchOption, Option, Some, None, Result, Ok, Err, is_some, slice_get, ℕ, true, false, refl, sym, ap, subst, ◌∙◌}
 use Rattle.checkpoint_model.specs.Headline.{TriggersACheckpoint, DiscardsParts}
-use Rattle.checkpoint_model.specs.Held.{held_run}
-use Rattle.checkpoint_model.proofs.HeldViews.{held_twice}
+use Rattle.checkpoint_model.specs.Pruned.{pruned_run}
+use Rattle.checkpoint_model.proofs.PrunedViews.{pruned_twice}
 use Rattle.job_state.specs.Held.{Held, with_started}
 use Rattle.snapshot_store.specs.Store.{Stored, IsNumbered, is_complete, reserved}
 use Rattle.core_model.specs.Language.{Language}
@@ -46,7 +46,7 @@ module _ {R K S O : Type 0} (lang : Language R K S O) (RecordFits : R → Type 0
         let to = run_started lang.cmp s.graph h tidy.next (run_of lang.cmp s.graph h) in
         let more : Goes lang (after s (Some h) tidy s.ledger n) (after s (Some (with_started s.stored.next h)) (reserved tidy) s.ledger n) =
         goes_by lang (after s (Some h) tidy s.ledger n) h (with_started s.stored.next h) (reserved tidy) s.ledger n to refl
-        (sym (held_twice to) ∙ ap held_run (held_started lang.cmp s.graph h tidy.next ∙ ap (λ m. run_of lang.cmp s.graph (with_started m h)) (tidied_next h.coordination.last_complete s.stored)))
+        (sym (pruned_twice to) ∙ ap pruned_run (held_started lang.cmp s.graph h tidy.next ∙ ap (λ m. run_of lang.cmp s.graph (with_started m h)) (tidied_next h.coordination.last_complete s.stored)))
         (TriggersACheckpoint (engine_triggers lang s h tidy (λ t. transactions_at s.ledger (slice_get s.graph.tasks t)) (run_of lang.cmp s.graph h) (ap is_some none_pending) (numbered_tidied h.coordination.last_complete s.stored keeps.numbered))) in
         goes_on lang s (Some h) tidy s.ledger n (after s (Some (with_started s.stored.next h)) (reserved tidy) s.ledger n) (tidies n) more
 

@@ -6,7 +6,7 @@ use Rattle.std.proofs.lemmas.List.Sums.{sum_by-cons}
 use Rattle.checkpoint_model.specs.Durable as durable
 use Rattle.checkpoint_model.specs.Durable.{AreLast, transactions_of, numbers_of, IsSink, PreCommits, Commits, ChangesSink, SinkTransactions}
 use Rattle.checkpoint_model.specs.Engine.{Running, IsSound}
-use Rattle.checkpoint_model.specs.Held.{IsHeldSound, held_run, held_running}
+use Rattle.checkpoint_model.specs.Pruned.{IsPrunedSound, pruned_run, pruned_running}
 use Rattle.checkpoint_model.proofs.Restarting.{names_settled}
 use Rattle.commit_sink.specs.Ledger.{Ledger}
 use Rattle.commit_sink.specs.Sink.{Sinking, names_with_open}
@@ -166,13 +166,13 @@ pub is_sink_task : {R K S O : Type 0} (lang : Language R K S O) (s : State O R K
 is_sink_task lang s task subtask is = get_in_map (task_of s.operators) s.graph.tasks task (Sink subtask) is
 
 -- The engine is down: what the last complete checkpoint's part of a sink names is what may be committed.
-pub names_in : {R K S O : Type 0} (lang : Language R K S O) (s : State O R K S) (front : List ℕ) (n task subtask : ℕ) (part : durable.Part R K S) → IsHeldSound (job_of lang s) (is_logged_in s) lang.spelling (devices_of lang s) None
+pub names_in : {R K S O : Type 0} (lang : Language R K S O) (s : State O R K S) (front : List ℕ) (n task subtask : ℕ) (part : durable.Part R K S) → IsPrunedSound (job_of lang s) (is_logged_in s) lang.spelling (devices_of lang s) None
     → (devices_of lang s).store.line ≡ front ++ n ∷ [] → slice_get s.graph.tasks task ≡ Some (Sink subtask) → (devices_of lang s).store.parts n task ≡ Some part
     → NamedIn (devices_of lang s).store.line part.names s.ledger subtask
-names_in {R} {K} {S} {O} lang s front n task subtask part sound last is copy = by sound.running sound.is_held sound.sound
+names_in {R} {K} {S} {O} lang s front n task subtask part sound last is copy = by sound.running sound.is_pruned sound.sound
   where
-    by : (running : Option (Running R K S)) → held_running running ≡ None → IsSound (job_of lang s) (is_logged_in s) lang.spelling (devices_of lang s) running → NamedIn (devices_of lang s).store.line part.names s.ledger subtask
+    by : (running : Option (Running R K S)) → pruned_running running ≡ None → IsSound (job_of lang s) (is_logged_in s) lang.spelling (devices_of lang s) running → NamedIn (devices_of lang s).store.line part.names s.ledger subtask
     by None down whole =
         named_from s.graph task subtask is (devices_of lang s).store.line part.names s.ledger
         (names_settled (job_of lang s) lang.spelling (is_logged_in s) (devices_of lang s) front n task part whole last (is_sink_task lang s task subtask is) copy)
-    by (Some run) down whole = absurd (none-some (held_run run) (sym down))
+    by (Some run) down whole = absurd (none-some (pruned_run run) (sym down))

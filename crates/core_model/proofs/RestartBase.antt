@@ -11,7 +11,7 @@ use Rattle.checkpoint_model.specs.Attempt.{started}
 use Rattle.checkpoint_model.specs.Durable as durable
 use Rattle.checkpoint_model.specs.Durable.{IsSink, IsCutOf, is_on}
 use Rattle.checkpoint_model.specs.Engine.{Running}
-use Rattle.checkpoint_model.specs.Held.{held, held_run, held_start}
+use Rattle.checkpoint_model.specs.Pruned.{pruned, pruned_run, pruned_start}
 use Rattle.checkpoint_model.specs.Seen.{IsSeenRestored}
 use Rattle.commit_sink.specs.Ledger.{Ledger}
 use Rattle.dataflow_model.specs.Graph.{Task, SinkTask}
@@ -170,11 +170,11 @@ module _ {R K S O : Type 0} (lang : Language R K S O) (KeyFits : K → Type 0) (
   k = begun s.graph tasks (openings_of starts) last
 
   -- the attempt begins there
-  pub begins_there : held_run (run_of lang.cmp s.graph k) ≡ held_start base
+  pub begins_there : pruned_run (run_of lang.cmp s.graph k) ≡ pruned_start base
   begins_there =
       let plainly : (λ number. map plain_item (items_at k.channels number)) ≡ (λ number. map attempt.Record (base.channels number)) =
       fun_ext (λ number. ap (map plain_item) (channels_are lang KeyFits RecordFits IsGood s.graph s.operators s.partitions s.stored old new last starts are tasks take number) ∙ plain_records (opened (openings_of starts) number)) in
-      ap (λ (f : ℕ → List (attempt.Item R)). (let x : Running R K S = record { attempt = record (held (started base)) { channels = f }; number = 0; named = λ task. [] } in x)) plainly
+      ap (λ (f : ℕ → List (attempt.Item R)). (let x : Running R K S = record { attempt = record (pruned (started base)) { channels = f }; number = 0; named = λ task. [] } in x)) plainly
 
   abbrev at_task : (task : ℕ) (r : Role) → slice_get s.graph.tasks task ≡ Some r → Started lang KeyFits RecordFits IsGood s.graph s.operators s.partitions s.stored old new last starts are tasks take task r
   at_task task r is = task_started lang KeyFits RecordFits IsGood s.graph s.operators s.partitions s.stored old new last starts are tasks take task r is

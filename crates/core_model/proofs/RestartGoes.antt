@@ -7,7 +7,7 @@ use Rattle.checkpoint_model.specs.Durable as durable
 use Rattle.checkpoint_model.specs.Durable.{Commits, AbortsOpen, AbortsPreCommitted, Call, Begin, Commit, AbortOpen, AbortPreCommitted, Does}
 use Rattle.checkpoint_model.specs.EngineLaws.{IsSettled}
 use Rattle.checkpoint_model.specs.Headline.{Engine}
-use Rattle.checkpoint_model.specs.Held.{HeldCalls, HeldLeads}
+use Rattle.checkpoint_model.specs.Pruned.{PrunedCalls, PrunedLeads}
 use Rattle.commit_sink.specs.Ledger.{Ledger, IsOrdered, unsettled_of}
 use Rattle.job_graph.specs.Expanded.{IsExpanded}
 use Rattle.job_graph.specs.declared.role.Role.{Role}
@@ -40,7 +40,7 @@ module _ {R K S O : Type 0} (lang : Language R K S O) (s : State O R K S) (expan
 
   -- it goes from one to the other by calls of its devices
   abbrev pub GoesDown : Ledger → Ledger → Type 0
-  GoesDown old new = (engines : List (Engine R K S (List ℕ))) × HeldLeads (job_of lang s) (is_logged_in s) lang.spelling (down_with old) engines (down_with new)
+  GoesDown old new = (engines : List (Engine R K S (List ℕ))) × PrunedLeads (job_of lang s) (is_logged_in s) lang.spelling (down_with old) engines (down_with new)
 
   pub down_stays : (old new : Ledger) → new ≡ old → GoesDown old new
   down_stays old new e = ([], ap down_with e)
@@ -52,7 +52,7 @@ module _ {R K S O : Type 0} (lang : Language R K S O) (s : State O R K S) (expan
   )
 
   down_by : (call : Call R K S (List ℕ)) (old new : Ledger) → Does call (devices_with lang s.graph s.stored old) (devices_with lang s.graph s.stored new) → GoesDown old new
-  down_by call old new does = (down_with new ∷ [], (HeldCalls call refl refl does, refl))
+  down_by call old new does = (down_with new ∷ [], (PrunedCalls call refl refl does, refl))
 
   abbrev line : List ℕ
   line = line_of s.stored

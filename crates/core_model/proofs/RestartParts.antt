@@ -6,7 +6,7 @@ use Rattle.abs_codec.specs.Entries.{value_at}
 use Rattle.checkpoint_model.specs.Durable as durable
 use Rattle.checkpoint_model.specs.Durable.{HasParts, IsCutOf, Succeed, last_from}
 use Rattle.checkpoint_model.specs.Engine.{IsSound}
-use Rattle.checkpoint_model.specs.Held.{IsHeldSound}
+use Rattle.checkpoint_model.specs.Pruned.{IsPrunedSound}
 use Rattle.dataflow_model.proofs.Runs.{join}
 use Rattle.dataflow_model.specs.Graph.{Job, SourceTask, OperatorTask}
 use Rattle.dataflow_model.specs.Machine.{Configuration, Move, Reaches, start}
@@ -74,7 +74,7 @@ module _ {R K S O : Type 0} (lang : Language R K S O) (RecordFits : R → Type 0
   abbrev job : Job R K S O
   job = job_of lang s
 
-  abbrev held_sound : IsHeldSound job (is_logged_in s) lang.spelling (devices_of lang s) None
+  abbrev held_sound : IsPrunedSound job (is_logged_in s) lang.spelling (devices_of lang s) None
   held_sound = sound lang KeyFits RecordFits (IsGoodState StateFits Suits) s keeps down fresh
 
   module _ (last : ℕ) (front : List ℕ) (line : line_of s.stored ≡ front ++ last ∷ []) where

@@ -6,10 +6,10 @@ use Rattle.checkpoint_model.specs.Durable.{IsSink}
 use Rattle.checkpoint_model.specs.Engine.{Running}
 use Rattle.checkpoint_model.specs.EngineLaws.{IsSettled}
 use Rattle.checkpoint_model.specs.Headline.{Engine}
-use Rattle.checkpoint_model.specs.Held.{held_run, held_running, held_start, IsHeldSound, HeldRestarts, HeldLeads}
-use Rattle.checkpoint_model.specs.HeldLaws.{held_engine}
+use Rattle.checkpoint_model.specs.Pruned.{pruned_run, pruned_running, pruned_start, IsPrunedSound, PrunedRestarts, PrunedLeads}
+use Rattle.checkpoint_model.specs.PrunedLaws.{pruned_engine}
 use Rattle.checkpoint_model.proofs.Cuts.{restarts_reached}
-use Rattle.checkpoint_model.proofs.Held.{held_sound}
+use Rattle.checkpoint_model.proofs.Pruned.{pruned_sound}
 use Rattle.commit_sink.specs.Ledger.{Ledger}
 use Rattle.job_graph.specs.declared.role.Role.{Role}
 use Rattle.job_graph.specs.declared.role.Role.TheVariants as role
@@ -42,8 +42,8 @@ module _ {R K S O : Type 0} (lang : Language R K S O) (KeyFits : K → Type 0) (
   abbrev AreAll : Option ℕ → List (Start R K S) → Type 0
   AreAll last starts = AreStarts lang KeyFits RecordFits IsGood s.graph s.operators s.partitions s.stored last starts
 
-  pub sound : IsHeldSound (job_of lang s) (is_logged_in s) lang.spelling (devices_of lang s) None
-  sound = subst (λ (o : Option (Held R K S)). IsHeldSound (job_of lang s) (is_logged_in s) lang.spelling (devices_of lang s) (held_running (option_map (run_of lang.cmp s.graph) o))) down (keeps.fresh fresh)
+  pub sound : IsPrunedSound (job_of lang s) (is_logged_in s) lang.spelling (devices_of lang s) None
+  sound = subst (λ (o : Option (Held R K S)). IsPrunedSound (job_of lang s) (is_logged_in s) lang.spelling (devices_of lang s) (pruned_running (option_map (run_of lang.cmp s.graph) o))) down (keeps.fresh fresh)
 
   -- what a sink's start names may be committed
   named : (last : Option ℕ) (starts : List (Start R K S)) → AreAll last starts → (k subtask : ℕ) (names : List ℕ) (logs : Logs R) → slice_get starts k ≡ Some (start.Sink subtask names logs) → NamedIn (line_of s.stored) names s.ledger subtask
@@ -74,8 +74,8 @@ module _ {R K S O : Type 0} (lang : Language R K S O) (KeyFits : K → Type 0) (
   }
 
   -- the engine that is down
-  was_down : held_engine (engine_of lang s) ≡ down_with lang s keeps.expanded s.ledger
-  was_down = λ i. record { devices = devices_of lang s; running = held_running (option_map (run_of lang.cmp s.graph) (down i)) }
+  was_down : pruned_engine (engine_of lang s) ≡ down_with lang s keeps.expanded s.ledger
+  was_down = λ i. record { devices = devices_of lang s; running = pruned_running (option_map (run_of lang.cmp s.graph) (down i)) }
 
   -- ---- refusals
 
@@ -102,7 +102,7 @@ module _ {R K S O : Type 0} (lang : Language R K S O) (KeyFits : K → Type 0) (
 
   module _ (ledger : Ledger) (n : ℕ) where
     down_goes : (f : CoreFault) → GoesDown lang s keeps.expanded s.ledger ledger → Goes lang s (restarted s ledger n (Err f))
-    down_goes f goes = (goes.0, subst (λ (e : Engine R K S (List ℕ)). HeldLeads (job_of lang s) (is_logged_in s) lang.spelling e goes.0 (down_with lang s keeps.expanded ledger)) (sym was_down) goes.1)
+    down_goes f goes = (goes.0, subst (λ (e : Engine R K S (List ℕ)). PrunedLeads (job_of lang s) (is_logged_in s) lang.spelling e goes.0 (down_with lang s keeps.expanded ledger)) (sym was_down) goes.1)
 
     module _ (last : Option ℕ) (k : Held R K S) (ends : EndsRestart lang KeyFits RecordFits IsGood s.graph s.operators s.partitions s.stored s.ledger ledger (Ok (last, k))) where
       calls : GoesDown lang s keeps.expanded s.ledger ledger × AreReady lang s keeps.expanded (length k.tasks) [] ledger
@@ -114,8 +114,8 @@ module _ {R K S O : Type 0} (lang : Language R K S O) (KeyFits : K → Type 0) (
       abbrev from_here : Rattle.dataflow_model.specs.Machine.Configuration R K S
       from_here = base lang KeyFits RecordFits IsGood s keeps.expanded keeps.operators keeps.numbered s.ledger ledger last ends.starts ends.are k.tasks ends.take
 
-      pub now_runs : held_run (run_of lang.cmp s.graph k) ≡ held_start from_here
-      now_runs = ap (λ (h : Held R K S). held_run (run_of lang.cmp s.graph h)) ends.ends ∙ begins_there lang KeyFits RecordFits IsGood s keeps.expanded keeps.operators keeps.numbered s.ledger ledger last ends.starts ends.are k.tasks ends.take
+      pub now_runs : pruned_run (run_of lang.cmp s.graph k) ≡ pruned_start from_here
+      now_runs = ap (λ (h : Held R K S). pruned_run (run_of lang.cmp s.graph h)) ends.ends ∙ begins_there lang KeyFits RecordFits IsGood s keeps.expanded keeps.operators keeps.numbered s.ledger ledger last ends.starts ends.are k.tasks ends.take
 
       all_settled : (task : ℕ) → IsSink (job_of lang s) task → IsSettled (transactions_at ledger (slice_get s.graph.tasks task))
       all_settled task is =
@@ -129,18 +129,18 @@ module _ {R K S O : Type 0} (lang : Language R K S O) (KeyFits : K → Type 0) (
       start_reached =
           let first = calls.0 in
           let receivers = receiver-graph_of s.graph s.operators keeps.expanded in
-          let now = held_sound (job_of lang s) lang.spelling (is_logged_in s) first.0 (down_with lang s keeps.expanded s.ledger) (down_with lang s keeps.expanded ledger) receivers first.1 sound in
+          let now = pruned_sound (job_of lang s) lang.spelling (is_logged_in s) first.0 (down_with lang s keeps.expanded s.ledger) (down_with lang s keeps.expanded ledger) receivers first.1 sound in
           restarts_reached (job_of lang s) lang.spelling (is_logged_in s) (devices_with lang s.graph s.stored ledger) from_here receivers all_settled now
           (seen_restored lang KeyFits RecordFits IsGood s keeps.expanded keeps.operators keeps.numbered s.ledger ledger last ends.starts ends.are k.tasks ends.take)
 
       pub ok_goes : Goes lang s (restarted s ledger n (Ok (last, k)))
       ok_goes =
           let down_now = down_with lang s keeps.expanded ledger in
-          let up = held_engine (engine_of lang (restarted s ledger n (Ok (last, k)))) in
-          let step = HeldRestarts from_here refl all_settled (seen_restored lang KeyFits RecordFits IsGood s keeps.expanded keeps.operators keeps.numbered s.ledger ledger last ends.starts ends.are k.tasks ends.take) refl (ap (λ (r : Running R K S). Some r) now_runs) in
+          let up = pruned_engine (engine_of lang (restarted s ledger n (Ok (last, k)))) in
+          let step = PrunedRestarts from_here refl all_settled (seen_restored lang KeyFits RecordFits IsGood s keeps.expanded keeps.operators keeps.numbered s.ledger ledger last ends.starts ends.are k.tasks ends.take) refl (ap (λ (r : Running R K S). Some r) now_runs) in
           let first = calls.0 in
-          let from_s = subst (λ (e : Engine R K S (List ℕ)). HeldLeads (job_of lang s) (is_logged_in s) lang.spelling e first.0 down_now) (sym was_down) first.1 in
-          (first.0 ++ up ∷ [], leads_on (job_of lang s) (is_logged_in s) lang.spelling first.0 (up ∷ []) (held_engine (engine_of lang s)) down_now up from_s (step, refl))
+          let from_s = subst (λ (e : Engine R K S (List ℕ)). PrunedLeads (job_of lang s) (is_logged_in s) lang.spelling e first.0 down_now) (sym was_down) first.1 in
+          (first.0 ++ up ∷ [], leads_on (job_of lang s) (is_logged_in s) lang.spelling first.0 (up ∷ []) (pruned_engine (engine_of lang s)) down_now up from_s (step, refl))
 
     pub restart_goes : (result : Result (Option ℕ × Held R K S) CoreFault) → EndsRestart lang KeyFits RecordFits IsGood s.graph s.operators s.partitions s.stored s.ledger ledger result → Goes lang s (restarted s ledger n result)
     restart_goes (Ok x) ends = ok_goes x.0 x.1 ends

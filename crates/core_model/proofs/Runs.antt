@@ -9,7 +9,7 @@ use Rattle.checkpoint_model.specs.Attempt.{Attempt}
 use Rattle.checkpoint_model.specs.Engine.{Running}
 use Rattle.checkpoint_model.specs.EngineLaws.{with_attempt}
 use Rattle.checkpoint_model.specs.Headline.{RunningStep, MovesPlainly, TakesABarrier, CopiesATask}
-use Rattle.checkpoint_model.proofs.HeldViews.{same_run}
+use Rattle.checkpoint_model.proofs.PrunedViews.{same_run}
 use Rattle.dataflow_model.specs.Graph.{Outcome, Task, SourceTask, OperatorTask, SinkTask}
 use Rattle.dataflow_model.specs.Machine.{Read, Work, state_under}
 use Rattle.job_graph.specs.Expanded.{IsExpanded}

@@ -1,9 +1,9 @@
 -- A sound engine keeps what a fresh one keeps.
 use Rattle.std.proofs.Common.{◌≡◌, MatchOption, Option, Some, None, ℕ, List, false, true, refl, sym, subst}
 use Rattle.std.specs.Option.{option_map}
-use Rattle.checkpoint_model.specs.Held.{held_running, IsHeldSound}
-use Rattle.checkpoint_model.specs.HeldLaws.{held_engine}
-use Rattle.checkpoint_model.proofs.Held.{held_growth}
+use Rattle.checkpoint_model.specs.Pruned.{pruned_running, IsPrunedSound}
+use Rattle.checkpoint_model.specs.PrunedLaws.{pruned_engine}
+use Rattle.checkpoint_model.proofs.Pruned.{pruned_growth}
 use Rattle.commit_sink.specs.Ledger.{Ledger}
 use Rattle.job_graph.specs.Expanded.{Expanded}
 use Rattle.job_state.specs.Held.{Held}
@@ -19,7 +19,7 @@ module _ {R K S O : Type 0} (lang : Language R K S O) (RecordFits : R → Type 0
   -- an engine that is down is sound exactly where its devices are legal
   pub down_is_sound : s.held ≡ None → AreLegal lang RecordFits s.graph s.operators s.partitions s.stored s.ledger → IsSound lang RecordFits s
   down_is_sound down legal = record {
-    tells = subst (λ (o : Option (Held R K S)). IsHeldSound (job_of lang s) (is_logged_in s) lang.spelling (devices_of lang s) (held_running (option_map (run_of lang.cmp s.graph) o))) (sym down) legal.tells;
+    tells = subst (λ (o : Option (Held R K S)). IsPrunedSound (job_of lang s) (is_logged_in s) lang.spelling (devices_of lang s) (pruned_running (option_map (run_of lang.cmp s.graph) o))) (sym down) legal.tells;
     whole = legal.whole;
     formed = legal.formed;
   }
@@ -33,7 +33,7 @@ pub grown_is_legal : {R K S O : Type 0} (lang : Language R K S O) (RecordFits : 
 grown_is_legal {R} {K} {S} {O} lang RecordFits graph operators former partitions stored ledger grown legal =
     let s : State O R K S = record { graph = graph; operators = operators; partitions = former; stored = stored; ledger = ledger; held = None; is_fresh = false; faults = 0; attempts = 0 } in
     record {
-      tells = held_growth (job_of lang s) lang.spelling (is_logged_in s) (λ p. records_at partitions p) (held_engine (engine_of lang s)) grown legal.tells;
+      tells = pruned_growth (job_of lang s) lang.spelling (is_logged_in s) (λ p. records_at partitions p) (pruned_engine (engine_of lang s)) grown legal.tells;
       whole = legal.whole;
       formed = legal.formed;
     }

@@ -8,7 +8,7 @@ use Rattle.checkpoint_model.specs.Durable as durable
 use Rattle.checkpoint_model.specs.Durable.{Devices, SinkTransactions, HasParts}
 use Rattle.checkpoint_model.specs.Engine.{Running}
 use Rattle.checkpoint_model.specs.EngineLaws.{with_attempt, EngineTriggers, EngineDiscards, EnginePersists, EngineCompletes}
-use Rattle.checkpoint_model.specs.Held.{held_run}
+use Rattle.checkpoint_model.specs.Pruned.{pruned_run}
 use Rattle.checkpoint_model.specs.Seen.{without_output}
 use Rattle.checkpoint_model.proofs.Seen.{same_attempt}
 use Rattle.coordinator.specs.Coordinator.{IsReady}
@@ -74,27 +74,27 @@ module _ {R K S : Type 0} (cmp : K → K → Ordering) where
 
   module _ (graph : Expanded) (h : Held R K S) where
     -- while a checkpoint is pending, a run is held whole
-    pub held_pending : (n : ℕ) → h.coordination.pending ≡ Some n → held_run (run_of cmp graph h) ≡ run_of cmp graph h
+    pub held_pending : (n : ℕ) → h.coordination.pending ≡ Some n → pruned_run (run_of cmp graph h) ≡ run_of cmp graph h
     held_pending n is =
         let yes_pending : is_some h.coordination.pending ≡ true = ap is_some is in
         let run = run_of cmp graph h in
-        let attempts : (held_run run).attempt ≡ run.attempt =
-        same_attempt (held_run run).attempt run.attempt (λ t. bare (slice_get h.tasks t)) (λ c. refl) refl
+        let attempts : (pruned_run run).attempt ≡ run.attempt =
+        same_attempt (pruned_run run).attempt run.attempt (λ t. bare (slice_get h.tasks t)) (λ c. refl) refl
         (λ t. ap (λ (b : Bool). b && is_some (copy_at h t)) yes_pending) (λ t. bare_copy (is_some h.coordination.pending) (copy_at h t) yes_pending)
         (λ c. ap (λ (b : Bool). b && came_at h c) yes_pending) (λ c. ap (λ (b : Bool). if b then logged_at h c else []) yes_pending) in
-        let number : (held_run run).number ≡ run.number = ap (λ (b : Bool). if b then run.number else 0) yes_pending in
-        let named : (held_run run).named ≡ run.named = fun_ext (λ t. named_copy (is_some h.coordination.pending) (slice_get graph.tasks t) (copy_at h t) yes_pending) in
+        let number : (pruned_run run).number ≡ run.number = ap (λ (b : Bool). if b then run.number else 0) yes_pending in
+        let named : (pruned_run run).named ≡ run.named = fun_ext (λ t. named_copy (is_some h.coordination.pending) (slice_get graph.tasks t) (copy_at h t) yes_pending) in
         λ i. record { attempt = attempts i; number = number i; named = named i }
 
     -- the run of which the checkpoint is complete
     abbrev pub run_completed : Running R K S → Running R K S
     run_completed run = with_attempt (record run.attempt { pending = false }) run
 
-    pub held_completed : (n : ℕ) → held_run (run_completed (run_of cmp graph h)) ≡ run_of cmp graph (with_completed n h)
+    pub held_completed : (n : ℕ) → pruned_run (run_completed (run_of cmp graph h)) ≡ run_of cmp graph (with_completed n h)
     held_completed n =
         let k : Held R K S = with_completed n h in
         let none : (t : ℕ) → copy_at k t ≡ None = λ t. same_each None (length h.copies) t in
-        let old : Running R K S = held_run (run_completed (run_of cmp graph h)) in
+        let old : Running R K S = pruned_run (run_completed (run_of cmp graph h)) in
         let new : Running R K S = run_of cmp graph k in
         let attempts : old.attempt ≡ new.attempt =
         same_attempt old.attempt new.attempt (λ t. bare (slice_get h.tasks t)) (λ c. refl) refl (λ t. sym (ap is_some (none t)))
@@ -107,11 +107,11 @@ module _ {R K S : Type 0} (cmp : K → K → Ordering) where
     run_started n run = record { attempt = record run.attempt { pending = true; copied = λ task. false; came = λ channel. false; logs = λ channel. [] }; number = n; named = run.named }
 
     held_begun : (n : ℕ) (run : Running R K S) → ((t : ℕ) → without_output (run.attempt.tasks t) ≡ held_state cmp (slice_get h.tasks t)) → run.attempt.channels ≡ (run_of cmp graph h).attempt.channels
-        → held_run (run_started n run) ≡ run_of cmp graph (with_started n h)
+        → pruned_run (run_started n run) ≡ run_of cmp graph (with_started n h)
     held_begun n run tasks channels =
         let k : Held R K S = with_started n h in
         let none : (t : ℕ) → copy_at k t ≡ None = λ t. same_each None (length h.copies) t in
-        let old : Running R K S = held_run (run_started n run) in
+        let old : Running R K S = pruned_run (run_started n run) in
         let new : Running R K S = run_of cmp graph k in
         let attempts : old.attempt ≡ new.attempt =
         same_attempt old.attempt new.attempt tasks (λ c. ap (λ (f : ℕ → List (attempt.Item R)). f c) channels) refl (λ t. sym (ap is_some (none t)))
@@ -119,12 +119,12 @@ module _ {R K S : Type 0} (cmp : K → K → Ordering) where
         let named : old.named ≡ new.named = fun_ext (λ t. none_named (slice_get graph.tasks t) (copy_at k t) (none t)) in
         λ i. record { attempt = attempts i; number = n; named = named i }
 
-    pub held_started : (n : ℕ) → held_run (run_started n (run_of cmp graph h)) ≡ run_of cmp graph (with_started n h)
+    pub held_started : (n : ℕ) → pruned_run (run_started n (run_of cmp graph h)) ≡ run_of cmp graph (with_started n h)
     held_started n = held_begun n (run_of cmp graph h) (λ t. bare (slice_get h.tasks t)) refl
 
     -- and so where the run itself is only held
-    pub held_started_held : (n : ℕ) → held_run (run_started n (held_run (run_of cmp graph h))) ≡ run_of cmp graph (with_started n h)
-    held_started_held n = held_begun n (held_run (run_of cmp graph h)) (λ t. bare (slice_get h.tasks t)) refl
+    pub held_started_held : (n : ℕ) → pruned_run (run_started n (pruned_run (run_of cmp graph h))) ≡ run_of cmp graph (with_started n h)
+    held_started_held n = held_begun n (pruned_run (run_of cmp graph h)) (λ t. bare (slice_get h.tasks t)) refl
 
 -- ---- the steps
 

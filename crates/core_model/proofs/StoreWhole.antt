@@ -7,10 +7,10 @@ use Rattle.dataflow_model.specs.Graph.{Task, SourceTask, OperatorTask, SinkTask,
 use Rattle.checkpoint_model.specs.Durable.{Part, Store, Devices, is_on, HasParts, Call, Reserve, Put, Discard, Begin, Append, PreCommit, Commit, AbortOpen, AbortPreCommitted, Does, reserved, with_part, without_below, with_complete, new_devices}
 use Rattle.checkpoint_model.specs.Engine.{Running}
 use Rattle.checkpoint_model.specs.Headline.{Engine, RunningStep, MovesPlainly, TakesABarrier, CopiesATask, TriggersACheckpoint, DiscardsParts, PersistsAPart, CompletesACheckpoint, CommitsATransaction}
-use Rattle.checkpoint_model.specs.Held.{IsHeldSound, HeldStep, HeldRuns, HeldFails, HeldCalls, HeldRestarts, HeldLeads}
+use Rattle.checkpoint_model.specs.Pruned.{IsPrunedSound, PrunedStep, PrunedRuns, PrunedFails, PrunedCalls, PrunedRestarts, PrunedLeads}
 use Rattle.checkpoint_model.specs.Laws.{HasReceivers}
-use Rattle.checkpoint_model.proofs.Held.{held_sound}
-use Rattle.checkpoint_model.proofs.HeldReached.{whole}
+use Rattle.checkpoint_model.proofs.Pruned.{pruned_sound}
+use Rattle.checkpoint_model.proofs.PrunedReached.{whole}
 use Rattle.checkpoint_model.proofs.Lines.{off_above}
 use Rattle.core_model.specs.Keeps.{AllOrNone}
 
@@ -122,7 +122,7 @@ module _ {R K S O B : Type 0} (job : Job R K S O) (is_logged : ℕ → Bool) (sp
   call_whole (AbortPreCommitted task) old new d all = store_is old new old.store d.store all
 
   -- the pending checkpoint is not complete
-  number_off : (devices : Devices R K S B) (run : Running R K S) → IsHeldSound job is_logged spell devices (Some run) → run.attempt.pending ≡ true → is_on devices.store.line run.number ≡ false
+  number_off : (devices : Devices R K S B) (run : Running R K S) → IsPrunedSound job is_logged spell devices (Some run) → run.attempt.pending ≡ true → is_on devices.store.line run.number ≡ false
   number_off devices run sound pending =
       let w = whole job is_logged spell devices run sound in
       let full : Running R K S = w.0 in
@@ -130,14 +130,14 @@ module _ {R K S O B : Type 0} (job : Job R K S O) (is_logged : ℕ → Bool) (sp
       let same : run.number ≡ full.number = ap (λ (r : Running R K S). r.number) (sym w.1) ∙ ap (λ (b : Bool). if b then full.number else 0) full_pending in
       ap (is_on devices.store.line) same ∙ off_above devices.store.line full.number (w.2.runs.above full_pending)
 
-  step_whole : (old new : Engine R K S B) → HeldStep job is_logged spell old new → IsHeldSound job is_logged spell old.devices old.running → Whole old.devices → Whole new.devices
-  step_whole old new (HeldRuns run middle was is step) sound all =
-      running_whole old.devices new.devices run middle step (number_off old.devices run (subst (IsHeldSound job is_logged spell old.devices) was sound)) all
-  step_whole old new (HeldFails down same) sound all = same_devices old.devices new.devices same all
-  step_whole old new (HeldCalls call was down does) sound all = call_whole call old.devices new.devices does all
-  step_whole old new (HeldRestarts base down settled restored same up) sound all = same_devices old.devices new.devices same all
+  step_whole : (old new : Engine R K S B) → PrunedStep job is_logged spell old new → IsPrunedSound job is_logged spell old.devices old.running → Whole old.devices → Whole new.devices
+  step_whole old new (PrunedRuns run middle was is step) sound all =
+      running_whole old.devices new.devices run middle step (number_off old.devices run (subst (IsPrunedSound job is_logged spell old.devices) was sound)) all
+  step_whole old new (PrunedFails down same) sound all = same_devices old.devices new.devices same all
+  step_whole old new (PrunedCalls call was down does) sound all = call_whole call old.devices new.devices does all
+  step_whole old new (PrunedRestarts base down settled restored same up) sound all = same_devices old.devices new.devices same all
 
-  pub steps_whole : (engines : List (Engine R K S B)) (old new : Engine R K S B) → HasReceivers job → HeldLeads job is_logged spell old engines new → IsHeldSound job is_logged spell old.devices old.running → Whole old.devices → Whole new.devices
+  pub steps_whole : (engines : List (Engine R K S B)) (old new : Engine R K S B) → HasReceivers job → PrunedLeads job is_logged spell old engines new → IsPrunedSound job is_logged spell old.devices old.running → Whole old.devices → Whole new.devices
   steps_whole [] old new receivers same sound all = subst (λ (e : Engine R K S B). Whole e.devices) (sym same) all
   steps_whole (next ∷ engines) old new receivers leads sound all =
-      steps_whole engines next new receivers leads.1 (held_sound job spell is_logged (next ∷ []) old next receivers (leads.0, refl) sound) (step_whole old next leads.0 sound all)
+      steps_whole engines next new receivers leads.1 (pruned_sound job spell is_logged (next ∷ []) old next receivers (leads.0, refl) sound) (step_whole old next leads.0 sound all)

@@ -13,7 +13,7 @@ use Rattle.channels.specs.declared.item.Item.{Item}
 use Rattle.channels.specs.declared.item.Item.TheVariants.{Record, Barrier}
 use Rattle.checkpoint_model.specs.Durable as durable
 use Rattle.checkpoint_model.specs.Durable.{Transaction, AreLast, transactions_of, SinkTransactions, is_on, HasParts}
-use Rattle.checkpoint_model.specs.Held.{held_running, IsHeldSound}
+use Rattle.checkpoint_model.specs.Pruned.{pruned_running, IsPrunedSound}
 use Rattle.checkpoint_model.specs.Book as book
 use Rattle.commit_sink.specs.Ledger as ledgers
 use Rattle.commit_sink.specs.Ledger.{Ledger, IsOrdered, transaction_at}
@@ -210,6 +210,6 @@ pub record Keeps {R K S O : Type 0} (lang : Language R K S O) (RecordFits : R �
   pub ordered : IsOrdered s.ledger
   pub shape : MatchOption s.held (Unit {0}) (Shape lang.cmp RecordFits IsGood s.graph s.operators)
   pub runs : MatchOption s.held (Unit {0}) (RunsIn lang s)
-  pub fresh : s.is_fresh ≡ true → IsHeldSound (job_of lang s) (is_logged_in s) lang.spelling (devices_of lang s) (held_running (running_of lang s))
+  pub fresh : s.is_fresh ≡ true → IsPrunedSound (job_of lang s) (is_logged_in s) lang.spelling (devices_of lang s) (pruned_running (running_of lang s))
   pub whole : s.is_fresh ≡ true → AllOrNone (job_of lang s) (store_of lang s.stored)
   pub formed : s.is_fresh ≡ true → PartsAreFormed lang RecordFits s.graph s.stored

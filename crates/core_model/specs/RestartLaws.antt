@@ -3,7 +3,7 @@ use Rattle.std.specs.Prelude.{◌≡◌, ℕ, List, length, map, slice_get, Opti
 use Rattle.std.specs.Ordering.{is_eq}
 use Rattle.std.specs.declared.cmp.Ordering.{Ordering}
 use Rattle.checkpoint_model.specs.Headline.{IsRestored}
-use Rattle.checkpoint_model.specs.Held.{held_run, held_start}
+use Rattle.checkpoint_model.specs.Pruned.{pruned_run, pruned_start}
 use Rattle.commit_sink.specs.Ledger.{Ledger, committed_rows}
 use Rattle.dataflow_model.specs.Graph.{Meaning}
 use Rattle.dataflow_model.specs.Machine.{Configuration, Move, Reaches, start}
@@ -38,7 +38,7 @@ module _ {R K S O : Type 0} where
     pub reached : Reaches (job_of lang s) moves start base
     pub restored : IsRestored (job_of lang s) lang.spelling (devices_of lang s) base
     pub outputs : (task subtask : ℕ) → slice_get s.graph.tasks task ≡ Some (role.Sink subtask) → map lang.spelling (base.tasks task).output ≡ committed_rows s.ledger subtask
-    pub holds : held_run (run_of lang.cmp s.graph k) ≡ held_start base
+    pub holds : pruned_run (run_of lang.cmp s.graph k) ≡ pruned_start base
     pub latest : IsLatest s.stored last
     pub committed : (task subtask : ℕ) → slice_get s.graph.tasks task ≡ Some (role.Sink subtask) → length (committed_of s.ledger subtask) ≡ length (complete_numbers s.stored)
 

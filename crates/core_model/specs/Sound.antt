@@ -1,6 +1,6 @@
 -- When an engine is sound, whatever devices it was opened over.
 use Rattle.std.specs.Prelude.{ℕ, List, None, false}
-use Rattle.checkpoint_model.specs.Held.{held_running, IsHeldSound}
+use Rattle.checkpoint_model.specs.Pruned.{pruned_running, IsPrunedSound}
 use Rattle.commit_sink.specs.Ledger.{Ledger}
 use Rattle.dataflow_model.specs.Graph.{Begins}
 use Rattle.job_graph.specs.Expanded.{Expanded}
@@ -14,7 +14,7 @@ use Rattle.core_model.specs.View.{job_of, is_logged_in, devices_of, running_of, 
 -- Its devices tell of one plain run with a moment for each complete checkpoint, and while it runs its attempt goes on from the last one; of each
 -- complete checkpoint the store has the parts of all tasks or none; and each part is what its task's role asks for.
 pub record IsSound {R K S O : Type 0} (lang : Language R K S O) (RecordFits : R → Type 0) (s : State O R K S) : Type 0 where
-  pub tells : IsHeldSound (job_of lang s) (is_logged_in s) lang.spelling (devices_of lang s) (held_running (running_of lang s))
+  pub tells : IsPrunedSound (job_of lang s) (is_logged_in s) lang.spelling (devices_of lang s) (pruned_running (running_of lang s))
   pub whole : AllOrNone (job_of lang s) (store_of lang s.stored)
   pub formed : PartsAreFormed lang RecordFits s.graph s.stored
 

@@ -3,8 +3,8 @@ use Rattle.std.proofs.Common.{◌≡◌, ◌⊎◌, inl, inr, Option, Some, Resu
 use Rattle.std.proofs.lemmas.Bool.Decides.{eqb_tells}
 use Rattle.std.proofs.lemmas.List.Elements.{All-head, All-same}
 use Rattle.std.proofs.lemmas.Option.{slice_get_within}
-use Rattle.checkpoint_model.specs.HeldLaws.{all_records}
-use Rattle.checkpoint_model.proofs.HeldSinks.{committed_records}
+use Rattle.checkpoint_model.specs.PrunedLaws.{all_records}
+use Rattle.checkpoint_model.proofs.PrunedSinks.{committed_records}
 use Rattle.checkpoint_model.proofs.Plain.{same_configuration}
 use Rattle.commit_sink.specs.Ledger.{Ledger, after_commit}
 use Rattle.commit_sink.specs.Sink.{Sinking}

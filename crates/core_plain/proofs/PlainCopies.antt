@@ -4,9 +4,9 @@ use Rattle.std.proofs.lemmas.Option.{slice_get_within}
 use Rattle.alignment.specs.declared.input.Effect.{Effect}
 use Rattle.checkpoint_model.specs.Attempt.{Attempt, bare}
 use Rattle.checkpoint_model.specs.Durable.{is_on}
-use Rattle.checkpoint_model.specs.HeldLaws.{all_records}
+use Rattle.checkpoint_model.specs.PrunedLaws.{all_records}
 use Rattle.checkpoint_model.proofs.Barriers.{others_leave}
-use Rattle.checkpoint_model.proofs.HeldSinks.{begun_records, pre_committed_records}
+use Rattle.checkpoint_model.proofs.PrunedSinks.{begun_records, pre_committed_records}
 use Rattle.commit_sink.specs.Ledger.{Ledger, begun}
 use Rattle.commit_sink.specs.Sink.{Sinking, names_with_open, pre_committed_last}
 use Rattle.job_graph.specs.declared.role.Role.{Role}

@@ -1,8 +1,8 @@
 -- What a running engine's data stand for is reached by the plain machine, and is one configuration.
 use Rattle.std.proofs.Common.{◌≡◌, MatchOption, Option, Some, None, true, List, sym, subst}
 use Rattle.checkpoint_model.specs.Headline.{SpellsOnce}
-use Rattle.checkpoint_model.specs.Held.{held_run}
-use Rattle.checkpoint_model.proofs.HeldRuns.{bare_is_one}
+use Rattle.checkpoint_model.specs.Pruned.{pruned_run}
+use Rattle.checkpoint_model.proofs.PrunedRuns.{bare_is_one}
 use Rattle.dataflow_model.specs.Machine.{Configuration, Move, Reaches, start}
 use Rattle.job_state.specs.Held.{Held}
 use Rattle.core_model.specs.Keeps.{Keeps}
@@ -25,4 +25,4 @@ module _ {R K S O : Type 0} (lang : Language R K S O) where
     where
       of : (o : Option (Held R K S)) → MatchOption o ⊥ (λ k. HoldsFor lang s k one) → MatchOption o ⊥ (λ k. HoldsFor lang s k other) → one ≡ other
       of None a b = absurd a
-      of (Some h) a b = bare_is_one (job_of lang s) lang.spelling (devices_of lang s) (held_run (run_of lang.cmp s.graph h)) one other once a b
+      of (Some h) a b = bare_is_one (job_of lang s) lang.spelling (devices_of lang s) (pruned_run (run_of lang.cmp s.graph h)) one other once a b

@@ -6,8 +6,8 @@ use Rattle.checkpoint_model.specs.Attempt.{bare}
 use Rattle.checkpoint_model.specs.Durable.{IsSink, Appends}
 use Rattle.checkpoint_model.specs.Engine.{Running}
 use Rattle.checkpoint_model.specs.EngineLaws.{EngineMoves, with_attempt}
-use Rattle.checkpoint_model.specs.Held.{held_run}
-use Rattle.checkpoint_model.specs.HeldLaws.{HasOneOpen}
+use Rattle.checkpoint_model.specs.Pruned.{pruned_run}
+use Rattle.checkpoint_model.specs.PrunedLaws.{HasOneOpen}
 use Rattle.commit_sink.specs.Ledger.{Ledger}
 use Rattle.dataflow_model.specs.Graph.{Task, OperatorTask, SinkTask}
 use Rattle.dataflow_model.specs.Machine.{Work}
@@ -109,10 +109,10 @@ module _ {R K S O : Type 0} (lang : Language R K S O) (RecordFits : R → Type 0
       ends = refl;
     }
 
-    same_held : bare (held_run next).attempt ≡ bare (held_run (run_of lang.cmp s.graph k)).attempt
+    same_held : bare (pruned_run next).attempt ≡ bare (pruned_run (run_of lang.cmp s.graph k)).attempt
     same_held =
         ap (λ (run : Running R K S). bare run.attempt) (put_held lang s h task subtask input channel at_task leads gate whole.logs ends.row)
-        ∙ ap (λ (x : Held R K S). bare (held_run (run_of lang.cmp s.graph x)).attempt) (sym ends.ends)
+        ∙ ap (λ (x : Held R K S). bare (pruned_run (run_of lang.cmp s.graph x)).attempt) (sym ends.ends)
 
     puts_out : StepsBy lang (Work task channel) s (after s (Some k) s.stored ledger n)
     puts_out =

@@ -6,9 +6,9 @@ use Rattle.checkpoint_model.specs.Attempt.{bare}
 use Rattle.checkpoint_model.specs.Durable.{IsSink}
 use Rattle.checkpoint_model.specs.Engine.{Running}
 use Rattle.checkpoint_model.specs.EngineLaws.{EngineMoves}
-use Rattle.checkpoint_model.specs.Held.{held_run}
-use Rattle.checkpoint_model.specs.HeldLaws.{HasOneOpen, all_records, IsBare}
-use Rattle.checkpoint_model.proofs.HeldPlain.{bare_of_held, plain_moves}
+use Rattle.checkpoint_model.specs.Pruned.{pruned_run}
+use Rattle.checkpoint_model.specs.PrunedLaws.{HasOneOpen, all_records, IsBare}
+use Rattle.checkpoint_model.proofs.PrunedPlain.{bare_of_pruned, plain_moves}
 use Rattle.commit_sink.specs.Ledger.{Ledger}
 use Rattle.dataflow_model.specs.Machine.{Configuration, Move, mover}
 use Rattle.job_graph.specs.Expanded.{IsExpanded}
@@ -27,7 +27,7 @@ use Rattle.core_plain.specs.Plain.{StandsFor, StepsBy, Stays}
 module _ {R K S O : Type 0} (lang : Language R K S O) where
   -- what the job holds stands for this
   abbrev pub HoldsFor : State O R K S → Held R K S → Configuration R K S → Type 0
-  HoldsFor new k at = IsBare (job_of lang new) lang.spelling (devices_of lang new) (held_run (run_of lang.cmp new.graph k)) at
+  HoldsFor new k at = IsBare (job_of lang new) lang.spelling (devices_of lang new) (pruned_run (run_of lang.cmp new.graph k)) at
 
 module _ {R K S O : Type 0} (lang : Language R K S O) (s : State O R K S) where
   -- the plain configuration of what the job holds, but for outputs
@@ -77,13 +77,13 @@ module _ {R K S O : Type 0} (lang : Language R K S O) (s : State O R K S) where
       -- a move of the model's engine that leads to the same holdings, but for outputs
       pub steps_by : (move : Move) (next : Running R K S) → EngineMoves (job_of lang s) lang.spelling move (devices_of lang s) (devices_of lang (after s (Some k) stored ledger n)) (run_of lang.cmp s.graph h) next
           → (IsSink (job_of lang s) (mover move) → HasOneOpen (transactions_at s.ledger (slice_get s.graph.tasks (mover move))))
-          → bare (held_run next).attempt ≡ bare (held_run (run_of lang.cmp s.graph k)).attempt → StepsBy lang move s (after s (Some k) stored ledger n)
+          → bare (pruned_run next).attempt ≡ bare (pruned_run (run_of lang.cmp s.graph k)).attempt → StepsBy lang move s (after s (Some k) stored ledger n)
       steps_by move next moves one same at stands =
           let job = job_of lang s in
           let new = devices_of lang (after s (Some k) stored ledger n) in
           let run = run_of lang.cmp s.graph h in
-          let d = plain_moves job lang.spelling move (devices_of lang s) new run next at moves one (bare_of_held job lang.spelling (devices_of lang s) run at (stands_at at stands)) in
-          let b : IsBare job lang.spelling new (held_run next) d.0 = d.2 in
+          let d = plain_moves job lang.spelling move (devices_of lang s) new run next at moves one (bare_of_pruned job lang.spelling (devices_of lang s) run at (stands_at at stands)) in
+          let b : IsBare job lang.spelling new (pruned_run next) d.0 = d.2 in
           let now : HoldsFor lang (after s (Some k) stored ledger n) k d.0 =
           record {
             offsets = λ task. b.offsets task ∙ ap (λ (c : Configuration R K S). (c.tasks task).offset) same;

@@ -1,7 +1,7 @@
 -- What an engine's data stand for in the plain machine, and what a call does to it.
 use Rattle.std.specs.Prelude.{Result, Ok, Err, MatchOption}
-use Rattle.checkpoint_model.specs.Held.{held_run}
-use Rattle.checkpoint_model.specs.HeldLaws.{IsBare}
+use Rattle.checkpoint_model.specs.Pruned.{pruned_run}
+use Rattle.checkpoint_model.specs.PrunedLaws.{IsBare}
 use Rattle.dataflow_model.specs.Machine.{Configuration, Move, Step}
 use Rattle.core_model.specs.declared.fault.CoreFault.{CoreFault}
 use Rattle.core_model.specs.Language.{Language}
@@ -12,7 +12,7 @@ module _ {R K S O : Type 0} where
   -- The job runs, and its data stand for this configuration of the plain machine: barriers are left out, and a sink's output is what stands in
   -- its transactions.
   abbrev pub StandsFor : Language R K S O → State O R K S → Configuration R K S → Type 0
-  StandsFor lang s at = MatchOption s.held ⊥ (λ h. IsBare (job_of lang s) lang.spelling (devices_of lang s) (held_run (run_of lang.cmp s.graph h)) at)
+  StandsFor lang s at = MatchOption s.held ⊥ (λ h. IsBare (job_of lang s) lang.spelling (devices_of lang s) (pruned_run (run_of lang.cmp s.graph h)) at)
 
   -- one plain step, this move, leads from what the old data stand for to what the new data stand for
   abbrev pub StepsBy : Language R K S O → Move → State O R K S → State O R K S → Type 0

@@ -11,7 +11,7 @@ use Rattle.channels.specs.declared.item.Item.{Item}
 use Rattle.channels.specs.declared.item.Item.TheVariants.{Record, Barrier}
 use Rattle.checkpoint_model.specs.Attempt.{records, count_barriers}
 use Rattle.checkpoint_model.specs.Engine.{Running, MayRun}
-use Rattle.checkpoint_model.specs.Held.{held_run, held_running}
+use Rattle.checkpoint_model.specs.Pruned.{pruned_run, pruned_running}
 use Rattle.claims.specs.Due.{IsWorker}
 use Rattle.dataflow_model.specs.Graph.{Task, SourceTask}
 use Rattle.dataflow_model.specs.Machine.{Configuration, Move, Read, Work, HasInputs, IsPossible}
@@ -78,13 +78,13 @@ module _ {R K S O : Type 0} (lang : Language R K S O) (RecordFits : R → Type 0
 
   -- no barrier stands anywhere
   none_stands : (channel : ℕ) → count_barriers (map plain_item (items_at h.channels channel)) ≡ 0
-  none_stands channel = of _ sound.tells.running sound.tells.is_held sound.tells.sound.runs
+  none_stands channel = of _ sound.tells.running sound.tells.is_pruned sound.tells.sound.runs
     where
-      same_run : (run : Running R K S) → held_running (Some run) ≡ held_running (running_of lang s) → held_run run ≡ held_run (run_of lang.cmp s.graph h)
-      same_run run e = same_Some (held_run run) (held_run (run_of lang.cmp s.graph h)) (e ∙ ap (λ (o : Option (Held R K S)). held_running (option_map (run_of lang.cmp s.graph) o)) was)
+      same_run : (run : Running R K S) → pruned_running (Some run) ≡ pruned_running (running_of lang s) → pruned_run run ≡ pruned_run (run_of lang.cmp s.graph h)
+      same_run run e = same_Some (pruned_run run) (pruned_run (run_of lang.cmp s.graph h)) (e ∙ ap (λ (o : Option (Held R K S)). pruned_running (option_map (run_of lang.cmp s.graph) o)) was)
 
-      of : (base : Configuration R K S) (o : Option (Running R K S)) → held_running o ≡ held_running (running_of lang s) → MayRun (job_of lang s) (is_logged_in s) lang.spelling base (devices_of lang s) o → count_barriers (map plain_item (items_at h.channels channel)) ≡ 0
-      of base None e runs = absurd (none-some (held_run (run_of lang.cmp s.graph h)) (e ∙ ap (λ (o : Option (Held R K S)). held_running (option_map (run_of lang.cmp s.graph) o)) was))
+      of : (base : Configuration R K S) (o : Option (Running R K S)) → pruned_running o ≡ pruned_running (running_of lang s) → MayRun (job_of lang s) (is_logged_in s) lang.spelling base (devices_of lang s) o → count_barriers (map plain_item (items_at h.channels channel)) ≡ 0
+      of base None e runs = absurd (none-some (pruned_run (run_of lang.cmp s.graph h)) (e ∙ ap (λ (o : Option (Held R K S)). pruned_running (option_map (run_of lang.cmp s.graph) o)) was))
       of base (Some run) e runs =
           let same = same_run run e in
           let none : run.attempt.pending ≡ false = ap (λ (x : Running R K S). x.attempt.pending) same ∙ ap (λ (o : Option ℕ). is_some o) quiet in

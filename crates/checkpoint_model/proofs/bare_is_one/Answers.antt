@@ -1,4 +1,4 @@
-use Rattle.checkpoint_model.proofs.HeldRuns.{bare_is_one}
+use Rattle.checkpoint_model.proofs.PrunedRuns.{bare_is_one}
 use Rattle.checkpoint_model.proofs.bare_is_one.Goals as goal
 
 pub returns : goal.returns

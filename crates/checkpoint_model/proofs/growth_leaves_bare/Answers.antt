@@ -1,4 +1,4 @@
-use Rattle.checkpoint_model.proofs.HeldRuns.{growth_leaves}
+use Rattle.checkpoint_model.proofs.PrunedRuns.{growth_leaves}
 use Rattle.checkpoint_model.proofs.growth_leaves_bare.Goals as goal
 
 pub returns : goal.returns

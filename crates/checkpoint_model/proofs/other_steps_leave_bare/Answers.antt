@@ -1,4 +1,4 @@
-use Rattle.checkpoint_model.proofs.HeldPlain.{others_stay}
+use Rattle.checkpoint_model.proofs.PrunedPlain.{others_stay}
 use Rattle.checkpoint_model.proofs.other_steps_leave_bare.Goals as goal
 
 pub returns : goal.returns

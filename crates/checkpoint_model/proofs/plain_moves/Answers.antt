@@ -1,4 +1,4 @@
-use Rattle.checkpoint_model.proofs.HeldPlain.{plain_moves}
+use Rattle.checkpoint_model.proofs.PrunedPlain.{plain_moves}
 use Rattle.checkpoint_model.proofs.plain_moves.Goals as goal
 
 pub returns : goal.returns

@@ -1,4 +1,4 @@
-use Rattle.checkpoint_model.proofs.HeldReached.{sound_reached}
+use Rattle.checkpoint_model.proofs.PrunedReached.{sound_reached}
 use Rattle.checkpoint_model.proofs.sound_engines_are_reached.Goals as goal
 
 pub returns : goal.returns

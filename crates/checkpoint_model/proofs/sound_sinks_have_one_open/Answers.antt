@@ -1,4 +1,4 @@
-use Rattle.checkpoint_model.proofs.HeldReached.{sound_one_open}
+use Rattle.checkpoint_model.proofs.PrunedReached.{sound_one_open}
 use Rattle.checkpoint_model.proofs.sound_sinks_have_one_open.Goals as goal
 
 pub returns : goal.returns
