@@ -143,7 +143,9 @@ impl<O: Operator, S: SnapshotStore, X: Transactions, P: Partitions<Record = O::R
     /// Makes the calls in order, refused or not, with a reply for each. The replies' room is taken
     /// first; where that is refused, `K11 Memory`, no call is made. Of a sound core, and one over
     /// new devices is sound, what each sink has committed is exactly what one run of the plain
-    /// machine has put out at the moment of that sink's own last committed checkpoint.
+    /// machine has put out at the moment of that sink's own last committed checkpoint. At the
+    /// moment of a checkpoint whose parts are all in the store, that run is at the cut that they
+    /// spell.
     pub fn run_steps(
         &mut self,
         desk: &mut Desk<O>,

@@ -48,10 +48,11 @@ impl<O: Operator, S: SnapshotStore, X: Transactions, P: Partitions<Record = O::R
     /// Brings the job to rest. What is pending is settled, and every sink commits; then each task
     /// in turn makes a step, if it has one: a source reads a record, another task works one of its
     /// lowest input that has one. Where no step is left, a last checkpoint is taken and committed,
-    /// and the answer is `AtRest`; where as many steps were made as there are turns, and a further
-    /// one is possible, it is `TurnsSpent`. It works without claims, and spends no serial. Refused
-    /// as `settle` is where a checkpoint is pending, and by `K14` where no number is left for the
-    /// last checkpoint; what was done stays.
+    /// and the answer is `AtRest`: the sinks of a sound core have then committed the whole output
+    /// of a plain run that has ended. Where as many steps were made as there are turns, and a
+    /// further one is possible, it is `TurnsSpent`. It works without claims, and spends no serial.
+    /// Refused as `settle` is where a checkpoint is pending, and by `K14` where no number is left
+    /// for the last checkpoint; what was done stays.
     pub fn drain(&mut self, turns: u64) -> Result<Drained, CoreFault>
         ensures ends { Drains self.old self.new ⟦<O as Rules>⟧.lang ⟦<O as Rules>⟧.RecordFits turns
             result }

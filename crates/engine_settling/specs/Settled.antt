@@ -25,7 +25,7 @@ module _ {R K S O : Type 0} (s : State O R K S) where
     pub last : (other : ℕ) → is_complete s.stored other ≡ true → other ≤ n
     pub none_pending : pending_in s.held ≡ None
 
-  -- each sink has committed it last, after as many others as there are complete ones before it
+  -- each sink has committed it last, and has committed once for each complete checkpoint
   abbrev pub IsCommitted : ℕ → Type 0
   IsCommitted n =
       (task subtask : ℕ) → slice_get s.graph.tasks task ≡ Some (role.Sink subtask)
@@ -99,8 +99,9 @@ module _ {R K S O : Type 0} (lang : Language R K S O) (RecordFits : R → Type 0
   EndsAtRest (Err Device) = WentDown lang RecordFits old new
   EndsAtRest (Err other) = ⊥
 
-  -- At rest: a checkpoint is complete whose cut is at rest, and every sink of a sound engine has committed it last: the whole output of a run that has ended. Turns spent: after what was pending was settled,
-  -- as many steps were made as there are turns, and a further one is possible. Refused for want of memory, where a device failed, and where no number is left.
+  -- At rest: a checkpoint is complete whose cut is at rest, every sink of a sound engine has committed it last, and what they have committed is the whole output
+  -- of a run that has ended. Turns spent: after what was pending was settled, as many steps were made as there are turns, and a further one is possible.
+  -- Refused for want of memory, where a device failed, and where no number is left.
   abbrev pub EndsDrain : (turns : ℕ) → Result Drained CoreFault → Type 0
   EndsDrain turns (Ok AtRest) = MadeSome × ((n : ℕ) × IsCompleted new n × CutRests lang new n × (IsSound lang RecordFits old → IsCommitted new n × IsWhole lang new))
   EndsDrain turns (Ok TurnsSpent) =

@@ -7,7 +7,7 @@ use Rattle.core_model.specs.Language.{Language}
 use Rattle.core_model.specs.State.{State}
 use Rattle.core_model.specs.View.{job_of}
 
--- A run of the plain machine comes to rest, and the rows that each sink has committed spell all that it has put out.
+-- A run of the plain machine has come to rest, and the rows that each sink has committed spell exactly its output.
 pub record IsWhole {R K S O : Type 0} (lang : Language R K S O) (s : State O R K S) : Type 0 where
   pub moves : List Move
   pub last : Configuration R K S

@@ -56,7 +56,8 @@ fn end_at_rest<O: Operator, S: SnapshotStore, X: Transactions, P: Partitions<Rec
 
 /// Settles what is pending, has every sink commit, and then goes in rounds over the tasks, with a
 /// turn for each step that is made. Where no task has a step left, a last checkpoint is taken and
-/// committed, and the answer is `AtRest`; where the turns are spent and a further step is possible,
+/// committed, and the answer is `AtRest`: the sinks of a sound engine have then committed the whole
+/// output of a plain run that has ended. Where the turns are spent and a further step is possible,
 /// it is `TurnsSpent`. Refused as `settle` is where one is pending, and by `K14` where no number is
 /// left for the last checkpoint; what was done stays. The job has to run.
 pub fn drain<O: Operator, S: SnapshotStore, X: Transactions, P: Partitions<Record = O::Record>>(

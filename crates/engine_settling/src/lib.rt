@@ -7,7 +7,8 @@
 //! Proved: where a checkpoint is pending, `settle` completes it and every sink of a sound engine
 //! has committed it last, or a device failed, or memory was refused (`ends`); `drain` comes to rest
 //! with a complete checkpoint whose cut is at rest, committed last by every sink of a sound engine,
-//! or has made as many steps as there are turns, with a further one possible.
+//! which have then committed the whole output of a plain run that has ended, or has made as many
+//! steps as there are turns, with a further one possible.
 #![tactic(auto)]
 
 mod aligning;
