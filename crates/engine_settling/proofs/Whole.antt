@@ -3,11 +3,11 @@ use Rattle.std.proofs.Common.{◌≡◌, Some, slice_get, length, take, map, ℕ
 use Rattle.std.proofs.lemmas.Option.{same_Some}
 use Rattle.checkpoint_model.specs.Durable.{Store, HasParts, IsCutOf}
 use Rattle.checkpoint_model.proofs.Headline.{get_within}
+use Rattle.commit_sink.specs.Ledger.{committed_rows}
 use Rattle.dataflow_model.specs.Graph.{Task, Job}
 use Rattle.dataflow_model.specs.Machine.{Configuration, Move, Read, Work, start, mover, handled, after, Takes, Reaches, IsAtRest}
 use Rattle.dataflow_model.proofs.Runs.{ends}
 use Rattle.snapshot_store.specs.Store.{IsNumbered}
-use Rattle.commit_sink.specs.Ledger.{committed_rows}
 use Rattle.core_model.specs.ExactlyOnce.{IsExactlyOnce}
 use Rattle.core_model.specs.Language.{Language}
 use Rattle.core_model.specs.LastCommitted.{complete_numbers}
@@ -34,8 +34,7 @@ module _ {R K S O : Type 0} (job : Job R K S O) (store : Store R K S) (n : ℕ) 
   pub rests_as : IsAtRest job c → IsAtRest job d
   rests_as rests move possible =
       let step = possible.1 in
-      rests move
-      (
+      rests move (
         after job move (handled job.meaning step.kind (c.tasks (mover move)) step.taken) c,
         record { kind = step.kind; taken = step.taken; is_task = step.is_task; takes = takes_as move step.kind step.taken step.is_task step.takes; ends = refl },
       )
