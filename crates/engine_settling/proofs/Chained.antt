@@ -24,6 +24,7 @@ use Rattle.core_model.specs.declared.fault.CoreFault.TheVariants.{NotRunning, No
 use Rattle.core_plain.specs.Plain.{Stays}
 use Rattle.engine.specs.Readers.{pending_in}
 use Rattle.engine.specs.Running.{OnStore, OnTransactions}
+use Rattle.engine.proofs.Raising.{sound_exact}
 use Rattle.engine_rounds.specs.Idle.{IsIdle, AreIdle}
 use Rattle.engine_rounds.specs.Turns.{EndsRounds}
 use Rattle.engine_rounds.specs.Works.{Works}
@@ -40,7 +41,6 @@ use Rattle.engine_settling.proofs.Ending.{cut_rests_in, commit_done, commit_fail
 use Rattle.engine_settling.proofs.Gating.{receiver_of}
 use Rattle.engine_settling.proofs.Still.{idle_queues, still_started}
 use Rattle.engine_settling.proofs.Whole.{is_whole}
-use Rattle.engine.proofs.Raising.{sound_exact}
 
 same_sink : {a b : ℕ} → ◌≡◌ {A = Role} (role.Sink a) (role.Sink b) → a ≡ b
 same_sink e = cc

@@ -3,6 +3,7 @@ use Rattle.std.proofs.Common.{◌≡◌, Some, slice_get, length, take, map, ℕ
 use Rattle.std.proofs.lemmas.Option.{same_Some}
 use Rattle.checkpoint_model.specs.Durable.{Store, HasParts, IsCutOf}
 use Rattle.checkpoint_model.proofs.Headline.{get_within}
+use Rattle.commit_sink.specs.Ledger.{committed_rows}
 use Rattle.dataflow_model.specs.Graph.{Task, Job}
 use Rattle.dataflow_model.specs.Machine.{Configuration, Move, Read, Work, start, mover, handled, after, Takes, Reaches, IsAtRest}
 use Rattle.dataflow_model.proofs.Runs.{ends}
@@ -33,16 +34,19 @@ module _ {R K S O : Type 0} (job : Job R K S O) (store : Store R K S) (n : ℕ) 
   pub rests_as : IsAtRest job c → IsAtRest job d
   rests_as rests move possible =
       let step = possible.1 in
-      rests move
-      (
+      rests move (
         after job move (handled job.meaning step.kind (c.tasks (mover move)) step.taken) c,
         record { kind = step.kind; taken = step.taken; is_task = step.is_task; takes = takes_as move step.kind step.taken step.is_task step.takes; ends = refl },
       )
 
-module _ {R K S O : Type 0} (lang : Language R K S O) (s : State O R K S) (n : ℕ) where
-  pub is_whole : IsNumbered s.stored → IsExactlyOnce lang s → IsCompleted s n → CutRests lang s n → IsCommitted s n → IsWhole lang s
-  is_whole numbered exact completed rests committed =
-      let job = job_of lang s in
+module _ {R K S O : Type 0} (lang : Language R K S O) (s : State O R K S) where
+  -- what one run has put out at its end is one list
+  output_one : (moves : List Move) (a b : Configuration R K S) (task : ℕ) (rows : List (List ℕ)) → Reaches (job_of lang s) moves start a → Reaches (job_of lang s) moves start b
+      → map lang.spelling (b.tasks task).output ≡ rows → map lang.spelling (a.tasks task).output ≡ rows
+  output_one moves a b task rows one two is = ap (λ (c : Configuration R K S). map lang.spelling (c.tasks task).output) (ends (job_of lang s) moves start a b one two) ∙ is
+
+  pub is_whole : (n : ℕ) → IsNumbered s.stored → IsExactlyOnce lang s → IsCompleted s n → CutRests lang s n → IsCommitted s n → IsWhole lang s
+  is_whole n numbered exact completed rests committed =
       let line = last_of_line s.stored n numbered completed.complete completed.last in
       let j : ℕ = length line.0 in
       let many : length (complete_numbers s.stored) ≡ suc j = ap (λ (xs : List ℕ). length xs) line.1 ∙ length_end line.0 n in
@@ -53,10 +57,9 @@ module _ {R K S O : Type 0} (lang : Language R K S O) (s : State O R K S) (n : �
         moves = take moment.0 exact.moves;
         last = cut.0;
         reached = cut.1.1;
-        rests = rests_as job (store_of lang s.stored) n rests.parts rests.cut cut.0 rests.is_cut cut.2 rests.rests;
+        rests = rests_as (job_of lang s) (store_of lang s.stored) n rests.parts rests.cut cut.0 rests.is_cut cut.2 rests.rests;
         whole = λ task subtask is.
             let x = exact.exactly task subtask j is ((committed task subtask is).1 ∙ many) in
             let same : x.0 ≡ moment.0 = same_Some x.0 moment.0 (sym x.2 ∙ moment.1) in
-            let reached : Reaches job (take moment.0 exact.moves) start x.1 = subst (λ (m : ℕ). Reaches job (take m exact.moves) start x.1) same x.3.1 in
-            ap (λ (c : Configuration R K S). map lang.spelling (c.tasks task).output) (ends job (take moment.0 exact.moves) start cut.0 x.1 cut.1.1 reached) ∙ x.4;
+            output_one (take moment.0 exact.moves) cut.0 x.1 task (committed_rows s.ledger subtask) cut.1.1 (subst (λ (m : ℕ). Reaches (job_of lang s) (take m exact.moves) start x.1) same x.3.1) x.4;
       }
