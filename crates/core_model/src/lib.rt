@@ -1,9 +1,10 @@
 //! What an engine holds, as data, and what its calls do to it, in terms of the checkpoint model.
-//! The only code here is that of [`CoreFault`] and [`Start`]. Proved: each call on a running job,
-//! accepted, refused or cut short by a device, and each restart, keeps what every engine keeps and
-//! is steps of the model's engine; a checkpoint that completes is the cut that its attempt has made
-//! so far; a sound engine is exactly once; no step withdraws a committed row; a restart of a sound
-//! engine goes on from the last complete cut, and is not refused for what the devices hold.
+//! The only code here is that of [`CoreFault`] and [`Start`]. [`Rules`] gives clauses short names
+//! for what an operator brings. Proved: each call on a running job, accepted, refused or cut short
+//! by a device, and each restart, keeps what every engine keeps and is steps of the model's engine;
+//! a checkpoint that completes is the cut that its attempt has made so far; a sound engine is
+//! exactly once; no step withdraws a committed row; a restart of a sound engine goes on from the
+//! last complete cut, and is not refused for what the devices hold.
 //!
 //! `State` is all that an engine holds; `engine_of` is what it stands for in the model, as a
 //! function of numbers; `Keeps` is what every engine keeps; the relations `Ends..` say how each
@@ -11,6 +12,7 @@
 #![tactic(auto)]
 
 mod fault;
+mod rules;
 mod start;
 
 ghost use Rattle.core_model.specs.Language.{Language};
@@ -21,6 +23,7 @@ ghost use Rattle.core_model.specs.RestartLaws.{RestartsKeepEngines, RestartsWith
 ghost use Rattle.core_model.specs.Laws.{ReadsAreSteps, OperatesAreSteps, InjectsAreSteps, CommittedAreRows, AppendsKeepSinks, CopiesKeepSinks, CommitsKeepSinks};
 
 pub use fault::CoreFault;
+pub use rules::Rules;
 pub use start::Start;
 
 /// A source that sends its next record makes a step of the model.
