@@ -1,15 +1,12 @@
 //! A result is taken.
 
 ghost use Rattle.std.specs.Prelude.{◌≡◌, ◌≢◌, ◌<◌, List, Err, None, Some, length, slice_get};
-ghost use Rattle.abs_codec.specs.Spelling.{Fits};
 ghost use Rattle.commit_sink.specs.Ledger.{Ledger, open_refusal};
 ghost use Rattle.commit_sink.specs.Sink.{Sinking};
-ghost use Rattle.operators.specs.Operator.{IsGoodState};
 ghost use Rattle.job_state.specs.Held.{gate_at};
 ghost use Rattle.job_state.specs.declared.holding.Holding.TheVariants as Holding;
 ghost use Rattle.core_model.specs.declared.fault.CoreFault.TheVariants as CoreFault;
 ghost use Rattle.core_model.specs.Calls.{IsRecordDue, EndsPutOut};
-ghost use Rattle.core_model.specs.Language.{language};
 ghost use Rattle.claims.specs.Carried.{IsOperand, IsOutcome, IsGiven};
 ghost use Rattle.claims.specs.Due.{EndsTaking, EndsRefused, EndsAccept};
 ghost use Rattle.claims.specs.Tasks.{Serves};
@@ -19,7 +16,7 @@ use crate::carried::Worked;
 use crate::due::{is_due, operand_channel, row_channel};
 use crate::parts::{Given, Made, Operand};
 use commit_sink::{TransactionFault, Transactions};
-use core_model::CoreFault;
+use core_model::{CoreFault, Rules};
 use job_graph::Graph;
 use job_state::{Attempt, Holding};
 use operators::{Operator, Outcome};
@@ -34,18 +31,13 @@ fn accept_outcome<O: Operator>(
     operand: Operand<O, O::Key, O::State, O::Record>,
     outcome: Outcome<O::State, O::Record>,
 ) -> Result<(), CoreFault>
-    requires serves { (ledger : Ledger) × Serves O.Key.cmp
-        (Fits O.Record.HasSpelling O.Record.spelling)
-        (IsGoodState (Fits O.State.HasSpelling O.State.spelling) O.Suits) graph.now operators.now
-        ledger attempt.old }
-    requires operand { IsOperand O.meaning (Fits O.Record.HasSpelling O.Record.spelling)
-        (IsGoodState (Fits O.State.HasSpelling O.State.spelling) O.Suits) operand }
+    requires serves { (ledger : Ledger) × Serves O.Key.cmp ⟦<O as Rules>⟧.RecordFits
+        ⟦<O as Rules>⟧.IsGood graph.now operators.now ledger attempt.old }
+    requires operand { IsOperand O.meaning ⟦<O as Rules>⟧.RecordFits ⟦<O as Rules>⟧.IsGood operand }
     requires outcome { IsOutcome O.meaning operand outcome }
     ensures told { result ≢ Err CoreFault.Device }
-    ensures ends { (ledger : Ledger) → EndsTaking
-        (language O.meaning O.Key.cmp O.Record.spelling O.Record.reading O.Key.reading
-        O.State.reading) graph.now operators.now task input attempt.old attempt.new ledger ledger
-        (Given.Operator operand) result }
+    ensures ends { (ledger : Ledger) → EndsTaking ⟦<O as Rules>⟧.lang graph.now operators.now task
+        input attempt.old attempt.new ledger ledger (Given.Operator operand) result }
 {
     let Some(channel) = operand_channel(attempt, graph, operators, task, input, &operand) else {
         return Err(CoreFault::WrongResult);
@@ -114,14 +106,11 @@ fn accept_row<O: Operator, X: Transactions>(
     row: &O::Record,
     bytes: &[u8],
 ) -> Result<(), CoreFault>
-    requires serves { (operators : List O) × Serves O.Key.cmp
-        (Fits O.Record.HasSpelling O.Record.spelling)
-        (IsGoodState (Fits O.State.HasSpelling O.State.spelling) O.Suits) graph.now operators
-        (X.state transactions.old) attempt.old }
+    requires serves { (operators : List O) × Serves O.Key.cmp ⟦<O as Rules>⟧.RecordFits
+        ⟦<O as Rules>⟧.IsGood graph.now operators (X.state transactions.old) attempt.old }
     requires spelled { bytes.now ≡ O.Record.spelling row.now }
-    ensures ends { (operators : List O) → EndsTaking
-        (language O.meaning O.Key.cmp O.Record.spelling O.Record.reading O.Key.reading
-        O.State.reading) graph.now operators task input attempt.old attempt.new
+    ensures ends { (operators : List O)
+        → EndsTaking ⟦<O as Rules>⟧.lang graph.now operators task input attempt.old attempt.new
         (X.state transactions.old) (X.state transactions.new) (Given.Sink row.now) result }
     ensures counted { result ≡ Err CoreFault.Device
         → X.fault_count transactions.old < X.fault_count transactions.new }
@@ -146,12 +135,10 @@ pub fn accept<O: Operator, X: Transactions>(
     input: u32,
     worked: Worked<O>,
 ) -> Result<(), CoreFault>
-    requires serves { Serves O.Key.cmp (Fits O.Record.HasSpelling O.Record.spelling)
-        (IsGoodState (Fits O.State.HasSpelling O.State.spelling) O.Suits) graph.now operators.now
-        (X.state transactions.old) attempt.old }
-    ensures ends { EndsAccept (language O.meaning O.Key.cmp O.Record.spelling O.Record.reading
-        O.Key.reading O.State.reading) graph.now operators.now task input attempt.old attempt.new
-        (X.state transactions.old) (X.state transactions.new) worked result }
+    requires serves { Serves O.Key.cmp ⟦<O as Rules>⟧.RecordFits ⟦<O as Rules>⟧.IsGood graph.now
+        operators.now (X.state transactions.old) attempt.old }
+    ensures ends { EndsAccept ⟦<O as Rules>⟧.lang graph.now operators.now task input attempt.old
+        attempt.new (X.state transactions.old) (X.state transactions.new) worked result }
     ensures counted { result ≡ Err CoreFault.Device
         → X.fault_count transactions.old < X.fault_count transactions.new }
     ensures told { result ≢ Err CoreFault.Device

@@ -1,15 +1,13 @@
 //! Work, and what was made of it.
 
 ghost use Rattle.std.specs.Prelude.{◌≡◌, IfOk, IfErr};
-ghost use Rattle.abs_codec.specs.Spelling.{Fits};
-ghost use Rattle.operators.specs.Operator.{IsGoodState};
 ghost use Rattle.core_model.specs.declared.fault.CoreFault.TheVariants as CoreFault;
 ghost use Rattle.claims.specs.declared.parts.Given.TheVariants as Given;
 ghost use Rattle.claims.specs.Carried.{IsOperand, IsOutcome, given_of};
 
 use crate::parts::{Given, Made, Operand};
 use abs_codec::{Codec, NoMemory};
-use core_model::CoreFault;
+use core_model::{CoreFault, Rules};
 use operators::{Operator, Outcome};
 use std::alloc::Global;
 use std::marker::Model;
@@ -60,8 +58,7 @@ fn outcome_of<O: Operator>(
     alloc: Global,
     operand: &Operand<O, O::Key, O::State, O::Record>,
 ) -> Result<Outcome<O::State, O::Record>, NoMemory>
-    requires { IsOperand O.meaning (Fits O.Record.HasSpelling O.Record.spelling)
-        (IsGoodState (Fits O.State.HasSpelling O.State.spelling) O.Suits) operand.now }
+    requires { IsOperand O.meaning ⟦<O as Rules>⟧.RecordFits ⟦<O as Rules>⟧.IsGood operand.now }
     ensures { IfOk result (IsOutcome O.meaning operand.now) }
 {
     let Some(state) = &operand.state else {
@@ -78,8 +75,7 @@ fn worked_operand<O: Operator>(
     alloc: Global,
     operand: Operand<O, O::Key, O::State, O::Record>,
 ) -> Worked<O>
-    requires { IsOperand O.meaning (Fits O.Record.HasSpelling O.Record.spelling)
-        (IsGoodState (Fits O.State.HasSpelling O.State.spelling) O.Suits) operand }
+    requires { IsOperand O.meaning ⟦<O as Rules>⟧.RecordFits ⟦<O as Rules>⟧.IsGood operand }
     ensures { given_of result ≡ Given.Operator operand }
 {
     match outcome_of(alloc, &operand) {

@@ -2,18 +2,16 @@
 
 ghost use Rattle.std.specs.Prelude.{◌≡◌, ◌<◌, ◌↔◌, ℕ, List, Some, length, slice_get, IsTrue, IfSome, IfNone};
 ghost use Rattle.std.specs.Option.{option_copied};
-ghost use Rattle.abs_codec.specs.Spelling.{Fits};
-ghost use Rattle.operators.specs.Operator.{IsGoodState};
 ghost use Rattle.job_state.specs.Held.{gate_at};
 ghost use Rattle.job_state.specs.declared.holding.Holding.TheVariants as Holding;
 ghost use Rattle.core_model.specs.Calls.{state_of, IsRecordDue};
 ghost use Rattle.core_model.specs.Keeps.{GateFits, Shape};
-ghost use Rattle.core_model.specs.Language.{language};
 ghost use Rattle.claims.specs.Carried.{IsGiven};
 ghost use Rattle.claims.specs.Due.{WorksFrom, IsOperandDue, IsRowDue, IsDue};
 
 use crate::inputs::{first_record, input_of, state_at};
 use crate::parts::{Given, Operand};
+use core_model::Rules;
 use job_graph::{Graph, Role};
 use job_state::Attempt;
 use operators::Operator;
@@ -94,17 +92,13 @@ pub(crate) fn operand_channel<O: Operator>(
     input: u32,
     operand: &Operand<O, O::Key, O::State, O::Record>,
 ) -> Option<u32>
-    requires shape { Shape O.Key.cmp (Fits O.Record.HasSpelling O.Record.spelling)
-        (IsGoodState (Fits O.State.HasSpelling O.State.spelling) O.Suits) graph.now
+    requires shape { Shape O.Key.cmp ⟦<O as Rules>⟧.RecordFits ⟦<O as Rules>⟧.IsGood graph.now
         operators.now attempt.now }
     requires key { operand.now.key ≡ O.meaning.key operand.now.operator operand.now.row }
-    ensures some { IfSome result (λ channel. IsOperandDue
-        (language O.meaning O.Key.cmp O.Record.spelling O.Record.reading O.Key.reading
-        O.State.reading) graph.now operators.now task input attempt.now channel operand.now) }
-    ensures none { IfNone result ((channel : ℕ)
-        → ¬ IsOperandDue (language O.meaning O.Key.cmp O.Record.spelling O.Record.reading
-        O.Key.reading O.State.reading) graph.now operators.now task input attempt.now
-        channel operand.now) }
+    ensures some { IfSome result (λ channel. IsOperandDue ⟦<O as Rules>⟧.lang graph.now
+        operators.now task input attempt.now channel operand.now) }
+    ensures none { IfNone result ((channel : ℕ) → ¬ IsOperandDue ⟦<O as Rules>⟧.lang graph.now
+        operators.now task input attempt.now channel operand.now) }
 {
     let Some(Role::Operator(number)) = graph.role(task) else {
         return None;
@@ -156,13 +150,11 @@ pub(crate) fn is_due<O: Operator>(
     input: u32,
     given: &Given<O, O::Key, O::State, O::Record>,
 ) -> bool
-    requires shape { Shape O.Key.cmp (Fits O.Record.HasSpelling O.Record.spelling)
-        (IsGoodState (Fits O.State.HasSpelling O.State.spelling) O.Suits) graph.now
+    requires shape { Shape O.Key.cmp ⟦<O as Rules>⟧.RecordFits ⟦<O as Rules>⟧.IsGood graph.now
         operators.now attempt.now }
-    requires given { IsGiven O.meaning (Fits O.Record.HasSpelling O.Record.spelling)
-        (IsGoodState (Fits O.State.HasSpelling O.State.spelling) O.Suits) given.now }
-    ensures { IsTrue result ↔ IsDue (language O.meaning O.Key.cmp O.Record.spelling O.Record.reading
-        O.Key.reading O.State.reading) graph.now operators.now task input attempt.now given.now }
+    requires given { IsGiven O.meaning ⟦<O as Rules>⟧.RecordFits ⟦<O as Rules>⟧.IsGood given.now }
+    ensures { IsTrue result
+        ↔ IsDue ⟦<O as Rules>⟧.lang graph.now operators.now task input attempt.now given.now }
 {
     match given {
         Given::Operator(operand) => {

@@ -2,8 +2,6 @@
 
 ghost use Rattle.std.specs.Prelude.{◌≡◌, ◌<◌, ℕ, List, Some, length, slice_get, IfOk, IfErr};
 ghost use Rattle.abs_codec.specs.Entries.{value_at};
-ghost use Rattle.abs_codec.specs.Spelling.{Fits};
-ghost use Rattle.operators.specs.Operator.{IsGoodState};
 ghost use Rattle.job_graph.specs.Expanded.{IsExpanded};
 ghost use Rattle.job_graph.specs.PlainGraph.{HaveOperators};
 ghost use Rattle.job_state.specs.Held.{gate_at};
@@ -11,7 +9,6 @@ ghost use Rattle.job_state.specs.declared.holding.Holding.TheVariants as Holding
 ghost use Rattle.core_model.specs.declared.fault.CoreFault.TheVariants as CoreFault;
 ghost use Rattle.core_model.specs.Calls.{state_of, IsRecordDue};
 ghost use Rattle.core_model.specs.Keeps.{AllFit, Shape};
-ghost use Rattle.core_model.specs.Language.{language};
 ghost use Rattle.claims.specs.Carried.{IsOperand};
 ghost use Rattle.claims.specs.Due.{EndsOffer};
 
@@ -20,7 +17,7 @@ use crate::due::operator_of;
 use crate::inputs::{first_record, input_of, state_at};
 use crate::parts::{Given, Operand};
 use abs_codec::{Codec, NoMemory};
-use core_model::CoreFault;
+use core_model::{CoreFault, Rules};
 use job_graph::{Graph, Role};
 use job_state::Attempt;
 use operators::Operator;
@@ -51,15 +48,14 @@ fn operand_of<O: Operator>(
     task: u32,
     row: &O::Record,
 ) -> Result<Operand<O, O::Key, O::State, O::Record>, NoMemory>
-    requires fits { Fits O.Record.HasSpelling O.Record.spelling row.now }
+    requires fits { ⟦<O as Rules>⟧.RecordFits row.now }
     requires holds { (entries : List (O.Key × O.State))
         × (slice_get attempt.now.tasks task ≡ Some (Holding.Operator entries)) }
     requires good { (entries : List (O.Key × O.State)) (key : O.Key) (state : O.State)
         → slice_get attempt.now.tasks task ≡ Some (Holding.Operator entries)
-        → value_at O.Key.cmp entries key ≡ Some state
-        → IsGoodState (Fits O.State.HasSpelling O.State.spelling) O.Suits operator.now state }
-    ensures whole { IfOk result (IsOperand O.meaning (Fits O.Record.HasSpelling O.Record.spelling)
-        (IsGoodState (Fits O.State.HasSpelling O.State.spelling) O.Suits)) }
+        → value_at O.Key.cmp entries key ≡ Some state → ⟦<O as Rules>⟧.IsGood operator.now state }
+    ensures whole { IfOk result (IsOperand O.meaning ⟦<O as Rules>⟧.RecordFits
+        ⟦<O as Rules>⟧.IsGood) }
     ensures operator { IfOk result (λ operand. operand.operator ≡ operator.now) }
     ensures row { IfOk result (λ operand. operand.row ≡ row.now) }
     ensures state { IfOk result (λ operand. (entries : List (O.Key × O.State))
@@ -91,11 +87,9 @@ pub fn offer<O: Operator>(
 ) -> Result<Work<O>, CoreFault>
     requires expanded { IsExpanded graph.now }
     requires given { HaveOperators graph.now operators.now }
-    requires shape { Shape O.Key.cmp (Fits O.Record.HasSpelling O.Record.spelling)
-        (IsGoodState (Fits O.State.HasSpelling O.State.spelling) O.Suits) graph.now
+    requires shape { Shape O.Key.cmp ⟦<O as Rules>⟧.RecordFits ⟦<O as Rules>⟧.IsGood graph.now
         operators.now attempt.now }
-    ensures { EndsOffer (language O.meaning O.Key.cmp O.Record.spelling O.Record.reading
-        O.Key.reading O.State.reading) graph.now operators.now task input attempt.now result }
+    ensures { EndsOffer ⟦<O as Rules>⟧.lang graph.now operators.now task input attempt.now result }
 {
     match graph.role(task) {
         Some(Role::Operator(number)) => {

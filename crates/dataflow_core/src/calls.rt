@@ -27,8 +27,8 @@ ghost use Rattle.dataflow_core.specs.Steps.{IsStep, IsRestart};
 
 use crate::held::{Claim, drop_claims};
 use commit_sink::Transactions;
+use core_model::Rules;
 use engine::{CoreFault, Engine};
-use engine_rules::Rules;
 use job_graph::Graph;
 use operators::Operator;
 use snapshot_store::SnapshotStore;

@@ -1,16 +1,14 @@
 //! Sources read records.
 
 ghost use Rattle.std.specs.Prelude.{◌≡◌, ◌≢◌, ◌<◌, ℕ, Err, Some, length, slice_get, OnOk, OnErr, IfSome, IfNone};
-ghost use Rattle.abs_codec.specs.Spelling.{Fits};
 ghost use Rattle.job_state.specs.declared.holding.Holding.TheVariants as Holding;
 ghost use Rattle.job_graph.specs.declared.role.Role.TheVariants as Role;
 ghost use Rattle.core_model.specs.declared.fault.CoreFault.TheVariants as CoreFault;
-ghost use Rattle.core_model.specs.Language.{language};
 ghost use Rattle.core_model.specs.Calls.{EndsRead};
 ghost use Rattle.core_model.specs.Keeps.{AreHeld};
 ghost use Rattle.source_log.specs.Partitions.{records_at};
 
-use core_model::CoreFault;
+use core_model::{CoreFault, Rules};
 use job_graph::{Graph, Role};
 use job_state::{Attempt, Holding};
 use operators::Operator;
@@ -42,9 +40,8 @@ pub fn read_next<O: Operator, P: Partitions<Record = O::Record>>(
     requires channels { length attempt.old.channels ≡ length graph.now.channels }
     requires partitions { (t p : ℕ) → slice_get graph.now.tasks t ≡ Some (Role.Source p)
         → p < length (P.records log.old) }
-    ensures ends { EndsRead graph.now task attempt.old attempt.new
-        (language O.meaning O.Key.cmp O.Record.spelling O.Record.reading O.Key.reading
-        O.State.reading) (P.records log.old) result }
+    ensures ends { EndsRead graph.now task attempt.old attempt.new ⟦<O as Rules>⟧.lang
+        (P.records log.old) result }
     ensures same { P.records log.new ≡ P.records log.old }
     ensures kept { OnErr result (attempt.new ≡ attempt.old) }
     ensures counted { result ≡ Err CoreFault.Device
@@ -54,7 +51,7 @@ pub fn read_next<O: Operator, P: Partitions<Record = O::Record>>(
         → slice_get graph.now.tasks task ≡ Some (Role.Source p)
         → slice_get attempt.old.tasks task ≡ Some (Holding.Source o)
         → slice_get (records_at (P.records log.old) p) o ≡ Some row
-        → Fits O.Record.HasSpelling O.Record.spelling row) }
+        → ⟦<O as Rules>⟧.RecordFits row) }
 {
     let Some(Role::Source(partition)) = graph.role(task) else {
         return Err(CoreFault::NoSuchTask);

@@ -9,8 +9,8 @@ ghost use Rattle.engine_settling.specs.Bringing.{Holds, EndsPart};
 
 use crate::outcomes::done;
 use commit_sink::Transactions;
+use core_model::Rules;
 use engine::{CoreFault, Engine};
-use engine_rules::Rules;
 use job_graph::Graph;
 use operators::Operator;
 use snapshot_store::SnapshotStore;

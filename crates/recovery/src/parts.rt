@@ -3,11 +3,8 @@
 ghost use Rattle.std.specs.Prelude.{◌≡◌, ◌≢◌, ◌<◌, ◌≤◌, ℕ, true, Some, Ok, Err, IfOk, IfErr, MatchResult, slice_get};
 ghost use Rattle.abs_codec.specs.declared.fault.CodecFault.TheVariants.{Memory};
 ghost use Rattle.abs_codec.specs.Reading.{whole_of};
-ghost use Rattle.abs_codec.specs.Spelling.{Fits};
 ghost use Rattle.job_graph.specs.declared.role.Role.{Role};
-ghost use Rattle.operators.specs.Operator.{IsGoodState};
 ghost use Rattle.snapshot_store.specs.Store.{IsLatest, is_complete};
-ghost use Rattle.core_model.specs.Language.{language};
 ghost use Rattle.core_model.specs.Restart.{AreStarts};
 ghost use Rattle.recovery.specs.declared.fault.RecoveryFault.TheVariants as RecoveryFault;
 ghost use Rattle.recovery.specs.Ends.{EndsReading, EndsTask, CannotRestore, EndsRestore};
@@ -15,7 +12,7 @@ ghost use Rattle.recovery.specs.Ends.{EndsReading, EndsTask, CannotRestore, Ends
 use crate::fault::RecoveryFault;
 use crate::starts::{first_start, start_by};
 use abs_codec::{Codec, CodecFault, decode_all};
-use core_model::Start;
+use core_model::{Rules, Start};
 use job_graph::Graph;
 use operators::Operator;
 use snapshot_store::{SnapshotStore, StoreFault};
@@ -73,8 +70,7 @@ fn read_part<O: Operator, S: SnapshotStore>(
     store: &mut S,
 ) -> Result<Part<O::Record, O::Key, O::State>, RecoveryFault>
     requires { is_complete (S.state store.old) number ≡ true }
-    ensures ends { EndsReading (language O.meaning O.Key.cmp O.Record.spelling O.Record.reading
-        O.Key.reading O.State.reading) (S.state store.old) number task result }
+    ensures ends { EndsReading ⟦<O as Rules>⟧.lang (S.state store.old) number task result }
     ensures same { S.state store.new ≡ S.state store.old }
     ensures counted { result ≡ Err RecoveryFault.Fault
         → S.fault_count store.old < S.fault_count store.new }
@@ -105,12 +101,9 @@ fn start_at<O: Operator, S: SnapshotStore, P: Partitions<Record = O::Record>>(
     log: &P,
 ) -> Result<Start<O::Record, O::Key, O::State>, RecoveryFault>
     requires { IsLatest (S.state store.old) last }
-    ensures ends { (role : Role) → slice_get graph.now.tasks task ≡ Some role
-        → EndsTask (language O.meaning O.Key.cmp O.Record.spelling O.Record.reading O.Key.reading
-        O.State.reading) (Fits O.Key.HasSpelling O.Key.spelling)
-        (Fits O.Record.HasSpelling O.Record.spelling)
-        (IsGoodState (Fits O.State.HasSpelling O.State.spelling) O.Suits) graph.now operators.now
-        (P.records log.now) (S.state store.old) last task role result }
+    ensures ends { (role : Role) → slice_get graph.now.tasks task ≡ Some role → EndsTask
+        ⟦<O as Rules>⟧.lang ⟦<O as Rules>⟧.KeyFits ⟦<O as Rules>⟧.RecordFits ⟦<O as Rules>⟧.IsGood
+        graph.now operators.now (P.records log.now) (S.state store.old) last task role result }
     ensures same { S.state store.new ≡ S.state store.old }
     ensures counted { result ≡ Err RecoveryFault.Fault
         → S.fault_count store.old < S.fault_count store.new }
@@ -140,17 +133,11 @@ fn starts_at<O: Operator, S: SnapshotStore, P: Partitions<Record = O::Record>>(
     log: &P,
 ) -> Result<Vec<Start<O::Record, O::Key, O::State>>, RecoveryFault>
     requires { IsLatest (S.state store.old) last }
-    ensures ends { MatchResult result (λ starts. AreStarts
-        (language O.meaning O.Key.cmp O.Record.spelling O.Record.reading O.Key.reading
-        O.State.reading) (Fits O.Key.HasSpelling O.Key.spelling)
-        (Fits O.Record.HasSpelling O.Record.spelling)
-        (IsGoodState (Fits O.State.HasSpelling O.State.spelling) O.Suits) graph.now operators.now
-        (P.records log.now) (S.state store.old) last starts.items)
-        (CannotRestore (language O.meaning O.Key.cmp O.Record.spelling O.Record.reading
-        O.Key.reading O.State.reading) (Fits O.Key.HasSpelling O.Key.spelling)
-        (Fits O.Record.HasSpelling O.Record.spelling)
-        (IsGoodState (Fits O.State.HasSpelling O.State.spelling) O.Suits) graph.now operators.now
-        (P.records log.now) (S.state store.old)) }
+    ensures ends { MatchResult result (λ starts. AreStarts ⟦<O as Rules>⟧.lang
+        ⟦<O as Rules>⟧.KeyFits ⟦<O as Rules>⟧.RecordFits ⟦<O as Rules>⟧.IsGood
+        graph.now operators.now (P.records log.now) (S.state store.old) last starts.items)
+        (CannotRestore ⟦<O as Rules>⟧.lang ⟦<O as Rules>⟧.KeyFits ⟦<O as Rules>⟧.RecordFits
+        ⟦<O as Rules>⟧.IsGood graph.now operators.now (P.records log.now) (S.state store.old)) }
     ensures same { S.state store.new ≡ S.state store.old }
     ensures counted { result ≡ Err RecoveryFault.Fault
         → S.fault_count store.old < S.fault_count store.new }
@@ -173,11 +160,9 @@ pub fn restore<O: Operator, S: SnapshotStore, P: Partitions<Record = O::Record>>
     store: &mut S,
     log: &P,
 ) -> Result<Restored<O>, RecoveryFault>
-    ensures ends { EndsRestore (language O.meaning O.Key.cmp O.Record.spelling O.Record.reading
-        O.Key.reading O.State.reading) (Fits O.Key.HasSpelling O.Key.spelling)
-        (Fits O.Record.HasSpelling O.Record.spelling)
-        (IsGoodState (Fits O.State.HasSpelling O.State.spelling) O.Suits) graph.now operators.now
-        (P.records log.now) (S.state store.old) result }
+    ensures ends { EndsRestore ⟦<O as Rules>⟧.lang ⟦<O as Rules>⟧.KeyFits ⟦<O as Rules>⟧.RecordFits
+        ⟦<O as Rules>⟧.IsGood graph.now operators.now (P.records log.now) (S.state store.old)
+        result }
     ensures same { S.state store.new ≡ S.state store.old }
     ensures counted { result ≡ Err RecoveryFault.Fault
         → S.fault_count store.old < S.fault_count store.new }

@@ -1,17 +1,14 @@
 //! A job restarts.
 
 ghost use Rattle.std.specs.Prelude.{◌≡◌, ◌≢◌, ◌<◌, ◌≤◌, ◌+◌, ℕ, Err, Some, slice_get};
-ghost use Rattle.abs_codec.specs.Spelling.{Fits};
 ghost use Rattle.job_graph.specs.declared.role.Role.TheVariants as Role;
-ghost use Rattle.operators.specs.Operator.{IsGoodState};
 ghost use Rattle.core_model.specs.declared.fault.CoreFault.TheVariants as CoreFault;
-ghost use Rattle.core_model.specs.Language.{language};
 ghost use Rattle.core_model.specs.Restart.{EndsRestart};
 
 use crate::parts::restore;
 use crate::settle::settle_transactions;
 use commit_sink::Transactions;
-use core_model::CoreFault;
+use core_model::{CoreFault, Rules};
 use job_graph::Graph;
 use job_state::Attempt;
 use operators::Operator;
@@ -32,12 +29,9 @@ pub fn restarted<O: Operator, S: SnapshotStore, X: Transactions, P: Partitions<R
 ) -> Result<(Option<u64>, Attempt<O>), CoreFault>
     requires sinks { (task subtask : ℕ) → slice_get graph.now.tasks task ≡ Some (Role.Sink subtask)
         → subtask < (X.state transactions.old).subtasks }
-    ensures ends { EndsRestart (language O.meaning O.Key.cmp O.Record.spelling O.Record.reading
-        O.Key.reading O.State.reading) (Fits O.Key.HasSpelling O.Key.spelling)
-        (Fits O.Record.HasSpelling O.Record.spelling)
-        (IsGoodState (Fits O.State.HasSpelling O.State.spelling) O.Suits) graph.now operators.now
-        (P.records log.now) (S.state store.old) (X.state transactions.old)
-        (X.state transactions.new) result }
+    ensures ends { EndsRestart ⟦<O as Rules>⟧.lang ⟦<O as Rules>⟧.KeyFits ⟦<O as Rules>⟧.RecordFits
+        ⟦<O as Rules>⟧.IsGood graph.now operators.now (P.records log.now) (S.state store.old)
+        (X.state transactions.old) (X.state transactions.new) result }
     ensures same { S.state store.new ≡ S.state store.old }
     ensures counted { result ≡ Err CoreFault.Device
         → S.fault_count store.old + X.fault_count transactions.old

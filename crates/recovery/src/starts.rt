@@ -2,10 +2,7 @@
 
 ghost use Rattle.std.specs.Prelude.{◌≡◌, ◌<◌, ◌≤◌, ◌↔◌, ℕ, length, Some, List, IfSome, IfNone, IsTrue};
 ghost use Rattle.abs_codec.specs.Entries.{value_at};
-ghost use Rattle.abs_codec.specs.Spelling.{Fits};
-ghost use Rattle.operators.specs.Operator.{IsGoodState};
 ghost use Rattle.source_log.specs.Partitions.{records_at};
-ghost use Rattle.core_model.specs.Language.{language};
 ghost use Rattle.core_model.specs.Restart as restart;
 ghost use Rattle.core_model.specs.Restart.{Suits, part_for};
 ghost use Rattle.core_model.specs.declared.start.Start.{Start};
@@ -14,7 +11,7 @@ ghost use Rattle.task_part.specs.declared.part.Part.TheVariants as Part;
 
 use crate::logs::logs_suit;
 use abs_codec::{Codec, Items, Map};
-use core_model::Start;
+use core_model::{Rules, Start};
 use job_graph::{Graph, Role};
 use operators::Operator;
 use source_log::Partitions;
@@ -45,17 +42,16 @@ fn is_within<P: Partitions>(log: &P, partition: u32, offset: u64) -> bool
 
 /// Whether the key fits, and the operator can go on from the state.
 fn is_good<O: Operator>(operator: &O, key: &O::Key, state: &O::State) -> bool
-    ensures { IsTrue result ↔ (Fits O.Key.HasSpelling O.Key.spelling key.now
-        × IsGoodState (Fits O.State.HasSpelling O.State.spelling) O.Suits operator.now state.now) }
+    ensures { IsTrue result
+        ↔ (⟦<O as Rules>⟧.KeyFits key.now × ⟦<O as Rules>⟧.IsGood operator.now state.now) }
 {
     key.fits() && state.fits() && operator.suits(state)
 }
 
 /// Whether the keys fit, and the operator can go on from the states.
 fn are_good<O: Operator>(operator: &O, states: &Map<O::Key, O::State>) -> bool
-    ensures { IsTrue result ↔ ((key : O.Key) (state : O.State)
-        → value_at O.Key.cmp states.now key ≡ Some state → Fits O.Key.HasSpelling O.Key.spelling key
-        × IsGoodState (Fits O.State.HasSpelling O.State.spelling) O.Suits operator.now state) }
+    ensures { IsTrue result ↔ ((key : O.Key) (state : O.State) → value_at O.Key.cmp states.now key
+        ≡ Some state → ⟦<O as Rules>⟧.KeyFits key × ⟦<O as Rules>⟧.IsGood operator.now state) }
 {
     for (key, state) in states.iter() {
         if !is_good(operator, key, state) {
@@ -73,17 +69,11 @@ fn source_start<O: Operator, P: Partitions<Record = O::Record>>(
     offset: u64,
     log: &P,
 ) -> Option<Start<O::Record, O::Key, O::State>>
-    ensures some { IfSome result (λ st. (st ≡ Start.Source offset)
-        × ((operators : List O) → Suits (language O.meaning O.Key.cmp O.Record.spelling
-        O.Record.reading O.Key.reading O.State.reading) (Fits O.Key.HasSpelling O.Key.spelling)
-        (Fits O.Record.HasSpelling O.Record.spelling)
-        (IsGoodState (Fits O.State.HasSpelling O.State.spelling) O.Suits) graph.now operators
-        (P.records log.now) task role st)) }
-    ensures none { IfNone result ((operators : List O)
-        → Suits (language O.meaning O.Key.cmp O.Record.spelling O.Record.reading O.Key.reading
-        O.State.reading) (Fits O.Key.HasSpelling O.Key.spelling)
-        (Fits O.Record.HasSpelling O.Record.spelling)
-        (IsGoodState (Fits O.State.HasSpelling O.State.spelling) O.Suits) graph.now operators
+    ensures some { IfSome result (λ st. (st ≡ Start.Source offset) × ((operators : List O)
+        → Suits ⟦<O as Rules>⟧.lang ⟦<O as Rules>⟧.KeyFits ⟦<O as Rules>⟧.RecordFits
+        ⟦<O as Rules>⟧.IsGood graph.now operators (P.records log.now) task role st)) }
+    ensures none { IfNone result ((operators : List O) → Suits ⟦<O as Rules>⟧.lang
+        ⟦<O as Rules>⟧.KeyFits ⟦<O as Rules>⟧.RecordFits ⟦<O as Rules>⟧.IsGood graph.now operators
         (P.records log.now) task role (Start.Source offset) → ⊥) }
 {
     match role {
@@ -110,17 +100,11 @@ fn operator_start<O: Operator>(
 ) -> Option<Start<O::Record, O::Key, O::State>>
     ensures some { IfSome result (λ st. (st ≡ Start.Operator states logs)
         × ((partitions : List (List O.Record))
-        → Suits (language O.meaning O.Key.cmp O.Record.spelling O.Record.reading O.Key.reading
-        O.State.reading) (Fits O.Key.HasSpelling O.Key.spelling)
-        (Fits O.Record.HasSpelling O.Record.spelling)
-        (IsGoodState (Fits O.State.HasSpelling O.State.spelling) O.Suits) graph.now operators.now
-        partitions task role st)) }
-    ensures none { IfNone result ((partitions : List (List O.Record))
-        → Suits (language O.meaning O.Key.cmp O.Record.spelling O.Record.reading O.Key.reading
-        O.State.reading) (Fits O.Key.HasSpelling O.Key.spelling)
-        (Fits O.Record.HasSpelling O.Record.spelling)
-        (IsGoodState (Fits O.State.HasSpelling O.State.spelling) O.Suits) graph.now operators.now
-        partitions task role (Start.Operator states logs) → ⊥) }
+        → Suits ⟦<O as Rules>⟧.lang ⟦<O as Rules>⟧.KeyFits ⟦<O as Rules>⟧.RecordFits
+        ⟦<O as Rules>⟧.IsGood graph.now operators.now partitions task role st)) }
+    ensures none { IfNone result ((partitions : List (List O.Record)) → Suits ⟦<O as Rules>⟧.lang
+        ⟦<O as Rules>⟧.KeyFits ⟦<O as Rules>⟧.RecordFits ⟦<O as Rules>⟧.IsGood graph.now
+        operators.now partitions task role (Start.Operator states logs) → ⊥) }
 {
     match role {
         Role::Operator(number) => {
@@ -146,18 +130,12 @@ fn sink_start<O: Operator>(
 ) -> Option<Start<O::Record, O::Key, O::State>>
     ensures some { IfSome result (λ st. (part_for st ≡ Part.Sink names logs)
         × ((operators : List O) (partitions : List (List O.Record))
-        → Suits (language O.meaning O.Key.cmp O.Record.spelling O.Record.reading O.Key.reading
-        O.State.reading) (Fits O.Key.HasSpelling O.Key.spelling)
-        (Fits O.Record.HasSpelling O.Record.spelling)
-        (IsGoodState (Fits O.State.HasSpelling O.State.spelling) O.Suits) graph.now operators
-        partitions task role st)) }
+        → Suits ⟦<O as Rules>⟧.lang ⟦<O as Rules>⟧.KeyFits ⟦<O as Rules>⟧.RecordFits
+        ⟦<O as Rules>⟧.IsGood graph.now operators partitions task role st)) }
     ensures none { IfNone result ((subtask : ℕ) (operators : List O)
-        (partitions : List (List O.Record)) → Suits
-        (language O.meaning O.Key.cmp O.Record.spelling O.Record.reading O.Key.reading
-        O.State.reading) (Fits O.Key.HasSpelling O.Key.spelling)
-        (Fits O.Record.HasSpelling O.Record.spelling)
-        (IsGoodState (Fits O.State.HasSpelling O.State.spelling) O.Suits) graph.now operators
-        partitions task role (Start.Sink subtask names logs) → ⊥) }
+        (partitions : List (List O.Record)) → Suits ⟦<O as Rules>⟧.lang ⟦<O as Rules>⟧.KeyFits
+        ⟦<O as Rules>⟧.RecordFits ⟦<O as Rules>⟧.IsGood graph.now operators partitions task role
+        (Start.Sink subtask names logs) → ⊥) }
 {
     match role {
         Role::Sink(subtask) => {
@@ -182,17 +160,11 @@ pub(crate) fn start_by<O: Operator, P: Partitions<Record = O::Record>>(
     log: &P,
 ) -> Option<Start<O::Record, O::Key, O::State>>
     ensures some { IfSome result (λ st. (part ≡ part_for st)
-        × Suits (language O.meaning O.Key.cmp O.Record.spelling O.Record.reading O.Key.reading
-        O.State.reading) (Fits O.Key.HasSpelling O.Key.spelling)
-        (Fits O.Record.HasSpelling O.Record.spelling)
-        (IsGoodState (Fits O.State.HasSpelling O.State.spelling) O.Suits) graph.now operators.now
-        (P.records log.now) task role st) }
+        × Suits ⟦<O as Rules>⟧.lang ⟦<O as Rules>⟧.KeyFits ⟦<O as Rules>⟧.RecordFits
+        ⟦<O as Rules>⟧.IsGood graph.now operators.now (P.records log.now) task role st) }
     ensures none { IfNone result ((st : Start O.Record O.Key O.State) → part ≡ part_for st
-        → Suits (language O.meaning O.Key.cmp O.Record.spelling O.Record.reading O.Key.reading
-        O.State.reading) (Fits O.Key.HasSpelling O.Key.spelling)
-        (Fits O.Record.HasSpelling O.Record.spelling)
-        (IsGoodState (Fits O.State.HasSpelling O.State.spelling) O.Suits) graph.now operators.now
-        (P.records log.now) task role st → ⊥) }
+        → Suits ⟦<O as Rules>⟧.lang ⟦<O as Rules>⟧.KeyFits ⟦<O as Rules>⟧.RecordFits
+        ⟦<O as Rules>⟧.IsGood graph.now operators.now (P.records log.now) task role st → ⊥) }
 {
     match part {
         Part::Source(offset) => source_start::<O, P>(graph, task, role, offset, log),
