@@ -2,8 +2,6 @@
 
 ghost use Rattle.std.specs.Prelude.{◌≡◌, ◌≢◌, ◌⊎◌, ◌↔◌, ◌<◌, ◌≤◌, ◌+◌, ◌^◌, ℕ, List, None, Some, Ok, Err, length, count_by, slice_get, true, OnOk, IfOk, IfErr, MatchOption, IsTrue};
 ghost use Rattle.std.specs.Option.{option_map};
-ghost use Rattle.abs_codec.specs.Spelling.{Fits};
-ghost use Rattle.operators.specs.Operator.{IsGoodState};
 ghost use Rattle.commit_sink.specs.Ledger as ledgers;
 ghost use Rattle.commit_sink.specs.Ledger.{committed_rows};
 ghost use Rattle.job_graph.specs.Expanded.{is_source, is_sink};
@@ -12,14 +10,12 @@ ghost use Rattle.job_graph.specs.PlainGraph.{HaveOperators};
 ghost use Rattle.snapshot_store.specs.Store as stores;
 ghost use Rattle.source_log.specs.Partitions as partitions;
 ghost use Rattle.source_log.specs.declared.partitions.SourceFault.TheVariants as SourceFault;
-ghost use Rattle.task_part.specs.Spelling.{part_spelling};
 ghost use Rattle.core_model.specs.declared.fault.CoreFault.TheVariants as CoreFault;
 ghost use Rattle.core_model.specs.Calls.{left_by, EndsRead, EndsInject, EndsPersist, EndsTrigger, EndsComplete};
 ghost use Rattle.core_model.specs.Commits.{EndsCommit};
 ghost use Rattle.core_model.specs.CompleteCut.{HasTheCut};
 ghost use Rattle.core_model.specs.Goes.{Goes};
 ghost use Rattle.core_model.specs.Keeps.{Keeps};
-ghost use Rattle.core_model.specs.Language.{language};
 ghost use Rattle.core_model.specs.ExactlyOnce.{IsExactlyOnce};
 ghost use Rattle.core_model.specs.LastCommitted.{committed_of, complete_numbers};
 ghost use Rattle.core_model.specs.Sound.{IsSound, AreLegal, HaveGrown};
@@ -38,7 +34,7 @@ ghost use Rattle.engine.specs.Running.{IsCounted, IsSameJob, number_of, raised, 
 use crate::tasks::take_barrier;
 use alignment::Effect;
 use commit_sink::Transactions;
-use core_model::CoreFault;
+use core_model::{CoreFault, Rules};
 use engine_checkpoints::{commit, complete, persist, trigger};
 use engine_moves::{inject, read_next};
 use job_graph::Graph;
@@ -195,11 +191,9 @@ impl<O: Operator, S: SnapshotStore, X: Transactions, P: Partitions<Record = O::R
           attempts = 0;
         } }
         ensures legal { (former : List (List O.Record)) → HaveGrown former (P.records log)
-            → AreLegal (language O.meaning O.Key.cmp O.Record.spelling O.Record.reading
-            O.Key.reading O.State.reading) (Fits O.Record.HasSpelling O.Record.spelling) graph
-            operators.items former (S.state store) (X.state transactions)
-            → IsSound (language O.meaning O.Key.cmp O.Record.spelling O.Record.reading O.Key.reading
-            O.State.reading) (Fits O.Record.HasSpelling O.Record.spelling) result }
+            → AreLegal ⟦<O as Rules>⟧.lang ⟦<O as Rules>⟧.RecordFits graph operators.items former
+            (S.state store) (X.state transactions)
+            → IsSound ⟦<O as Rules>⟧.lang ⟦<O as Rules>⟧.RecordFits result }
         ensures fresh { IsTrue result.is_fresh
             ↔ ((S.state store ≡ stores.blank (length graph.tasks))
             × (X.state transactions ≡ ledgers.blank (count_by is_sink graph.tasks))) }
@@ -228,19 +222,15 @@ impl<O: Operator, S: SnapshotStore, X: Transactions, P: Partitions<Record = O::R
     /// checkpoint; on a line, what the operator makes of a beginning of the partition.
     pub fn is_fresh(&self) -> bool
         ensures value { result ≡ self.now.is_fresh }
-        ensures kept { Keeps (language O.meaning O.Key.cmp O.Record.spelling O.Record.reading
-            O.Key.reading O.State.reading) (Fits O.Record.HasSpelling O.Record.spelling)
-            (IsGoodState (Fits O.State.HasSpelling O.State.spelling) O.Suits) self.now }
-        ensures sound { IsTrue result → IsSound
-            (language O.meaning O.Key.cmp O.Record.spelling O.Record.reading O.Key.reading
-            O.State.reading) (Fits O.Record.HasSpelling O.Record.spelling) self.now }
-        ensures exact { IsTrue result → IsExactlyOnce
-            (language O.meaning O.Key.cmp O.Record.spelling O.Record.reading O.Key.reading
-            O.State.reading) self.now }
+        ensures kept { Keeps ⟦<O as Rules>⟧.lang ⟦<O as Rules>⟧.RecordFits ⟦<O as Rules>⟧.IsGood
+            self.now }
+        ensures sound { IsTrue result
+            → IsSound ⟦<O as Rules>⟧.lang ⟦<O as Rules>⟧.RecordFits self.now }
+        ensures exact { IsTrue result → IsExactlyOnce ⟦<O as Rules>⟧.lang self.now }
         ensures line { IsTrue result → (operator : O) → IsLine self.now.graph
             → slice_get self.now.operators 0 ≡ Some operator
-            → CommitsABeginning (language O.meaning O.Key.cmp O.Record.spelling O.Record.reading
-            O.Key.reading O.State.reading) self.now (λ rows. applied O.meaning operator rows) }
+            → CommitsABeginning ⟦<O as Rules>⟧.lang self.now
+            (λ rows. applied O.meaning operator rows) }
     {
         self.is_fresh
     }
@@ -251,14 +241,10 @@ impl<O: Operator, S: SnapshotStore, X: Transactions, P: Partitions<Record = O::R
             × (self.new ≡ record self.old { held = None })) }
         ensures err { IfErr result (λ fault. (fault ≡ CoreFault.NotRunning) × (self.old.held ≡ None)
             × (self.new ≡ self.old)) }
-        ensures goes { Goes (language O.meaning O.Key.cmp O.Record.spelling O.Record.reading
-            O.Key.reading O.State.reading) self.old self.new }
-        ensures sound { IsSound (language O.meaning O.Key.cmp O.Record.spelling O.Record.reading
-            O.Key.reading O.State.reading) (Fits O.Record.HasSpelling O.Record.spelling) self.old
-            → IsSound (language O.meaning O.Key.cmp O.Record.spelling O.Record.reading O.Key.reading
-            O.State.reading) (Fits O.Record.HasSpelling O.Record.spelling) self.new }
-        ensures stays { Stays (language O.meaning O.Key.cmp O.Record.spelling O.Record.reading
-            O.Key.reading O.State.reading) self.old self.new }
+        ensures goes { Goes ⟦<O as Rules>⟧.lang self.old self.new }
+        ensures sound { IsSound ⟦<O as Rules>⟧.lang ⟦<O as Rules>⟧.RecordFits self.old
+            → IsSound ⟦<O as Rules>⟧.lang ⟦<O as Rules>⟧.RecordFits self.new }
+        ensures stays { Stays ⟦<O as Rules>⟧.lang self.old self.new }
         ensures counted { IsCounted self.old.faults self.new.faults result }
         ensures same { IsSameJob self.old self.new }
         ensures ledger { self.new.ledger ≡ self.old.ledger }
@@ -276,30 +262,20 @@ impl<O: Operator, S: SnapshotStore, X: Transactions, P: Partitions<Record = O::R
     /// leaves the job down; transactions may be settled in part, and the next one does the rest.
     /// Attempts have numbers below 2^63.
     pub fn restart(&mut self) -> Result<Option<u64>, CoreFault>
-        ensures ends { OnDown self.old self.new
-            (EndsRestart (language O.meaning O.Key.cmp O.Record.spelling O.Record.reading
-            O.Key.reading O.State.reading) (Fits O.Key.HasSpelling O.Key.spelling)
-            (Fits O.Record.HasSpelling O.Record.spelling)
-            (IsGoodState (Fits O.State.HasSpelling O.State.spelling) O.Suits) self.old.graph
+        ensures ends { OnDown self.old self.new (EndsRestart ⟦<O as Rules>⟧.lang
+            ⟦<O as Rules>⟧.KeyFits ⟦<O as Rules>⟧.RecordFits ⟦<O as Rules>⟧.IsGood self.old.graph
             self.old.operators self.old.partitions self.old.stored self.old.ledger self.new.ledger)
             result }
-        ensures goes { IsSound (language O.meaning O.Key.cmp O.Record.spelling O.Record.reading
-            O.Key.reading O.State.reading) (Fits O.Record.HasSpelling O.Record.spelling) self.old
-            → Goes (language O.meaning O.Key.cmp O.Record.spelling O.Record.reading O.Key.reading
-            O.State.reading) self.old self.new }
-        ensures sound { IsSound (language O.meaning O.Key.cmp O.Record.spelling O.Record.reading
-            O.Key.reading O.State.reading) (Fits O.Record.HasSpelling O.Record.spelling) self.old
-            → IsSound (language O.meaning O.Key.cmp O.Record.spelling O.Record.reading O.Key.reading
-            O.State.reading) (Fits O.Record.HasSpelling O.Record.spelling) self.new }
+        ensures goes { IsSound ⟦<O as Rules>⟧.lang ⟦<O as Rules>⟧.RecordFits self.old
+            → Goes ⟦<O as Rules>⟧.lang self.old self.new }
+        ensures sound { IsSound ⟦<O as Rules>⟧.lang ⟦<O as Rules>⟧.RecordFits self.old
+            → IsSound ⟦<O as Rules>⟧.lang ⟦<O as Rules>⟧.RecordFits self.new }
         ensures begins { (subtask : ℕ) → Begins (committed_rows self.old.ledger subtask)
             (committed_rows self.new.ledger subtask) }
-        ensures cut { IsSound (language O.meaning O.Key.cmp O.Record.spelling O.Record.reading
-            O.Key.reading O.State.reading) (Fits O.Record.HasSpelling O.Record.spelling) self.old
+        ensures cut { IsSound ⟦<O as Rules>⟧.lang ⟦<O as Rules>⟧.RecordFits self.old
             → IfOk result (λ last. MatchOption self.new.held ⊥
-            (λ k. GoesOnFromCut (language O.meaning O.Key.cmp O.Record.spelling O.Record.reading
-            O.Key.reading O.State.reading) self.new last k)) }
-        ensures good { IsSound (language O.meaning O.Key.cmp O.Record.spelling O.Record.reading
-            O.Key.reading O.State.reading) (Fits O.Record.HasSpelling O.Record.spelling) self.old
+            (λ k. GoesOnFromCut ⟦<O as Rules>⟧.lang self.new last k)) }
+        ensures good { IsSound ⟦<O as Rules>⟧.lang ⟦<O as Rules>⟧.RecordFits self.old
             → result ≢ Err CoreFault.BadSnapshot }
         ensures counted { IsCounted self.old.faults self.new.faults result }
         ensures same { IsSameJob self.old self.new }
@@ -325,18 +301,12 @@ impl<O: Operator, S: SnapshotStore, X: Transactions, P: Partitions<Record = O::R
 
     /// Source `task` sends its next record.
     pub fn read(&mut self, task: u32) -> Result<(), CoreFault>
-        ensures ends { OnAttempt self.old self.new
-            (λ h k. EndsRead self.old.graph task h k
-            (language O.meaning O.Key.cmp O.Record.spelling O.Record.reading O.Key.reading
-            O.State.reading) self.old.partitions) result }
-        ensures goes { Goes (language O.meaning O.Key.cmp O.Record.spelling O.Record.reading
-            O.Key.reading O.State.reading) self.old self.new }
-        ensures sound { IsSound (language O.meaning O.Key.cmp O.Record.spelling O.Record.reading
-            O.Key.reading O.State.reading) (Fits O.Record.HasSpelling O.Record.spelling) self.old
-            → IsSound (language O.meaning O.Key.cmp O.Record.spelling O.Record.reading O.Key.reading
-            O.State.reading) (Fits O.Record.HasSpelling O.Record.spelling) self.new }
-        ensures plain { StepsIfOk result (language O.meaning O.Key.cmp O.Record.spelling
-            O.Record.reading O.Key.reading O.State.reading) (machine.Read task) self.old self.new }
+        ensures ends { OnAttempt self.old self.new (λ h k. EndsRead self.old.graph task h k
+            ⟦<O as Rules>⟧.lang self.old.partitions) result }
+        ensures goes { Goes ⟦<O as Rules>⟧.lang self.old self.new }
+        ensures sound { IsSound ⟦<O as Rules>⟧.lang ⟦<O as Rules>⟧.RecordFits self.old
+            → IsSound ⟦<O as Rules>⟧.lang ⟦<O as Rules>⟧.RecordFits self.new }
+        ensures plain { StepsIfOk result ⟦<O as Rules>⟧.lang (machine.Read task) self.old self.new }
         ensures counted { IsCounted self.old.faults self.new.faults result }
         ensures same { IsSameJob self.old self.new }
         ensures ledger { self.new.ledger ≡ self.old.ledger }
@@ -354,17 +324,13 @@ impl<O: Operator, S: SnapshotStore, X: Transactions, P: Partitions<Record = O::R
         ensures ends { OnTransactions self.old self.new
             (λ h k. EndsBarrier self.old.graph task input h k self.old.ledger self.new.ledger)
             result }
-        ensures goes { Goes (language O.meaning O.Key.cmp O.Record.spelling O.Record.reading
-            O.Key.reading O.State.reading) self.old self.new }
-        ensures sound { IsSound (language O.meaning O.Key.cmp O.Record.spelling O.Record.reading
-            O.Key.reading O.State.reading) (Fits O.Record.HasSpelling O.Record.spelling) self.old
-            → IsSound (language O.meaning O.Key.cmp O.Record.spelling O.Record.reading O.Key.reading
-            O.State.reading) (Fits O.Record.HasSpelling O.Record.spelling) self.new }
+        ensures goes { Goes ⟦<O as Rules>⟧.lang self.old self.new }
+        ensures sound { IsSound ⟦<O as Rules>⟧.lang ⟦<O as Rules>⟧.RecordFits self.old
+            → IsSound ⟦<O as Rules>⟧.lang ⟦<O as Rules>⟧.RecordFits self.new }
         ensures begins { (task subtask : ℕ) → slice_get self.old.graph.tasks task
             ≡ Some (Role.Sink subtask) → Begins (committed_rows self.old.ledger subtask)
             (committed_rows self.new.ledger subtask) }
-        ensures stays { Stays (language O.meaning O.Key.cmp O.Record.spelling O.Record.reading
-            O.Key.reading O.State.reading) self.old self.new }
+        ensures stays { Stays ⟦<O as Rules>⟧.lang self.old self.new }
         ensures counted { IsCounted self.old.faults self.new.faults result }
         ensures same { IsSameJob self.old self.new }
     {
@@ -386,14 +352,10 @@ impl<O: Operator, S: SnapshotStore, X: Transactions, P: Partitions<Record = O::R
     pub fn inject(&mut self, task: u32) -> Result<(), CoreFault>
         ensures ends { OnAttempt self.old self.new
             (λ h k. EndsInject self.old.graph task h k) result }
-        ensures goes { Goes (language O.meaning O.Key.cmp O.Record.spelling O.Record.reading
-            O.Key.reading O.State.reading) self.old self.new }
-        ensures sound { IsSound (language O.meaning O.Key.cmp O.Record.spelling O.Record.reading
-            O.Key.reading O.State.reading) (Fits O.Record.HasSpelling O.Record.spelling) self.old
-            → IsSound (language O.meaning O.Key.cmp O.Record.spelling O.Record.reading O.Key.reading
-            O.State.reading) (Fits O.Record.HasSpelling O.Record.spelling) self.new }
-        ensures stays { Stays (language O.meaning O.Key.cmp O.Record.spelling O.Record.reading
-            O.Key.reading O.State.reading) self.old self.new }
+        ensures goes { Goes ⟦<O as Rules>⟧.lang self.old self.new }
+        ensures sound { IsSound ⟦<O as Rules>⟧.lang ⟦<O as Rules>⟧.RecordFits self.old
+            → IsSound ⟦<O as Rules>⟧.lang ⟦<O as Rules>⟧.RecordFits self.new }
+        ensures stays { Stays ⟦<O as Rules>⟧.lang self.old self.new }
         ensures counted { IsCounted self.old.faults self.new.faults result }
         ensures same { IsSameJob self.old self.new }
         ensures ledger { self.new.ledger ≡ self.old.ledger }
@@ -410,14 +372,10 @@ impl<O: Operator, S: SnapshotStore, X: Transactions, P: Partitions<Record = O::R
     pub fn trigger(&mut self) -> Result<u64, CoreFault>
         ensures ends { OnStore self.old self.new
             (λ h k. EndsTrigger h k self.old.stored self.new.stored) result }
-        ensures goes { Goes (language O.meaning O.Key.cmp O.Record.spelling O.Record.reading
-            O.Key.reading O.State.reading) self.old self.new }
-        ensures sound { IsSound (language O.meaning O.Key.cmp O.Record.spelling O.Record.reading
-            O.Key.reading O.State.reading) (Fits O.Record.HasSpelling O.Record.spelling) self.old
-            → IsSound (language O.meaning O.Key.cmp O.Record.spelling O.Record.reading O.Key.reading
-            O.State.reading) (Fits O.Record.HasSpelling O.Record.spelling) self.new }
-        ensures stays { Stays (language O.meaning O.Key.cmp O.Record.spelling O.Record.reading
-            O.Key.reading O.State.reading) self.old self.new }
+        ensures goes { Goes ⟦<O as Rules>⟧.lang self.old self.new }
+        ensures sound { IsSound ⟦<O as Rules>⟧.lang ⟦<O as Rules>⟧.RecordFits self.old
+            → IsSound ⟦<O as Rules>⟧.lang ⟦<O as Rules>⟧.RecordFits self.new }
+        ensures stays { Stays ⟦<O as Rules>⟧.lang self.old self.new }
         ensures counted { IsCounted self.old.faults self.new.faults result }
         ensures same { IsSameJob self.old self.new }
         ensures ledger { self.new.ledger ≡ self.old.ledger }
@@ -431,17 +389,12 @@ impl<O: Operator, S: SnapshotStore, X: Transactions, P: Partitions<Record = O::R
 
     /// The part of a task that has copied is put in the store and acknowledged.
     pub fn persist(&mut self, task: u32) -> Result<(), CoreFault>
-        ensures ends { OnStore self.old self.new
-            (λ h k. EndsPersist self.old.graph task h k self.old.stored self.new.stored
-            (part_spelling O.Record.spelling O.Key.spelling O.State.spelling)) result }
-        ensures goes { Goes (language O.meaning O.Key.cmp O.Record.spelling O.Record.reading
-            O.Key.reading O.State.reading) self.old self.new }
-        ensures sound { IsSound (language O.meaning O.Key.cmp O.Record.spelling O.Record.reading
-            O.Key.reading O.State.reading) (Fits O.Record.HasSpelling O.Record.spelling) self.old
-            → IsSound (language O.meaning O.Key.cmp O.Record.spelling O.Record.reading O.Key.reading
-            O.State.reading) (Fits O.Record.HasSpelling O.Record.spelling) self.new }
-        ensures stays { Stays (language O.meaning O.Key.cmp O.Record.spelling O.Record.reading
-            O.Key.reading O.State.reading) self.old self.new }
+        ensures ends { OnStore self.old self.new (λ h k. EndsPersist self.old.graph task h k
+            self.old.stored self.new.stored ⟦<O as Rules>⟧.spelling) result }
+        ensures goes { Goes ⟦<O as Rules>⟧.lang self.old self.new }
+        ensures sound { IsSound ⟦<O as Rules>⟧.lang ⟦<O as Rules>⟧.RecordFits self.old
+            → IsSound ⟦<O as Rules>⟧.lang ⟦<O as Rules>⟧.RecordFits self.new }
+        ensures stays { Stays ⟦<O as Rules>⟧.lang self.old self.new }
         ensures counted { IsCounted self.old.faults self.new.faults result }
         ensures same { IsSameJob self.old self.new }
         ensures ledger { self.new.ledger ≡ self.old.ledger }
@@ -462,23 +415,14 @@ impl<O: Operator, S: SnapshotStore, X: Transactions, P: Partitions<Record = O::R
             (λ h k. EndsComplete h k self.old.stored self.new.stored) result }
         ensures whole { IfOk result (λ number. stores.has_all_parts self.new.stored number ≡ true) }
         ensures cut { IfOk result (λ number. MatchOption self.old.held ⊥
-            (λ h. HasTheCut (language O.meaning O.Key.cmp O.Record.spelling O.Record.reading
-            O.Key.reading O.State.reading) self.old h self.new.stored number)) }
-        ensures reached { IsSound (language O.meaning O.Key.cmp O.Record.spelling O.Record.reading
-            O.Key.reading O.State.reading) (Fits O.Record.HasSpelling O.Record.spelling) self.old
-            → IfOk result (IsReachedCut (job_of
-            (language O.meaning O.Key.cmp O.Record.spelling O.Record.reading O.Key.reading
-            O.State.reading) self.new) O.Record.spelling
-            (devices_of (language O.meaning O.Key.cmp O.Record.spelling O.Record.reading
-            O.Key.reading O.State.reading) self.new)) }
-        ensures goes { Goes (language O.meaning O.Key.cmp O.Record.spelling O.Record.reading
-            O.Key.reading O.State.reading) self.old self.new }
-        ensures sound { IsSound (language O.meaning O.Key.cmp O.Record.spelling O.Record.reading
-            O.Key.reading O.State.reading) (Fits O.Record.HasSpelling O.Record.spelling) self.old
-            → IsSound (language O.meaning O.Key.cmp O.Record.spelling O.Record.reading O.Key.reading
-            O.State.reading) (Fits O.Record.HasSpelling O.Record.spelling) self.new }
-        ensures stays { Stays (language O.meaning O.Key.cmp O.Record.spelling O.Record.reading
-            O.Key.reading O.State.reading) self.old self.new }
+            (λ h. HasTheCut ⟦<O as Rules>⟧.lang self.old h self.new.stored number)) }
+        ensures reached { IsSound ⟦<O as Rules>⟧.lang ⟦<O as Rules>⟧.RecordFits self.old
+            → IfOk result (IsReachedCut (job_of ⟦<O as Rules>⟧.lang self.new) O.Record.spelling
+            (devices_of ⟦<O as Rules>⟧.lang self.new)) }
+        ensures goes { Goes ⟦<O as Rules>⟧.lang self.old self.new }
+        ensures sound { IsSound ⟦<O as Rules>⟧.lang ⟦<O as Rules>⟧.RecordFits self.old
+            → IsSound ⟦<O as Rules>⟧.lang ⟦<O as Rules>⟧.RecordFits self.new }
+        ensures stays { Stays ⟦<O as Rules>⟧.lang self.old self.new }
         ensures counted { IsCounted self.old.faults self.new.faults result }
         ensures same { IsSameJob self.old self.new }
         ensures ledger { self.new.ledger ≡ self.old.ledger }
@@ -495,20 +439,15 @@ impl<O: Operator, S: SnapshotStore, X: Transactions, P: Partitions<Record = O::R
     pub fn commit(&mut self, sink: u32) -> Result<(), CoreFault>
         ensures ends { OnTransactions self.old self.new
             (λ h k. EndsCommit self.old.graph sink h k self.old.ledger self.new.ledger) result }
-        ensures goes { Goes (language O.meaning O.Key.cmp O.Record.spelling O.Record.reading
-            O.Key.reading O.State.reading) self.old self.new }
-        ensures sound { IsSound (language O.meaning O.Key.cmp O.Record.spelling O.Record.reading
-            O.Key.reading O.State.reading) (Fits O.Record.HasSpelling O.Record.spelling) self.old
-            → IsSound (language O.meaning O.Key.cmp O.Record.spelling O.Record.reading O.Key.reading
-            O.State.reading) (Fits O.Record.HasSpelling O.Record.spelling) self.new }
+        ensures goes { Goes ⟦<O as Rules>⟧.lang self.old self.new }
+        ensures sound { IsSound ⟦<O as Rules>⟧.lang ⟦<O as Rules>⟧.RecordFits self.old
+            → IsSound ⟦<O as Rules>⟧.lang ⟦<O as Rules>⟧.RecordFits self.new }
         ensures begins { (task subtask : ℕ) → slice_get self.old.graph.tasks task
             ≡ Some (Role.Sink subtask) → Begins (committed_rows self.old.ledger subtask)
             (committed_rows self.new.ledger subtask) }
-        ensures stays { Stays (language O.meaning O.Key.cmp O.Record.spelling O.Record.reading
-            O.Key.reading O.State.reading) self.old self.new }
+        ensures stays { Stays ⟦<O as Rules>⟧.lang self.old self.new }
         ensures counted { IsCounted self.old.faults self.new.faults result }
-        ensures reaches { IsSound (language O.meaning O.Key.cmp O.Record.spelling O.Record.reading
-            O.Key.reading O.State.reading) (Fits O.Record.HasSpelling O.Record.spelling) self.old
+        ensures reaches { IsSound ⟦<O as Rules>⟧.lang ⟦<O as Rules>⟧.RecordFits self.old
             → OnOk result (length (committed_of self.new.ledger sink)
             ≡ length (complete_numbers self.new.stored)) }
         ensures same { IsSameJob self.old self.new }
@@ -523,7 +462,7 @@ impl<O: Operator, S: SnapshotStore, X: Transactions, P: Partitions<Record = O::R
     /// Puts a record last in a partition. It is served whether the job runs or not, and does not
     /// take it down.
     pub fn append(&mut self, partition: u32, row: O::Record) -> Result<(), SourceFault>
-        requires { Fits O.Record.HasSpelling O.Record.spelling row }
+        requires { ⟦<O as Rules>⟧.RecordFits row }
         ensures ends { partitions.Ends (self.old.partitions, self.old.faults)
             (self.new.partitions, self.new.faults)
             (partitions.append_refusal self.old.partitions partition)
@@ -533,13 +472,10 @@ impl<O: Operator, S: SnapshotStore, X: Transactions, P: Partitions<Record = O::R
           partitions = self.new.partitions;
           faults = self.new.faults;
         } }
-        ensures stays { Stays (language O.meaning O.Key.cmp O.Record.spelling O.Record.reading
-            O.Key.reading O.State.reading) self.old self.new }
+        ensures stays { Stays ⟦<O as Rules>⟧.lang self.old self.new }
         ensures kept { IsSameJob self.old self.new }
-        ensures sound { IsSound (language O.meaning O.Key.cmp O.Record.spelling O.Record.reading
-            O.Key.reading O.State.reading) (Fits O.Record.HasSpelling O.Record.spelling) self.old
-            → IsSound (language O.meaning O.Key.cmp O.Record.spelling O.Record.reading O.Key.reading
-            O.State.reading) (Fits O.Record.HasSpelling O.Record.spelling) self.new }
+        ensures sound { IsSound ⟦<O as Rules>⟧.lang ⟦<O as Rules>⟧.RecordFits self.old
+            → IsSound ⟦<O as Rules>⟧.lang ⟦<O as Rules>⟧.RecordFits self.new }
         ensures ledger { self.new.ledger ≡ self.old.ledger }
     {
         self.log.append(partition, row)
@@ -552,11 +488,9 @@ impl<O: Operator, S: SnapshotStore, X: Transactions, P: Partitions<Record = O::R
         ensures partitions { P.records result.0 ≡ self.partitions }
         ensures stored { S.state result.1 ≡ self.stored }
         ensures ledger { X.state result.2 ≡ self.ledger }
-        ensures legal { IsSound (language O.meaning O.Key.cmp O.Record.spelling O.Record.reading
-            O.Key.reading O.State.reading) (Fits O.Record.HasSpelling O.Record.spelling) self
-            → AreLegal (language O.meaning O.Key.cmp O.Record.spelling O.Record.reading
-            O.Key.reading O.State.reading) (Fits O.Record.HasSpelling O.Record.spelling) self.graph
-            self.operators (P.records result.0) (S.state result.1) (X.state result.2) }
+        ensures legal { IsSound ⟦<O as Rules>⟧.lang ⟦<O as Rules>⟧.RecordFits self
+            → AreLegal ⟦<O as Rules>⟧.lang ⟦<O as Rules>⟧.RecordFits self.graph self.operators
+            (P.records result.0) (S.state result.1) (X.state result.2) }
     {
         let Engine {
             log,

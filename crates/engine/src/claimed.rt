@@ -1,7 +1,6 @@
 //! A task's work in two halves: what is to be done is offered, and what was made of it is taken.
 
 ghost use Rattle.std.specs.Prelude.{◌≡◌, ◌≢◌, ◌↔◌, ℕ, Err, None, Some, slice_get, IsTrue, MatchOption};
-ghost use Rattle.abs_codec.specs.Spelling.{Fits};
 ghost use Rattle.commit_sink.specs.Ledger.{committed_rows};
 ghost use Rattle.dataflow_model.specs.Graph.{Begins};
 ghost use Rattle.dataflow_model.specs.Machine as machine;
@@ -9,7 +8,6 @@ ghost use Rattle.job_graph.specs.declared.role.Role.TheVariants as Role;
 ghost use Rattle.core_model.specs.declared.fault.CoreFault.TheVariants as CoreFault;
 ghost use Rattle.core_model.specs.Calls.{input_at};
 ghost use Rattle.core_model.specs.Goes.{Goes};
-ghost use Rattle.core_model.specs.Language.{language};
 ghost use Rattle.core_model.specs.Sound.{IsSound};
 ghost use Rattle.core_plain.specs.Plain.{StepsIfOk, Stays};
 ghost use Rattle.claims.specs.Due.{EndsAsking, EndsOffer, EndsAccept};
@@ -18,7 +16,7 @@ ghost use Rattle.engine.specs.Running.{IsCounted, IsSameJob, OnTransactions};
 use crate::calls::{Engine, leave};
 use claims::{Work, Worked, accept, channel_of, offer};
 use commit_sink::Transactions;
-use core_model::CoreFault;
+use core_model::{CoreFault, Rules};
 use operators::Operator;
 use snapshot_store::SnapshotStore;
 use source_log::Partitions;
@@ -60,9 +58,8 @@ impl<O: Operator, S: SnapshotStore, X: Transactions, P: Partitions<Record = O::R
 
     /// Offers the work that a task is to do at an input now, and changes nothing.
     pub fn offer(&self, task: u32, input: u32) -> Result<Work<O>, CoreFault>
-        ensures { MatchOption self.now.held (result ≡ Err CoreFault.NotRunning)
-            (λ h. EndsOffer (language O.meaning O.Key.cmp O.Record.spelling O.Record.reading
-            O.Key.reading O.State.reading) self.now.graph self.now.operators task input h result) }
+        ensures { MatchOption self.now.held (result ≡ Err CoreFault.NotRunning) (λ h. EndsOffer
+            ⟦<O as Rules>⟧.lang self.now.graph self.now.operators task input h result) }
     {
         let Some(attempt) = &self.attempt else {
             return Err(CoreFault::NotRunning);
@@ -81,24 +78,18 @@ impl<O: Operator, S: SnapshotStore, X: Transactions, P: Partitions<Record = O::R
     /// work is not what the task is to do now, it is refused by `K7`, and where memory was refused
     /// for it by `K11`; then nothing has changed.
     pub fn accept(&mut self, task: u32, input: u32, worked: Worked<O>) -> Result<(), CoreFault>
-        ensures ends { OnTransactions self.old self.new
-            (λ h k. EndsAccept (language O.meaning O.Key.cmp O.Record.spelling O.Record.reading
-            O.Key.reading O.State.reading) self.old.graph self.old.operators task input h k
-            self.old.ledger self.new.ledger worked) result }
-        ensures goes { Goes (language O.meaning O.Key.cmp O.Record.spelling O.Record.reading
-            O.Key.reading O.State.reading) self.old self.new }
-        ensures sound { IsSound (language O.meaning O.Key.cmp O.Record.spelling O.Record.reading
-            O.Key.reading O.State.reading) (Fits O.Record.HasSpelling O.Record.spelling) self.old
-            → IsSound (language O.meaning O.Key.cmp O.Record.spelling O.Record.reading O.Key.reading
-            O.State.reading) (Fits O.Record.HasSpelling O.Record.spelling) self.new }
+        ensures ends { OnTransactions self.old self.new (λ h k. EndsAccept ⟦<O as Rules>⟧.lang
+            self.old.graph self.old.operators task input h k self.old.ledger self.new.ledger worked)
+            result }
+        ensures goes { Goes ⟦<O as Rules>⟧.lang self.old self.new }
+        ensures sound { IsSound ⟦<O as Rules>⟧.lang ⟦<O as Rules>⟧.RecordFits self.old
+            → IsSound ⟦<O as Rules>⟧.lang ⟦<O as Rules>⟧.RecordFits self.new }
         ensures begins { (task subtask : ℕ) → slice_get self.old.graph.tasks task
             ≡ Some (Role.Sink subtask) → Begins (committed_rows self.old.ledger subtask)
             (committed_rows self.new.ledger subtask) }
         ensures plain { MatchOption (input_at self.old.graph task input)
-            (Stays (language O.meaning O.Key.cmp O.Record.spelling O.Record.reading O.Key.reading
-            O.State.reading) self.old self.new)
-            (λ channel. StepsIfOk result (language O.meaning O.Key.cmp O.Record.spelling
-            O.Record.reading O.Key.reading O.State.reading) (machine.Work task channel)
+            (Stays ⟦<O as Rules>⟧.lang self.old self.new)
+            (λ channel. StepsIfOk result ⟦<O as Rules>⟧.lang (machine.Work task channel)
             self.old self.new) }
         ensures counted { IsCounted self.old.faults self.new.faults result }
         ensures same { IsSameJob self.old self.new }

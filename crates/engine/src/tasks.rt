@@ -1,15 +1,13 @@
 //! A task takes a barrier as what it is: an operator or a sink.
 
 ghost use Rattle.std.specs.Prelude.{◌≡◌, ◌≢◌, ◌<◌, Err, Some};
-ghost use Rattle.abs_codec.specs.Spelling.{Fits};
-ghost use Rattle.operators.specs.Operator.{IsGoodState};
 ghost use Rattle.core_model.specs.declared.fault.CoreFault.TheVariants as CoreFault;
 ghost use Rattle.claims.specs.Tasks.{Serves, EndsBarrier};
 
 use alignment::Effect;
 use claims::input_of;
 use commit_sink::Transactions;
-use core_model::CoreFault;
+use core_model::{CoreFault, Rules};
 use engine_moves::{operator_barrier, sink_barrier};
 use job_graph::{Graph, Role};
 use job_state::Attempt;
@@ -25,9 +23,8 @@ pub(crate) fn take_barrier<O: Operator, X: Transactions>(
     task: u32,
     input: u32,
 ) -> Result<Effect, CoreFault>
-    requires serves { Serves O.Key.cmp (Fits O.Record.HasSpelling O.Record.spelling)
-        (IsGoodState (Fits O.State.HasSpelling O.State.spelling) O.Suits) graph.now operators.now
-        (X.state transactions.old) attempt.old }
+    requires serves { Serves O.Key.cmp ⟦<O as Rules>⟧.RecordFits ⟦<O as Rules>⟧.IsGood graph.now
+        operators.now (X.state transactions.old) attempt.old }
     ensures ends { EndsBarrier graph.now task input attempt.old attempt.new
         (X.state transactions.old) (X.state transactions.new) result }
     ensures counted { result ≡ Err CoreFault.Device

@@ -1,8 +1,6 @@
 //! Rounds of turns, until no task has a step left to make.
 
 ghost use Rattle.std.specs.Prelude.{◌≡◌, ◌≢◌, ◌<◌, None, false, IsTrue, OnOk};
-ghost use Rattle.abs_codec.specs.Spelling.{Fits};
-ghost use Rattle.core_model.specs.Language.{language};
 ghost use Rattle.core_model.specs.Sound.{IsSound};
 ghost use Rattle.engine.specs.Readers.{pending_in};
 ghost use Rattle.engine.specs.Running.{IsCounted};
@@ -13,6 +11,7 @@ ghost use Rattle.engine_rounds.specs.Works.{CanMove, IsResting};
 use crate::ending::Drained;
 use crate::turns::{has_step, turn};
 use commit_sink::Transactions;
+use core_model::Rules;
 use engine::{CoreFault, Engine};
 use operators::Operator;
 use snapshot_store::SnapshotStore;
@@ -28,9 +27,8 @@ fn take_turn<O: Operator, S: SnapshotStore, X: Transactions, P: Partitions<Recor
 ) -> Result<(), CoreFault>
     requires running { engine.old.held ≢ None }
     requires some { 0 < left.old }
-    ensures ends { EndsCounted (language O.meaning O.Key.cmp O.Record.spelling O.Record.reading
-        O.Key.reading O.State.reading) (Fits O.Record.HasSpelling O.Record.spelling) engine.old
-        engine.new task left.old left.new result }
+    ensures ends { EndsCounted ⟦<O as Rules>⟧.lang ⟦<O as Rules>⟧.RecordFits engine.old engine.new
+        task left.old left.new result }
     ensures counted { IsCounted engine.old.faults engine.new.faults result }
     ensures pending { OnOk result (pending_in engine.new.held ≡ pending_in engine.old.held) }
 {
@@ -53,9 +51,8 @@ fn round<O: Operator, S: SnapshotStore, X: Transactions, P: Partitions<Record = 
 ) -> Result<bool, CoreFault>
     requires running { engine.old.held ≢ None }
     requires some { 0 < left.old }
-    ensures ends { EndsRound (language O.meaning O.Key.cmp O.Record.spelling O.Record.reading
-        O.Key.reading O.State.reading) (Fits O.Record.HasSpelling O.Record.spelling) engine.old
-        engine.new left.old left.new result }
+    ensures ends { EndsRound ⟦<O as Rules>⟧.lang ⟦<O as Rules>⟧.RecordFits engine.old engine.new
+        left.old left.new result }
     ensures counted { IsCounted engine.old.faults engine.new.faults result }
     ensures pending { OnOk result (pending_in engine.new.held ≡ pending_in engine.old.held) }
 {
@@ -81,8 +78,7 @@ fn can_move<O: Operator, S: SnapshotStore, X: Transactions, P: Partitions<Record
     engine: &Engine<O, S, X, P>,
 ) -> bool
     requires running { engine.now.held ≢ None }
-    ensures some { IsTrue result → CanMove (language O.meaning O.Key.cmp O.Record.spelling
-        O.Record.reading O.Key.reading O.State.reading) engine.now }
+    ensures some { IsTrue result → CanMove ⟦<O as Rules>⟧.lang engine.now }
     ensures none { result ≡ false → AreIdle engine.now }
 {
     for task in 0..engine.graph().tasks() {
@@ -101,11 +97,9 @@ pub fn idle_engines_rest<
     X: Transactions,
     P: Partitions<Record = O::Record>,
 >(engine: &Engine<O, S, X, P>)
-    ensures { IsSound (language O.meaning O.Key.cmp O.Record.spelling O.Record.reading O.Key.reading
-        O.State.reading) (Fits O.Record.HasSpelling O.Record.spelling) engine.now
-        → pending_in engine.now.held ≡ None → AreIdle engine.now
-        → IsResting (language O.meaning O.Key.cmp O.Record.spelling O.Record.reading O.Key.reading
-        O.State.reading) engine.now }
+    ensures { IsSound ⟦<O as Rules>⟧.lang ⟦<O as Rules>⟧.RecordFits engine.now
+        → pending_in engine.now.held ≡ None
+        → AreIdle engine.now → IsResting ⟦<O as Rules>⟧.lang engine.now }
 {
     engine.is_fresh();
 }
@@ -118,9 +112,8 @@ pub fn rounds<O: Operator, S: SnapshotStore, X: Transactions, P: Partitions<Reco
     turns: u64,
 ) -> Result<Drained, CoreFault>
     requires running { engine.old.held ≢ None }
-    ensures ends { EndsRounds (language O.meaning O.Key.cmp O.Record.spelling O.Record.reading
-        O.Key.reading O.State.reading) (Fits O.Record.HasSpelling O.Record.spelling) engine.old
-        engine.new turns result }
+    ensures ends { EndsRounds ⟦<O as Rules>⟧.lang ⟦<O as Rules>⟧.RecordFits engine.old engine.new
+        turns result }
     ensures counted { IsCounted engine.old.faults engine.new.faults result }
     ensures pending { OnOk result (pending_in engine.new.held ≡ pending_in engine.old.held) }
 {

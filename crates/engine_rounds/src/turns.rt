@@ -1,16 +1,15 @@
 //! A task takes its turn.
 
 ghost use Rattle.std.specs.Prelude.{◌≡◌, ◌≢◌, ◌↔◌, ℕ, None, false, IsTrue, OnOk, MatchOption, slice_get};
-ghost use Rattle.abs_codec.specs.Spelling.{Fits};
 ghost use Rattle.claims.specs.Due.{IsWorker, WorksFrom};
 ghost use Rattle.core_model.specs.Calls.{IsSource};
-ghost use Rattle.core_model.specs.Language.{language};
 ghost use Rattle.engine.specs.Readers.{pending_in};
 ghost use Rattle.engine.specs.Running.{IsCounted};
 ghost use Rattle.engine_rounds.specs.Idle.{HasInput, HasStepIn, IsIdleIn};
 ghost use Rattle.engine_rounds.specs.Turns.{turned_as, EndsTurn, EndsWorkAt};
 
 use commit_sink::Transactions;
+use core_model::Rules;
 use engine::{CoreFault, Engine};
 use job_graph::Role;
 use operators::Operator;
@@ -37,9 +36,8 @@ fn read_turn<O: Operator, S: SnapshotStore, X: Transactions, P: Partitions<Recor
 ) -> Result<bool, CoreFault>
     requires source { IsSource engine.old.graph task }
     requires running { engine.old.held ≢ None }
-    ensures ends { EndsTurn (language O.meaning O.Key.cmp O.Record.spelling O.Record.reading
-        O.Key.reading O.State.reading) (Fits O.Record.HasSpelling O.Record.spelling) engine.old
-        engine.new task result }
+    ensures ends { EndsTurn ⟦<O as Rules>⟧.lang ⟦<O as Rules>⟧.RecordFits engine.old engine.new task
+        result }
     ensures counted { IsCounted engine.old.faults engine.new.faults result }
     ensures pending { OnOk result (pending_in engine.new.held ≡ pending_in engine.old.held) }
 {
@@ -55,9 +53,8 @@ pub(crate) fn work_at<
 >(engine: &mut Engine<O, S, X, P>, alloc: Global, task: u32, input: u32) -> Result<bool, CoreFault>
     requires input { (channel : ℕ) × WorksFrom engine.old.graph task input channel }
     requires running { engine.old.held ≢ None }
-    ensures ends { EndsWorkAt (language O.meaning O.Key.cmp O.Record.spelling O.Record.reading
-        O.Key.reading O.State.reading) (Fits O.Record.HasSpelling O.Record.spelling) engine.old
-        engine.new task input result }
+    ensures ends { EndsWorkAt ⟦<O as Rules>⟧.lang ⟦<O as Rules>⟧.RecordFits engine.old engine.new
+        task input result }
     ensures counted { IsCounted engine.old.faults engine.new.faults result }
     ensures pending { OnOk result (pending_in engine.new.held ≡ pending_in engine.old.held) }
 {
@@ -75,9 +72,8 @@ fn work_turn<O: Operator, S: SnapshotStore, X: Transactions, P: Partitions<Recor
 ) -> Result<bool, CoreFault>
     requires worker { IsWorker (slice_get engine.old.graph.tasks task) }
     requires running { engine.old.held ≢ None }
-    ensures ends { EndsTurn (language O.meaning O.Key.cmp O.Record.spelling O.Record.reading
-        O.Key.reading O.State.reading) (Fits O.Record.HasSpelling O.Record.spelling) engine.old
-        engine.new task result }
+    ensures ends { EndsTurn ⟦<O as Rules>⟧.lang ⟦<O as Rules>⟧.RecordFits engine.old engine.new task
+        result }
     ensures counted { IsCounted engine.old.faults engine.new.faults result }
     ensures pending { OnOk result (pending_in engine.new.held ≡ pending_in engine.old.held) }
 {
@@ -101,9 +97,8 @@ pub(crate) fn turn<
     P: Partitions<Record = O::Record>,
 >(engine: &mut Engine<O, S, X, P>, alloc: Global, task: u32) -> Result<bool, CoreFault>
     requires running { engine.old.held ≢ None }
-    ensures ends { EndsTurn (language O.meaning O.Key.cmp O.Record.spelling O.Record.reading
-        O.Key.reading O.State.reading) (Fits O.Record.HasSpelling O.Record.spelling) engine.old
-        engine.new task result }
+    ensures ends { EndsTurn ⟦<O as Rules>⟧.lang ⟦<O as Rules>⟧.RecordFits engine.old engine.new task
+        result }
     ensures counted { IsCounted engine.old.faults engine.new.faults result }
     ensures pending { OnOk result (pending_in engine.new.held ≡ pending_in engine.old.held) }
 {
