@@ -10,7 +10,8 @@ use Rattle.job_state.specs.Held.{Held, copy_at, logs_of, with_logs}
 use Rattle.snapshot_store.specs.Store.{Stored, IsNumbered}
 use Rattle.task_part.specs.declared.part.Part.{Part}
 use Rattle.core_model.specs.declared.fault.CoreFault.{CoreFault}
-use Rattle.core_model.specs.Calls.{left_by, EndsPersist, EndsComplete, EndsTrigger}
+use Rattle.core_model.specs.declared.persisted.Persisted.{Persisted}
+use Rattle.core_model.specs.Calls.{left_by, EndsPersist, EndsPersistSome, EndsComplete, EndsTrigger}
 use Rattle.core_model.specs.CallLaws.{Passes, IsGoodBy, KeepsAndGoes, RunsWith}
 use Rattle.core_model.specs.Commits.{EndsCommit}
 use Rattle.core_model.specs.ExactlyOnce.{IsExactlyOnce}
@@ -33,6 +34,13 @@ module _ {R K S O : Type 0} where
   PersistsKeepEngines lang =
       (fits : R → Bool) (state_fits : S → Bool) (suits : O → S → Bool) (s : State O R K S) (h k : Held R K S) (stored : Stored) (faults task : ℕ) (spelling : Part R K S → List ℕ) (result : Result Unit CoreFault) → RunsWith lang fits state_fits suits s h → IsNumbered stored →
       ((p : Part R K S) → copy_at h task ≡ Some p → whole_of lang.read_part (spelling (with_logs (logs_of s.graph h task) p)) ≡ Ok (with_logs (logs_of s.graph h task) p)) → EndsPersist s.graph task h k s.stored stored spelling result →
+      KeepsAndGoes lang fits state_fits suits s (record s { held = left_by result (Some k); stored = stored; faults = faults })
+
+  -- work on a task's part goes on, or the part is put
+  abbrev pub PersistsSomeKeepEngines : Language R K S O → Type 0
+  PersistsSomeKeepEngines lang =
+      (fits : R → Bool) (state_fits : S → Bool) (suits : O → S → Bool) (s : State O R K S) (h k : Held R K S) (stored : Stored) (faults task : ℕ) (spelling : Part R K S → List ℕ) (result : Result Persisted CoreFault) → RunsWith lang fits state_fits suits s h → IsNumbered stored →
+      ((p : Part R K S) → copy_at h task ≡ Some p → whole_of lang.read_part (spelling (with_logs (logs_of s.graph h task) p)) ≡ Ok (with_logs (logs_of s.graph h task) p)) → EndsPersistSome s.graph task h k s.stored stored spelling result →
       KeepsAndGoes lang fits state_fits suits s (record s { held = left_by result (Some k); stored = stored; faults = faults })
 
   -- the pending checkpoint is complete

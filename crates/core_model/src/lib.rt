@@ -1,5 +1,5 @@
 //! What an engine holds, as data, and what its calls do to it, in terms of the checkpoint model.
-//! The only code here is that of [`CoreFault`] and [`Start`]. Proved: each call on a running job,
+//! The only code here is that of [`CoreFault`], [`Persisted`] and [`Start`]. Proved: each call on a running job,
 //! accepted, refused or cut short by a device, and each restart, keeps what every engine keeps and
 //! is steps of the model's engine; a checkpoint that completes is the cut that its attempt has made
 //! so far; a sound engine is exactly once; no step withdraws a committed row; a restart of a sound
@@ -11,16 +11,18 @@
 #![tactic(auto)]
 
 mod fault;
+mod persisted;
 mod start;
 
 ghost use Rattle.core_model.specs.Language.{Language};
 ghost use Rattle.core_model.specs.CallLaws.{ReadsKeepEngines, InjectsKeepEngines, OperatesKeepEngines, OperatorBarriersKeepEngines, PutsOutKeepEngines, SinkBarriersKeepEngines};
-ghost use Rattle.core_model.specs.CheckpointLaws.{TriggersKeepEngines, PersistsKeepEngines, CompletesKeepEngines, CommitsKeepEngines, CommitsReachEveryCheckpoint, FailuresKeepEngines, FreshEnginesAreExact, FreshEnginesCommitOutputs, StepsWithdrawNoRow};
+ghost use Rattle.core_model.specs.CheckpointLaws.{TriggersKeepEngines, PersistsKeepEngines, PersistsSomeKeepEngines, CompletesKeepEngines, CommitsKeepEngines, CommitsReachEveryCheckpoint, FailuresKeepEngines, FreshEnginesAreExact, FreshEnginesCommitOutputs, StepsWithdrawNoRow};
 ghost use Rattle.core_model.specs.CompleteCut.{CompletesAreTheCut, FreshCompletesAreReached};
 ghost use Rattle.core_model.specs.RestartLaws.{RestartsKeepEngines, RestartsWithdrawNoRow, FreshRestartsAreSteps, FreshRestartsGiveTheCut, FreshRestartsAreNotBad};
 ghost use Rattle.core_model.specs.Laws.{ReadsAreSteps, OperatesAreSteps, InjectsAreSteps, CommittedAreRows, AppendsKeepSinks, CopiesKeepSinks, CommitsKeepSinks};
 
 pub use fault::CoreFault;
+pub use persisted::Persisted;
 pub use start::Start;
 
 /// A source that sends its next record makes a step of the model.
@@ -97,6 +99,11 @@ pub fn triggers_keep_engines<R, K, S, O>()
 /// So does putting a part.
 pub fn persists_keep_engines<R, K, S, O>()
     ensures { (lang : Language R K S O) → PersistsKeepEngines lang }
+{}
+
+/// So does going on with a part.
+pub fn persists_some_keep_engines<R, K, S, O>()
+    ensures { (lang : Language R K S O) → PersistsSomeKeepEngines lang }
 {}
 
 /// So does a checkpoint's end.

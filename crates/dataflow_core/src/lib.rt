@@ -46,7 +46,7 @@ mod settling;
 
 pub use calls::Core;
 pub use desks::Desk;
-pub use engine::{CoreFault, DeviceCall};
+pub use engine::{CoreFault, DeviceCall, Persisted};
 pub use engine_rules::Rules;
 pub use engine_settling::Drained;
 pub use held::Claim;
