@@ -8,9 +8,5 @@ pub returns-in-Barrier-clause-ends : goal.returns-in-Barrier-clause-ends
 returns-in-Barrier-clause-ends g c =
     rw c.in-Barrier.is (((c.take_barrier.result, c.copied.ensures, (c.take_barrier.ensures.ends, c.take_barrier.ensures.counted)), refl), c.take_barrier.ensures.claims)
 
-pub returns-in-PersistSome-clause-ends : goal.returns-in-PersistSome-clause-ends
-returns-in-PersistSome-clause-ends g c =
-    rw c.in-PersistSome.is (((c.persist_some.result, c.persisted.ensures, (c.persist_some.ensures.ends, c.persist_some.ensures.counted)), refl), c.persist_some.ensures.claims)
-
 pub returns-in-Append-clause-ends : goal.returns-in-Append-clause-ends
 returns-in-Append-clause-ends g c = rw c.in-Append.is (c.append_copy.ensures.ends.0, refl)
