@@ -11,10 +11,12 @@ use Rattle.core_model.specs.Language.{Language}
 use Rattle.core_model.specs.State.{State}
 use Rattle.core_model.specs.View.{run_of, transactions_at}
 use Rattle.core_model.specs.Keeps.{PartsAreFormed, CopyAs, Shape, Keeps}
-use Rattle.core_model.specs.Calls.{IsPersistNext, EndsPersist, WhereReached, left_by}
+use Rattle.core_model.specs.Calls.{IsPersistNext, EndsPersist, EndsPersistSome, WhereReached, WherePut, left_by}
 use Rattle.core_model.specs.Goes.{Goes}
 use Rattle.core_model.specs.declared.fault.CoreFault.{CoreFault}
 use Rattle.core_model.specs.declared.fault.CoreFault.TheVariants.{NoSuchTask, NotReady, NoCheckpoint, Memory, Device}
+use Rattle.core_model.specs.declared.persisted.Persisted.{Persisted}
+use Rattle.core_model.specs.declared.persisted.Persisted.TheVariants.{More, Done}
 use Rattle.core_model.proofs.ShapesKept.{shape_acknowledged}
 use Rattle.core_model.proofs.StoreLogs.{logs_suit}
 use Rattle.core_model.proofs.StorePart.{part_of_form, have_come}
@@ -102,8 +104,26 @@ module _ {R K S O : Type 0} (lang : Language R K S O) (RecordFits : R → Type 0
         ]
     keeps_persist (Err other) spells e = absurd e
 
+    pub keeps_persist_some : (result : Result Persisted CoreFault) → WherePut result IsReadable → EndsPersistSome s.graph task h k s.stored stored spelling result
+        → Keeps lang RecordFits IsGood (record s { held = left_by result (Some k); stored = stored; faults = n }) × Goes lang s (record s { held = left_by result (Some k); stored = stored; faults = n })
+    keeps_persist_some (Ok Done) spells e = keeps_persist (Ok tt) spells e
+    keeps_persist_some (Ok More) spells e = keeps_refused lang RecordFits IsGood s keeps h k stored s.ledger n was e.3 e.4 refl
+    keeps_persist_some (Err NoSuchTask) spells e = keeps_persist (Err NoSuchTask) tt e
+    keeps_persist_some (Err NoCheckpoint) spells e = keeps_persist (Err NoCheckpoint) tt e
+    keeps_persist_some (Err NotReady) spells e = keeps_persist (Err NotReady) tt e
+    keeps_persist_some (Err Memory) spells e = keeps_refused lang RecordFits IsGood s keeps h k stored s.ledger n was e.3 e.4 refl
+    keeps_persist_some (Err Device) spells e = keeps_persist (Err Device) spells e
+    keeps_persist_some (Err other) spells e = absurd e
+
 -- what holds anyhow holds where the device is reached
 pub when_reached : {T : Type 0} (P : Type 0) (result : Result T CoreFault) → P → WhereReached result P
 when_reached P (Ok v) p = p
 when_reached P (Err Device) p = p
 when_reached P (Err other) p = tt
+
+-- what holds anyhow holds where a part was put
+pub when_put : (P : Type 0) (result : Result Persisted CoreFault) → P → WherePut result P
+when_put P (Ok Done) p = p
+when_put P (Ok More) p = tt
+when_put P (Err Device) p = p
+when_put P (Err other) p = tt

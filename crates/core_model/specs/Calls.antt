@@ -23,6 +23,8 @@ use Rattle.task_part.specs.declared.part.Part.{Part}
 use Rattle.core_model.specs.Language.{Language}
 use Rattle.core_model.specs.declared.fault.CoreFault.{CoreFault}
 use Rattle.core_model.specs.declared.fault.CoreFault.TheVariants.{NoSuchTask, NotReady, ChannelBlocked, CheckpointPending, NoCheckpoint, NotAllAcked, Memory, Device, NumbersSpent}
+use Rattle.core_model.specs.declared.persisted.Persisted.{Persisted}
+use Rattle.core_model.specs.declared.persisted.Persisted.TheVariants.{More, Done}
 
 -- the state under a key, if there is a key and a state
 abbrev pub state_of : {K S : Type 0} → (K → K → Ordering) → List (K × S) → Option K → Option S
@@ -218,6 +220,13 @@ module _ {R K S : Type 0} (graph : Expanded) (task : ℕ) (h k : Held R K S) whe
     pub closed : (gate_at h task).phase ≡ AtRest
     pub unacknowledged : has_acked h.coordination task ≡ false
 
+  -- the task's part is wanted: it has copied, and it has not acknowledged
+  pub record IsPartWanted (checkpoint : ℕ) (p : Part R K S) : Type 0 where
+    pub is_task : IsTask graph task
+    pub pending : h.coordination.pending ≡ Some checkpoint
+    pub copied : copy_at h task ≡ Some p
+    pub unacknowledged : has_acked h.coordination task ≡ false
+
   module _ (old new : Stored) where
     -- a task's part is put and acknowledged
     abbrev pub EndsPersist : (Part R K S → List ℕ) → Result Unit CoreFault → Type 0
@@ -228,6 +237,13 @@ module _ {R K S : Type 0} (graph : Expanded) (task : ℕ) (h k : Held R K S) whe
     EndsPersist spelling (Err Memory) = (checkpoint : ℕ) × (p : Part R K S) × IsPersistNext checkpoint p × (k ≡ h) × (new ≡ old)
     EndsPersist spelling (Err Device) = (checkpoint : ℕ) × (p : Part R K S) × IsPersistNext checkpoint p × ((new ≡ old) ⊎ (new ≡ with_part old checkpoint task (spelling (with_logs (logs_of graph h task) p))))
     EndsPersist spelling (Err other) = ⊥
+
+    -- Work on a task's part has gone on, which nothing here shows, or its part is put and acknowledged.
+    abbrev pub EndsPersistSome : (Part R K S → List ℕ) → Result Persisted CoreFault → Type 0
+    EndsPersistSome spelling (Ok Done) = EndsPersist spelling (Ok tt)
+    EndsPersistSome spelling (Ok More) = (checkpoint : ℕ) × (p : Part R K S) × IsPartWanted checkpoint p × (k ≡ h) × (new ≡ old)
+    EndsPersistSome spelling (Err Memory) = (checkpoint : ℕ) × (p : Part R K S) × IsPartWanted checkpoint p × (k ≡ h) × (new ≡ old)
+    EndsPersistSome spelling (Err fault) = EndsPersist spelling (Err fault)
 
 -- the store once the parts below the last complete number are gone
 abbrev pub tidied : Option ℕ → Stored → Stored
@@ -262,3 +278,9 @@ abbrev pub WhereReached : {T : Type 0} → Result T CoreFault → Type 0 → Typ
 WhereReached (Ok v) P = P
 WhereReached (Err Device) P = P
 WhereReached (Err other) P = Unit {0}
+
+-- what holds where a part was put, or the device failed
+abbrev pub WherePut : Result Persisted CoreFault → Type 0 → Type 0
+WherePut (Ok Done) P = P
+WherePut (Err Device) P = P
+WherePut other P = Unit {0}

@@ -3,11 +3,13 @@ use Rattle.std.proofs.Common.{◌≡◌, Some, Result, Ok, Err, ℕ, List, refl,
 use Rattle.job_state.specs.Held.{Held}
 use Rattle.snapshot_store.specs.Store.{Stored}
 use Rattle.task_part.specs.declared.part.Part.{Part}
-use Rattle.core_model.specs.Calls.{EndsTrigger, EndsPersist, EndsComplete, left_by}
+use Rattle.core_model.specs.Calls.{EndsTrigger, EndsPersist, EndsPersistSome, EndsComplete, left_by}
 use Rattle.core_model.specs.Language.{Language}
 use Rattle.core_model.specs.State.{State}
 use Rattle.core_model.specs.declared.fault.CoreFault.{CoreFault}
 use Rattle.core_model.specs.declared.fault.CoreFault.TheVariants.{NoSuchTask, NoCheckpoint, NotReady, NotAllAcked, CheckpointPending, NumbersSpent, Memory, Device}
+use Rattle.core_model.specs.declared.persisted.Persisted.{Persisted}
+use Rattle.core_model.specs.declared.persisted.Persisted.TheVariants.{More, Done}
 use Rattle.core_model.proofs.CallGoes.{after}
 use Rattle.core_plain.specs.Plain.{Stays}
 use Rattle.core_plain.proofs.Stands.{bare_of, same_ledger, stays_by}
@@ -32,6 +34,16 @@ module _ {R K S O : Type 0} (lang : Language R K S O) (s : State O R K S) (h k :
   plain_persist task spelling (Err Memory) ends = stored_stays (ap (bare_of lang s) ends.3)
   plain_persist task spelling (Err Device) ends = λ at stands. tt
   plain_persist task spelling (Err other) ends = absurd ends
+
+  pub plain_persist_some : (task : ℕ) (spelling : Part R K S → List ℕ) (result : Result Persisted CoreFault) → EndsPersistSome s.graph task h k s.stored stored spelling result → Stays lang s (record s { held = left_by result (Some k); stored = stored; faults = n })
+  plain_persist_some task spelling (Ok Done) ends = plain_persist task spelling (Ok tt) ends
+  plain_persist_some task spelling (Ok More) ends = stored_stays (ap (bare_of lang s) ends.3)
+  plain_persist_some task spelling (Err NoSuchTask) ends = plain_persist task spelling (Err NoSuchTask) ends
+  plain_persist_some task spelling (Err NoCheckpoint) ends = plain_persist task spelling (Err NoCheckpoint) ends
+  plain_persist_some task spelling (Err NotReady) ends = plain_persist task spelling (Err NotReady) ends
+  plain_persist_some task spelling (Err Memory) ends = stored_stays (ap (bare_of lang s) ends.3)
+  plain_persist_some task spelling (Err Device) ends = λ at stands. tt
+  plain_persist_some task spelling (Err other) ends = absurd ends
 
   pub plain_complete : (result : Result ℕ CoreFault) → EndsComplete h k s.stored stored result → Stays lang s (record s { held = left_by result (Some k); stored = stored; faults = n })
   plain_complete (Ok number) ends = stored_stays (ap (bare_of lang s) ends.3)

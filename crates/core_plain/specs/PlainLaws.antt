@@ -8,7 +8,8 @@ use Rattle.job_state.specs.Held.{Held}
 use Rattle.snapshot_store.specs.Store.{Stored}
 use Rattle.task_part.specs.declared.part.Part.{Part}
 use Rattle.core_model.specs.declared.fault.CoreFault.{CoreFault}
-use Rattle.core_model.specs.Calls.{left_by, EndsRead, EndsOperate, EndsPutOut, EndsInject, EndsOperatorBarrier, EndsSinkBarrier, EndsPersist, EndsTrigger, EndsComplete}
+use Rattle.core_model.specs.declared.persisted.Persisted.{Persisted}
+use Rattle.core_model.specs.Calls.{left_by, EndsRead, EndsOperate, EndsPutOut, EndsInject, EndsOperatorBarrier, EndsSinkBarrier, EndsPersist, EndsPersistSome, EndsTrigger, EndsComplete}
 use Rattle.core_model.specs.ByTests.{RunsWith, IsOperatorTask, IsSinkTask}
 use Rattle.core_model.specs.Commits.{EndsCommit}
 use Rattle.core_model.specs.Language.{Language}
@@ -36,6 +37,8 @@ module _ {R K S O : Type 0} where
         Stays lang s (record s { held = left_by result (Some k); ledger = ledger; faults = faults })
     pub trigger : (k : Held R K S) (stored : Stored) (faults : ℕ) (result : Result ℕ CoreFault) → EndsTrigger h k s.stored stored result → Stays lang s (record s { held = left_by result (Some k); stored = stored; faults = faults })
     pub persist : (k : Held R K S) (stored : Stored) (faults task : ℕ) (spelling : Part R K S → List ℕ) (result : Result Unit CoreFault) → EndsPersist s.graph task h k s.stored stored spelling result →
+        Stays lang s (record s { held = left_by result (Some k); stored = stored; faults = faults })
+    pub persist_some : (k : Held R K S) (stored : Stored) (faults task : ℕ) (spelling : Part R K S → List ℕ) (result : Result Persisted CoreFault) → EndsPersistSome s.graph task h k s.stored stored spelling result →
         Stays lang s (record s { held = left_by result (Some k); stored = stored; faults = faults })
     pub completion : (k : Held R K S) (stored : Stored) (faults : ℕ) (result : Result ℕ CoreFault) → EndsComplete h k s.stored stored result → Stays lang s (record s { held = left_by result (Some k); stored = stored; faults = faults })
     pub commit : (k : Held R K S) (ledger : Ledger) (faults subtask : ℕ) (result : Result Unit CoreFault) → EndsCommit s.graph subtask h k s.ledger ledger result →

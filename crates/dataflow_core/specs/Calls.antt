@@ -1,13 +1,14 @@
 -- How each call ends, of the engine before and after.
 use Rattle.std.specs.Prelude.{◌≡◌, ◌≢◌, ℕ, None, Option, Result, Err, OnOk, IfErr, List}
 use Rattle.alignment.specs.declared.input.Effect.{Effect}
-use Rattle.core_model.specs.Calls.{EndsRead, EndsInject, EndsPersist, EndsTrigger, EndsComplete}
+use Rattle.core_model.specs.Calls.{EndsRead, EndsInject, EndsPersist, EndsPersistSome, EndsTrigger, EndsComplete}
 use Rattle.core_model.specs.Commits.{EndsCommit}
 use Rattle.core_model.specs.Language.{Language}
 use Rattle.core_model.specs.Restart.{EndsRestart}
 use Rattle.core_model.specs.State.{State}
 use Rattle.core_model.specs.declared.fault.CoreFault.{CoreFault}
 use Rattle.core_model.specs.declared.fault.CoreFault.TheVariants.{NotRunning}
+use Rattle.core_model.specs.declared.persisted.Persisted.{Persisted}
 use Rattle.engine.specs.Running.{OnAttempt, OnStore, OnTransactions, OnDown}
 use Rattle.claims.specs.Tasks.{EndsBarrier}
 use Rattle.source_log.specs.Partitions as partitions
@@ -37,6 +38,9 @@ module _ {R K S O : Type 0} (old new : State O R K S) where
 
   abbrev pub Persists : (Part R K S → List ℕ) → ℕ → Result Unit CoreFault → Type 0
   Persists spelling task result = OnStore old new (λ h k. EndsPersist old.graph task h k old.stored new.stored spelling) result
+
+  abbrev pub PersistsSome : (Part R K S → List ℕ) → ℕ → Result Persisted CoreFault → Type 0
+  PersistsSome spelling task result = OnStore old new (λ h k. EndsPersistSome old.graph task h k old.stored new.stored spelling) result
 
   abbrev pub Completes : Result ℕ CoreFault → Type 0
   Completes result = OnStore old new (λ h k. EndsComplete h k old.stored new.stored) result

@@ -3,8 +3,10 @@ use Rattle.std.specs.Prelude.{ℕ, Option, Some, None, Result, Ok, Err}
 use Rattle.alignment.specs.declared.input.Effect.{Effect}
 use Rattle.source_log.specs.declared.partitions.SourceFault.{SourceFault}
 use Rattle.core_model.specs.declared.fault.CoreFault.{CoreFault}
+use Rattle.core_model.specs.declared.persisted.Persisted.{Persisted}
+use Rattle.core_model.specs.declared.persisted.Persisted.TheVariants as persisted
 use Rattle.dataflow_core.specs.declared.replies.Reply.{Reply}
-use Rattle.dataflow_core.specs.declared.replies.Reply.TheVariants.{Accepted, Number, Barrier, Drained, Refused, Source}
+use Rattle.dataflow_core.specs.declared.replies.Reply.TheVariants.{Accepted, More, Number, Barrier, Drained, Refused, Source}
 use Rattle.engine_rounds.specs.declared.ending.Drained as ending
 
 abbrev pub accepted_as : Result Unit CoreFault → Reply
@@ -19,6 +21,11 @@ abbrev pub restarted_as : Result (Option ℕ) CoreFault → Reply
 restarted_as (Ok None) = Number 0
 restarted_as (Ok (Some number)) = Number number
 restarted_as (Err fault) = Refused fault
+
+abbrev pub persisted_as : Result Persisted CoreFault → Reply
+persisted_as (Ok persisted.More) = More
+persisted_as (Ok persisted.Done) = Accepted
+persisted_as (Err fault) = Refused fault
 
 abbrev pub copied_as : Result Effect CoreFault → Reply
 copied_as (Ok effect) = Barrier effect

@@ -7,16 +7,16 @@ use Rattle.core_model.specs.declared.fault.CoreFault.{CoreFault}
 use Rattle.engine.specs.Running.{IsCounted}
 use Rattle.source_log.specs.declared.partitions.SourceFault.TheVariants.{Memory}
 use Rattle.task_part.specs.declared.part.Part.{Part}
-use Rattle.dataflow_core.specs.Calls.{Fails, Restarts, Reads, Injects, Triggers, Persists, Completes, Commits, Appends}
+use Rattle.dataflow_core.specs.Calls.{Fails, Restarts, Reads, Injects, Triggers, Persists, PersistsSome, Completes, Commits, Appends}
 use Rattle.dataflow_core.specs.Claims.{Refuses, Claims, TakesBarrierUnclaimed, EndsFinish}
 use Rattle.dataflow_core.specs.CoreState.{CoreState, claims_after}
 use Rattle.dataflow_core.specs.Desks.{ClaimedJob, DeskJobs, job_at}
-use Rattle.dataflow_core.specs.Replies.{accepted_as, numbered_as, restarted_as, copied_as, drained_as, appended_as}
+use Rattle.dataflow_core.specs.Replies.{accepted_as, numbered_as, restarted_as, persisted_as, copied_as, drained_as, appended_as}
 use Rattle.dataflow_core.specs.Unclaimed.{Settles, Drains}
 use Rattle.dataflow_core.specs.declared.replies.Reply.{Reply}
 use Rattle.dataflow_core.specs.declared.replies.Reply.TheVariants.{NoJob, Number, Refused, Source}
 use Rattle.dataflow_core.specs.declared.runs.Step.{Step}
-use Rattle.dataflow_core.specs.declared.runs.Step.TheVariants.{Read, Claim, Finish, Barrier, Trigger, Inject, Persist, Complete, Commit, Settle, Drain, Fail, Restart, Append}
+use Rattle.dataflow_core.specs.declared.runs.Step.TheVariants.{Read, Claim, Finish, Barrier, Trigger, Inject, Persist, PersistSome, Complete, Commit, Settle, Drain, Fail, Restart, Append}
 
 -- what is appended fits
 abbrev pub StepFits : {R : Type 0} → (R → Type 0) → Step R → Type 0
@@ -71,6 +71,7 @@ module _ {R K S O : Type 0} (lang : Language R K S O) (KeyFits : K → Type 0) (
   EndsStep Trigger old desk new left reply = TellsApart old desk new left reply numbered_as (Triggers old.engine new.engine)
   EndsStep (Inject task) old desk new left reply = TellsApart old desk new left reply accepted_as (Injects old.engine new.engine task)
   EndsStep (Persist task) old desk new left reply = TellsApart old desk new left reply accepted_as (Persists old.engine new.engine spelling task)
+  EndsStep (PersistSome task most) old desk new left reply = TellsApart old desk new left reply persisted_as (PersistsSome old.engine new.engine spelling task)
   EndsStep Complete old desk new left reply = TellsApart old desk new left reply numbered_as (Completes old.engine new.engine)
   EndsStep (Commit sink) old desk new left reply = TellsApart old desk new left reply accepted_as (Commits old.engine new.engine sink)
   EndsStep Settle old desk new left reply = TellsApart old desk new left reply accepted_as (Settles old new lang RecordFits)

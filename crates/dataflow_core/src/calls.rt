@@ -21,14 +21,14 @@ ghost use Rattle.core_model.specs.View.{job_of, devices_of};
 ghost use Rattle.core_model.specs.declared.fault.CoreFault.TheVariants as CoreFault;
 ghost use Rattle.core_plain.specs.Plain.{StepsIfOk, Stays};
 ghost use Rattle.engine.specs.Running.{IsCounted};
-ghost use Rattle.dataflow_core.specs.Calls.{Fails, Restarts, Reads, Injects, Triggers, Persists, Completes, Commits, Appends};
+ghost use Rattle.dataflow_core.specs.Calls.{Fails, Restarts, Reads, Injects, Triggers, Persists, PersistsSome, Completes, Commits, Appends};
 ghost use Rattle.dataflow_core.specs.CoreState.{claims_after};
 ghost use Rattle.dataflow_core.specs.Steps.{IsStep, IsRestart};
 
 use crate::held::{Claim, drop_claims};
 use commit_sink::Transactions;
 use core_model::Rules;
-use engine::{CoreFault, Engine};
+use engine::{CoreFault, Engine, Persisted};
 use job_graph::Graph;
 use operators::Operator;
 use snapshot_store::SnapshotStore;
@@ -228,6 +228,22 @@ impl<O: Operator, S: SnapshotStore, X: Transactions, P: Partitions<Record = O::R
     {
         let Core { engine, .. } = self;
         engine.persist(task)
+    }
+
+    /// At most `most` entries of the work on a task's part are done, which nothing shows (`More`);
+    /// or none are left, and the part is put in the store and acknowledged (`Done`). It is refused
+    /// as `persist`, but for an open log only where no entry is left.
+    pub fn persist_some(&mut self, task: u32, most: u32) -> Result<Persisted, CoreFault>
+        ensures ends { PersistsSome self.old.engine self.new.engine
+            ⟦<O as Rules>⟧.spelling task result }
+        ensures step { IsStep ⟦<O as Rules>⟧.lang ⟦<O as Rules>⟧.RecordFits self.old.engine
+            self.new.engine }
+        ensures stays { Stays ⟦<O as Rules>⟧.lang self.old.engine self.new.engine }
+        ensures counted { IsCounted self.old.engine.faults self.new.engine.faults result }
+        ensures claims { self.new ≡ record self.old { engine = self.new.engine } }
+    {
+        let Core { engine, .. } = self;
+        engine.persist_some(task, most)
     }
 
     /// The pending checkpoint, of which the store has every task's part, becomes complete: the

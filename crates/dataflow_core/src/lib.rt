@@ -8,6 +8,9 @@
 //! that is held now (`K6` where not) and its work is what the task would do now (`K7` where not). A
 //! core over new devices is exactly once, whatever calls were made on it (`is_fresh`).
 //!
+//! A task's part is put in the store in one call (`persist`), or the work on it is done some entries
+//! a call, between other calls (`persist_some`); a part's bytes are the same.
+//!
 //! `settle` and `drain` make many steps in one call, without claims: `settle` completes the pending
 //! checkpoint, and is refused only where memory is or a device fails; `drain` brings the job to
 //! rest, with a last checkpoint that every sink commits, or spends its turns.
@@ -47,7 +50,7 @@ mod settling;
 pub use calls::Core;
 pub use core_model::Rules;
 pub use desks::Desk;
-pub use engine::{CoreFault, DeviceCall};
+pub use engine::{CoreFault, DeviceCall, Persisted};
 pub use engine_settling::Drained;
 pub use held::Claim;
 pub use jobs::{Done, Job};

@@ -1,10 +1,10 @@
 //! How a call ended, told as one value.
 
 ghost use Rattle.std.specs.Prelude.{◌≡◌};
-ghost use Rattle.dataflow_core.specs.Replies.{accepted_as, numbered_as, restarted_as, copied_as, drained_as, appended_as};
+ghost use Rattle.dataflow_core.specs.Replies.{accepted_as, numbered_as, restarted_as, persisted_as, copied_as, drained_as, appended_as};
 
 use alignment::Effect;
-use engine::CoreFault;
+use engine::{CoreFault, Persisted};
 use engine_settling::Drained;
 use source_log::SourceFault;
 
@@ -12,6 +12,8 @@ use source_log::SourceFault;
 #[derive(Clone, Copy, Debug, PartialEq, Eq)]
 pub enum Reply {
     Accepted,
+    /// Work on a task's part has gone on, and the part is not in the store yet.
+    More,
     Number(u64),
     Barrier(Effect),
     Drained(Drained),
@@ -45,6 +47,16 @@ pub(crate) fn restarted(outcome: Result<Option<u64>, CoreFault>) -> Reply
     match outcome {
         Ok(Some(number)) => Reply::Number(number),
         Ok(None) => Reply::Number(0),
+        Err(fault) => Reply::Refused(fault),
+    }
+}
+
+pub(crate) fn persisted(outcome: Result<Persisted, CoreFault>) -> Reply
+    ensures { result ≡ persisted_as outcome }
+{
+    match outcome {
+        Ok(Persisted::More) => Reply::More,
+        Ok(Persisted::Done) => Reply::Accepted,
         Err(fault) => Reply::Refused(fault),
     }
 }

@@ -11,7 +11,7 @@ ghost use Rattle.dataflow_core.specs.Steps.{Preserves};
 
 use crate::calls::Core;
 use crate::desks::Desk;
-use crate::replies::{Reply, accepted, appended, copied, drained, numbered, restarted};
+use crate::replies::{Reply, accepted, appended, copied, drained, numbered, persisted, restarted};
 use abs_codec::Codec;
 use commit_sink::Transactions;
 use core_model::Rules;
@@ -36,6 +36,8 @@ pub enum Step<R> {
     Inject(u32),
     /// A task's part is put in the store.
     Persist(u32),
+    /// So many entries of the work on a task's part are done, or the part is put in the store.
+    PersistSome(u32, u32),
     Complete,
     /// A sink subtask commits.
     Commit(u32),
@@ -130,6 +132,7 @@ impl<O: Operator, S: SnapshotStore, X: Transactions, P: Partitions<Record = O::R
             Step::Trigger => numbered(self.trigger()),
             Step::Inject(task) => accepted(self.inject(*task)),
             Step::Persist(task) => accepted(self.persist(*task)),
+            Step::PersistSome(task, most) => persisted(self.persist_some(*task, *most)),
             Step::Complete => numbered(self.complete()),
             Step::Commit(sink) => accepted(self.commit(*sink)),
             Step::Settle => accepted(self.settle()),

@@ -8,12 +8,13 @@ use Rattle.job_graph.specs.declared.role.Role.TheVariants as role
 use Rattle.job_state.specs.Held.{Held}
 use Rattle.snapshot_store.specs.Store.{Stored}
 use Rattle.task_part.specs.declared.part.Part.{Part}
-use Rattle.core_model.specs.Calls.{input_at, EndsRead, EndsInject, EndsTrigger, EndsPersist, EndsComplete}
+use Rattle.core_model.specs.Calls.{input_at, EndsRead, EndsInject, EndsTrigger, EndsPersist, EndsPersistSome, EndsComplete}
 use Rattle.core_model.specs.Commits.{EndsCommit}
 use Rattle.core_model.specs.Language.{Language}
 use Rattle.core_model.specs.Restart.{EndsRestart}
 use Rattle.core_model.specs.declared.fault.CoreFault.{CoreFault}
 use Rattle.core_model.specs.declared.fault.CoreFault.TheVariants.{NotRunning, NoSuchTask, NotReady, ChannelBlocked, Busy, Stale, WrongResult, CheckpointPending, NoCheckpoint, NotAllAcked, Memory, Device, CommitFault, NumbersSpent, BadSnapshot}
+use Rattle.core_model.specs.declared.persisted.Persisted.{Persisted}
 use Rattle.engine.specs.Running.{IsCounted, number_of}
 use Rattle.claims.specs.Tasks.{NoSuchInput, WorksAs, TakesAs, EndsWork, EndsBarrier}
 
@@ -86,6 +87,9 @@ module _ {R K S : Type 0} (graph : Expanded) (task : ℕ) (h k : Held R K S) (a 
 
   pub persist_counted : (old new : Stored) (spelling : Part R K S → List ℕ) (result : Result Unit CoreFault) → EndsPersist graph task h k old new spelling result → (result ≡ Err Device → a < b) → (result ≢ Err Device → b ≡ a) → IsCounted a b result
   persist_counted old new spelling result ends = device_counted (EndsPersist graph task h k old new spelling) result ends a b (λ e. e)
+
+  pub persist_some_counted : (old new : Stored) (spelling : Part R K S → List ℕ) (result : Result Persisted CoreFault) → EndsPersistSome graph task h k old new spelling result → (result ≡ Err Device → a < b) → (result ≢ Err Device → b ≡ a) → IsCounted a b result
+  persist_some_counted old new spelling result ends = device_counted (EndsPersistSome graph task h k old new spelling) result ends a b (λ e. e)
 
   pub commit_counts : (old new : Ledger) (result : Result Unit CoreFault) → EndsCommit graph task h k old new result → (result ≡ Err CommitFault → a < b) → (result ≢ Err CommitFault → b ≡ a) → IsCounted a b result
   commit_counts old new result ends = commit_counted (EndsCommit graph task h k old new) result ends a b (λ e. e)

@@ -11,7 +11,7 @@ ghost use Rattle.snapshot_store.specs.Store as stores;
 ghost use Rattle.source_log.specs.Partitions as partitions;
 ghost use Rattle.source_log.specs.declared.partitions.SourceFault.TheVariants as SourceFault;
 ghost use Rattle.core_model.specs.declared.fault.CoreFault.TheVariants as CoreFault;
-ghost use Rattle.core_model.specs.Calls.{left_by, EndsRead, EndsInject, EndsPersist, EndsTrigger, EndsComplete};
+ghost use Rattle.core_model.specs.Calls.{left_by, EndsRead, EndsInject, EndsPersist, EndsPersistSome, EndsTrigger, EndsComplete};
 ghost use Rattle.core_model.specs.Commits.{EndsCommit};
 ghost use Rattle.core_model.specs.CompleteCut.{HasTheCut};
 ghost use Rattle.core_model.specs.Goes.{Goes};
@@ -34,8 +34,8 @@ ghost use Rattle.engine.specs.Running.{IsCounted, IsSameJob, number_of, raised, 
 use crate::tasks::take_barrier;
 use alignment::Effect;
 use commit_sink::Transactions;
-use core_model::{CoreFault, Rules};
-use engine_checkpoints::{commit, complete, persist, trigger};
+use core_model::{CoreFault, Persisted, Rules};
+use engine_checkpoints::{commit, complete, persist, persist_some, trigger};
 use engine_moves::{inject, read_next};
 use job_graph::Graph;
 use job_state::Attempt;
@@ -403,6 +403,32 @@ impl<O: Operator, S: SnapshotStore, X: Transactions, P: Partitions<Record = O::R
             return Err(CoreFault::NotRunning);
         };
         let outcome = persist(self.alloc, attempt, &self.graph, &mut self.store, task);
+        leave(&mut self.attempt, outcome)
+    }
+
+    /// At most `most` entries of the work on a task's part are done, which nothing shows (`More`);
+    /// or none are left, and the part is put in the store and acknowledged (`Done`). It is refused
+    /// as `persist`, but for an open log only where no entry is left.
+    pub fn persist_some(&mut self, task: u32, most: u32) -> Result<Persisted, CoreFault>
+        ensures ends { OnStore self.old self.new
+            (λ h k. EndsPersistSome self.old.graph task h k self.old.stored self.new.stored
+            (part_spelling O.Record.spelling O.Key.spelling O.State.spelling)) result }
+        ensures goes { Goes (language O.meaning O.Key.cmp O.Record.spelling O.Record.reading
+            O.Key.reading O.State.reading) self.old self.new }
+        ensures sound { IsSound (language O.meaning O.Key.cmp O.Record.spelling O.Record.reading
+            O.Key.reading O.State.reading) (Fits O.Record.HasSpelling O.Record.spelling) self.old
+            → IsSound (language O.meaning O.Key.cmp O.Record.spelling O.Record.reading O.Key.reading
+            O.State.reading) (Fits O.Record.HasSpelling O.Record.spelling) self.new }
+        ensures stays { Stays (language O.meaning O.Key.cmp O.Record.spelling O.Record.reading
+            O.Key.reading O.State.reading) self.old self.new }
+        ensures counted { IsCounted self.old.faults self.new.faults result }
+        ensures same { IsSameJob self.old self.new }
+        ensures ledger { self.new.ledger ≡ self.old.ledger }
+    {
+        let Some(attempt) = &mut self.attempt else {
+            return Err(CoreFault::NotRunning);
+        };
+        let outcome = persist_some(self.alloc, attempt, &self.graph, &mut self.store, task, most);
         leave(&mut self.attempt, outcome)
     }
 

@@ -20,5 +20,5 @@ mod rows;
 mod tasks;
 
 pub use calls::Engine;
-pub use core_model::CoreFault;
+pub use core_model::{CoreFault, Persisted};
 pub use faults::DeviceCall;

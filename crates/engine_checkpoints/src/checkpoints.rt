@@ -1,19 +1,20 @@
 //! A checkpoint begins, its parts are put, it is complete, and its transactions are committed.
 
-ghost use Rattle.std.specs.Prelude.{◌≡◌, ◌≢◌, ◌<◌, ◌≤◌, ℕ, List, Ok, Err, Some, None, length, slice_get, false, OnOk, IfOk, IfErr};
+ghost use Rattle.std.specs.Prelude.{◌≡◌, ◌≢◌, ◌<◌, ◌≤◌, ℕ, List, Ok, Err, Some, None, length, slice_get, false, IsSome, OnOk, IfOk, IfErr};
+ghost use Rattle.alignment.specs.declared.input.Phase.TheVariants.{AtRest};
 ghost use Rattle.coordinator.specs.Coordinator.{IsReady, has_acked, ack_refusal};
 ghost use Rattle.coordinator.specs.Coordinator as coordination;
 ghost use Rattle.snapshot_store.specs.Store.{put_refusal, complete_refusal};
 ghost use Rattle.abs_codec.specs.Reading.{whole_of};
-ghost use Rattle.job_state.specs.Held.{copy_at, logs_of, with_logs};
+ghost use Rattle.job_state.specs.Held.{copy_at, gate_at, logs_of, with_logs};
 ghost use Rattle.task_part.specs.declared.part.Part.{Part};
 ghost use Rattle.task_part.specs.Spelling.{logs_now, part_spelling, part_at};
 ghost use Rattle.core_model.specs.declared.fault.CoreFault.TheVariants as CoreFault;
-ghost use Rattle.core_model.specs.Calls.{EndsTrigger, EndsPersist, EndsComplete, WhereReached};
+ghost use Rattle.core_model.specs.Calls.{IsTask, EndsTrigger, EndsPersist, EndsPersistSome, EndsComplete, WhereReached, WherePut};
 
 use abs_codec::NoMemory;
 use commit_sink::Transactions;
-use core_model::CoreFault;
+use core_model::{CoreFault, Persisted};
 use job_graph::Graph;
 use job_state::{Attempt, Holding};
 use operators::Operator;
@@ -142,6 +143,111 @@ pub fn persist<O: Operator, S: SnapshotStore>(
         }
         Err(StoreFault::Memory) => Err(CoreFault::Memory),
         Err(_) => Err(CoreFault::Device),
+    }
+}
+
+/// Puts the part of a task that has copied, and whose logs are closed, and acknowledges it.
+fn put_part<O: Operator, S: SnapshotStore>(
+    alloc: Global,
+    attempt: &mut Attempt<O>,
+    graph: &Graph,
+    store: &mut S,
+    checkpoint: u64,
+    task: u32,
+) -> Result<(), CoreFault>
+    requires acked { length attempt.old.coordination.acked ≡ length graph.now.tasks }
+    requires may { put_refusal (S.state store.old) checkpoint task ≡ None }
+    requires is_task { IsTask graph.now task }
+    requires pending { attempt.old.coordination.pending ≡ Some checkpoint }
+    requires copied { IsSome (copy_at attempt.old task) }
+    requires closed { (gate_at attempt.old task).phase ≡ AtRest }
+    requires unacknowledged { has_acked attempt.old.coordination task ≡ false }
+    ensures ends { EndsPersist graph.now task attempt.old attempt.new (S.state store.old)
+        (S.state store.new) (part_spelling O.Record.spelling O.Key.spelling O.State.spelling)
+        result }
+    ensures counted { result ≡ Err CoreFault.Device
+        → S.fault_count store.old < S.fault_count store.new }
+    ensures told { result ≢ Err CoreFault.Device
+        → S.fault_count store.new ≡ S.fault_count store.old }
+    ensures readable { WhereReached result ((p : Part O.Record O.Key O.State)
+        → copy_at attempt.old task ≡ Some p → whole_of
+        (part_at O.Record.reading O.Key.cmp O.Key.reading O.State.reading)
+        (part_spelling O.Record.spelling O.Key.spelling O.State.spelling
+        (with_logs (logs_of graph.now attempt.old task) p))
+        ≡ Ok (with_logs (logs_of graph.now attempt.old task) p)) }
+{
+    let Some(part) = attempt.copy(task) else {
+        return Err(CoreFault::NotReady);
+    };
+    let bytes = spelled(alloc, attempt, graph, task, part)?;
+    match store.put(checkpoint, task, &bytes) {
+        Ok(()) => {
+            attempt.acknowledge(checkpoint, task);
+            Ok(())
+        }
+        Err(StoreFault::Memory) => Err(CoreFault::Memory),
+        Err(_) => Err(CoreFault::Device),
+    }
+}
+
+/// Placeholder for the attempt's own.
+fn spell_some<O: Operator>(
+    attempt: &mut Attempt<O>,
+    task: u32,
+    most: usize,
+) -> Result<bool, NoMemory>
+    ensures { attempt.new ≡ attempt.old }
+{
+    let _ = attempt.pending();
+    Ok(most as usize > task as usize)
+}
+
+/// Goes on with the part of a task that has copied, by at most `most` entries; where none are left,
+/// it is put, if its logs are closed.
+pub fn persist_some<O: Operator, S: SnapshotStore>(
+    alloc: Global,
+    attempt: &mut Attempt<O>,
+    graph: &Graph,
+    store: &mut S,
+    task: u32,
+    most: u32,
+) -> Result<Persisted, CoreFault>
+    requires acked { length attempt.old.coordination.acked ≡ length graph.now.tasks }
+    requires may { (n : ℕ) → attempt.old.coordination.pending ≡ Some n
+        → has_acked attempt.old.coordination task ≡ false → task < length graph.now.tasks
+        → put_refusal (S.state store.old) n task ≡ None }
+    ensures ends { EndsPersistSome graph.now task attempt.old attempt.new (S.state store.old)
+        (S.state store.new) (part_spelling O.Record.spelling O.Key.spelling O.State.spelling)
+        result }
+    ensures counted { result ≡ Err CoreFault.Device
+        → S.fault_count store.old < S.fault_count store.new }
+    ensures told { result ≢ Err CoreFault.Device
+        → S.fault_count store.new ≡ S.fault_count store.old }
+    ensures readable { WherePut result ((p : Part O.Record O.Key O.State)
+        → copy_at attempt.old task ≡ Some p → whole_of
+        (part_at O.Record.reading O.Key.cmp O.Key.reading O.State.reading)
+        (part_spelling O.Record.spelling O.Key.spelling O.State.spelling
+        (with_logs (logs_of graph.now attempt.old task) p))
+        ≡ Ok (with_logs (logs_of graph.now attempt.old task) p)) }
+{
+    if graph.role(task).is_none() {
+        return Err(CoreFault::NoSuchTask);
+    }
+    let Some(checkpoint) = attempt.pending() else {
+        return Err(CoreFault::NoCheckpoint);
+    };
+    if attempt.copy(task).is_none() || attempt.has_acked(task) {
+        return Err(CoreFault::NotReady);
+    }
+    if spell_some(attempt, task, most as usize)? {
+        return Ok(Persisted::More);
+    }
+    if !attempt.is_closed(task) {
+        return Err(CoreFault::NotReady);
+    }
+    match put_part(alloc, attempt, graph, store, checkpoint, task) {
+        Ok(()) => Ok(Persisted::Done),
+        Err(fault) => Err(fault),
     }
 }
 

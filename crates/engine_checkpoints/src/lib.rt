@@ -13,5 +13,5 @@
 mod checkpoints;
 mod commits;
 
-pub use checkpoints::{complete, persist, trigger};
+pub use checkpoints::{complete, persist, persist_some, trigger};
 pub use commits::commit;

@@ -3,7 +3,7 @@ use Rattle.core_model.specs.ByTests.{Passes, IsGoodBy}
 use Rattle.core_plain.proofs.PlainReads.{plain_read}
 use Rattle.core_plain.proofs.PlainWorks.{plain_operate, plain_put_out}
 use Rattle.core_plain.proofs.PlainCopies.{plain_inject, plain_operator_barrier, plain_sink_barrier}
-use Rattle.core_plain.proofs.PlainCheckpoints.{plain_trigger, plain_persist, plain_complete}
+use Rattle.core_plain.proofs.PlainCheckpoints.{plain_trigger, plain_persist, plain_persist_some, plain_complete}
 use Rattle.core_plain.proofs.PlainCommits.{plain_commit}
 use Rattle.core_plain.proofs.Stands.{stays_alone}
 use Rattle.core_plain.proofs.calls_are_plain.Goals as goal
@@ -21,6 +21,7 @@ returns g c = λ lang fits state_fits suits s h runs.
       sink_barrier = λ k ledger faults task input channel subtask result at ends. plain_sink_barrier lang Fits Good s h k faults task runs.keeps runs.holds input channel subtask ledger at.at_task at.leads result ends;
       trigger = λ k stored faults result ends. plain_trigger lang s h k faults runs.holds stored result ends;
       persist = λ k stored faults task spelling result ends. plain_persist lang s h k faults runs.holds stored task spelling result ends;
+      persist_some = λ k stored faults task spelling result ends. plain_persist_some lang s h k faults runs.holds stored task spelling result ends;
       completion = λ k stored faults result ends. plain_complete lang s h k faults runs.holds stored result ends;
       commit = λ k ledger faults subtask result ends. plain_commit lang Fits Good s h k faults subtask ledger runs.keeps runs.holds result ends;
       append = λ partitions faults. stays_alone lang s partitions faults;
