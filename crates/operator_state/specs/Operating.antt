@@ -10,3 +10,5 @@ pub record Operating (K S : Type 0) : Type 0 where
   pub unspelled : ℕ
   -- how many later writes are still to be merged
   pub unmerged : ℕ
+  -- the part as far as it is spelled, and what was written behind that
+  pub part : List ℕ

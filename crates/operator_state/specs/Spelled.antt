@@ -23,6 +23,11 @@ copied cmp keys states None bytes = entries_or_none (map_at cmp keys states (dro
 abbrev pub front_spelling : {K S : Type 0} → (K → List ℕ) → (S → List ℕ) → ℕ → List (K × S) → List ℕ
 front_spelling keys states count first = 1 ∷ (to_be_bytes w32 count ++ flat_map (pair_spelling keys states) first)
 
+-- The head stands before the first entry.
+abbrev pub Begins : {K : Type 0} → Option K → ℕ → (before after : List ℕ) → Type 0
+Begins None count before after = (count < 2 ^ 32) × (after ≡ before ++ 1 ∷ to_be_bytes w32 count)
+Begins (Some key) count before after = after ≡ before
+
 module _ {K S : Type 0} (cmp : K → K → Ordering) (Key : K → Type 0) (keys : K → List ℕ) (State : S → Type 0) (states : S → List ℕ) where
   -- All entries up to this key are spelled, and the last ones are left.
   pub record IsSpelledTo (key : K) (entries : List (K × S)) (left : ℕ) (bytes : List ℕ) : Type 0 where

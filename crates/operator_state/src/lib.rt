@@ -5,8 +5,8 @@
 //! An [`OperatorState`] is a `keyed_state::KeyedState` and a vector of bytes. `copy` freezes the map:
 //! no entry is copied for it. `spell_some` appends the spelling of the next entries of the frozen map
 //! to the vector, in the order of their keys, and after the last of them the map is thawed. What was
-//! written since is merged by `merge_some`. `part` puts the logs behind the entries, so that a part is
-//! held once. Later calls of `part` put other logs there.
+//! written since is merged by `merge_some`. `spell_logs` puts the logs behind the entries, so that a
+//! part is held once, and a later call puts others there. `part` gives the bytes.
 //!
 //! With n entries:
 //!
@@ -14,7 +14,7 @@
 //!   that first;
 //! - `spell_some` of k entries takes k times a time logarithmic in n, the time and memory of their
 //!   spelling, and one copy of a key. What a call cannot spell in full, it takes back;
-//! - `part` takes the time and memory of the spelling of the logs;
+//! - `spell_logs` takes the time and memory of the spelling of the logs;
 //! - `get`, `set` and `merge_some` are those of `KeyedState`, and all else takes constant time and no
 //!   memory.
 #![tactic(auto)]

@@ -1,6 +1,6 @@
 //! States by key, and the copy for the pending checkpoint as far as it is spelled.
 
-ghost use Rattle.std.specs.Prelude.{◌≡◌, ◌≤◌, ◌+◌, ◌-◌, ◌++◌, ℕ, List, take, drop, length, is_some, Some, None, IsTrue, IsOk, OnOk, OnErr, IfOk, if◌then◌else◌};
+ghost use Rattle.std.specs.Prelude.{◌≡◌, ◌≤◌, ◌+◌, ◌-◌, ◌++◌, ℕ, List, [], take, drop, length, is_some, Some, None, IsTrue, IsOk, OnOk, OnErr, IfOk, if◌then◌else◌};
 ghost use Rattle.std.specs.Option.{option_copied};
 ghost use Rattle.std.specs.List.Sorted.{IsStrictlySortedBy};
 ghost use Rattle.std.specs.List.{All, flat_map};
@@ -9,6 +9,7 @@ ghost use Rattle.std.specs.BTreeMap.{is_at};
 ghost use Rattle.abs_codec.specs.Entries.{value_at};
 ghost use Rattle.abs_codec.specs.Spelling.{pair_spelling, PairIsSpelled};
 ghost use Rattle.keyed_state.specs.KeyedMap.{entries_above, frozen_entries};
+ghost use Rattle.operator_state.specs.Spelled.{Begins};
 ghost use Rattle.task_part.specs.declared.part.Part.TheVariants as Part;
 ghost use Rattle.task_part.specs.Spelling.{logs_now, part_spelling, PartIsSpelled};
 
@@ -29,9 +30,9 @@ pub struct OperatorState<K: Codec + Ord, S: Codec> {
     last: Option<K>,
     /// How many entries of the copy are left to be spelled.
     left: usize,
-    /// The front of the part, up to the entry that was spelled last, and what was written behind it.
+    /// The part up to the entry that was spelled last, and what was written behind it.
     bytes: Vec<u8>,
-    /// How many bytes the front has.
+    /// How many bytes the part has up to that entry.
     end: usize,
 }
 
@@ -48,6 +49,7 @@ impl<K: Codec + Ord, S: Codec> Model for OperatorState<K, S> {
         (take o.end o.bytes.items)) else None;
       unspelled = o.left;
       unmerged = o.states.unmerged;
+      part = o.bytes.items;
     } };
 
     ghost invariant = { λ o. (o.end ≤ length o.bytes.items)
@@ -56,25 +58,35 @@ impl<K: Codec + Ord, S: Codec> Model for OperatorState<K, S> {
         o.has_copied o.last o.left (take o.end o.bytes.items) };
 }
 
-/// Writes the next entries of the frozen map, and says which key is the last of them.
-fn write_next<'a, K: Codec + Ord, S: Codec>(
-    states: &'a KeyedState<K, S>,
-    last: Option<&'a K>,
+/// Writes the head of the part where nothing is spelled yet: the tag, and how many entries there are.
+fn begin<K>(last: &Option<K>, left: usize, out: &mut Vec<u8>) -> Result<(), NoMemory>
+    ensures begun { OnOk result (Begins last.now left out.old.items out.new.items) }
+    ensures keeps { (more : List ℕ) × (out.new.items ≡ out.old.items ++ more) }
+{
+    if last.is_some() {
+        return Ok(());
+    }
+    out.push(1)?;
+    write_count(left, out).map_err(|_| NoMemory)
+}
+
+/// Writes the next entries of the frozen map, and copies the key of the last of them.
+fn write_next<K: Codec + Ord, S: Codec>(
+    states: &KeyedState<K, S>,
+    last: Option<&K>,
     count: usize,
     out: &mut Vec<u8>,
-) -> Result<Option<&'a K>, NoMemory>
-    requires { count ≤ length (entries_above K.Ord.cmp (option_copied last.entry)
+) -> Result<Option<K>, NoMemory>
+    requires { count ≤ length (entries_above K.Ord.cmp (option_copied last)
         (frozen_entries states.now)) }
-    ensures appended { OnOk result (out.new.items
-        ≡ out.old.items ++ flat_map (pair_spelling K.spelling S.spelling)
-        (take count (entries_above K.Ord.cmp (option_copied last.entry)
-        (frozen_entries states.now)))) }
+    ensures appended { OnOk result (out.new.items ≡ out.old.items
+        ++ flat_map (pair_spelling K.spelling S.spelling) (take count
+        (entries_above K.Ord.cmp (option_copied last.entry) (frozen_entries states.now)))) }
     ensures spelled { OnOk result (All (PairIsSpelled K.HasSpelling S.HasSpelling)
-        (take count (entries_above K.Ord.cmp (option_copied last.entry)
-        (frozen_entries states.now)))) }
-    ensures others { IfOk result (λ next. entries_above K.Ord.cmp (option_copied next)
-        (frozen_entries states.now) ≡ drop count (entries_above K.Ord.cmp
-        (option_copied last.entry) (frozen_entries states.now))) }
+        (take count (entries_above K.Ord.cmp (option_copied last.entry) (frozen_entries states.now)))) }
+    ensures others { IfOk result (λ next. entries_above K.Ord.cmp next (frozen_entries states.now)
+        ≡ drop count (entries_above K.Ord.cmp (option_copied last.entry)
+        (frozen_entries states.now))) }
     ensures keeps { (more : List ℕ) × (out.new.items ≡ out.old.items ++ more) }
 {
     let mut next = last;
@@ -85,20 +97,17 @@ fn write_next<'a, K: Codec + Ord, S: Codec>(
             next = Some(key);
         }
     }
-    Ok(next)
-}
-
-/// Writes the tag of an operator's part, and how many entries there are.
-fn write_head(count: usize, out: &mut Vec<u8>) -> Result<(), NoMemory>
-{
-    out.push(1)?;
-    write_count(count, out).map_err(|_| NoMemory)
+    match next {
+        Some(key) => Ok(Some(key.copied()?)),
+        None => Ok(None),
+    }
 }
 
 impl<K: Codec + Ord, S: Codec> OperatorState<K, S> {
     /// These states, and no copy. It takes no memory.
     pub fn from_map(alloc: Global, map: Map<K, S>) -> Self
-        ensures { result ≡ record { entries = map; copy = None; unspelled = 0; unmerged = 0 } }
+        ensures { result ≡ record { entries = map; copy = None; unspelled = 0; unmerged = 0;
+            part = [] } }
     {
         OperatorState {
             alloc,
@@ -165,7 +174,8 @@ impl<K: Codec + Ord, S: Codec> OperatorState<K, S> {
 
     /// Forgets the copy, if there is one. It takes no memory.
     pub fn forget(&mut self)
-        ensures { self.new ≡ record self.old { copy = None; unspelled = 0 } }
+        ensures { self.new ≡ record self.old { copy = None; unspelled = 0;
+            part = [] } }
     {
         self.states.thaw();
         self.has_copied = false;
@@ -190,25 +200,20 @@ impl<K: Codec + Ord, S: Codec> OperatorState<K, S> {
     }
 
     /// Spells at most so many of the next entries of the copy, if there is one. What has no
-    /// spelling counts as want of memory. An `Err` leaves all as it was.
+    /// spelling counts as want of memory. At an `Err` as many are left as before.
     pub fn spell_some(&mut self, most: usize) -> Result<(), NoMemory>
         ensures ok { OnOk result
-            (self.new ≡ record self.old { unspelled = self.old.unspelled - most }) }
-        ensures err { OnErr result (self.new ≡ self.old) }
+            (self.new ≡ record self.old { unspelled = self.old.unspelled - most;
+            part = self.new.part }) }
+        ensures err { OnErr result (self.new ≡ record self.old { part = self.new.part }) }
     {
         let count = most.min(self.left);
         if count == 0 {
             return Ok(());
         }
         self.bytes.truncate(self.end);
-        if self.last.is_none() {
-            write_head(self.left, &mut self.bytes)?;
-        }
-        let last = write_next(&self.states, self.last.as_ref(), count, &mut self.bytes)?;
-        self.last = match last {
-            Some(key) => Some(key.copied()?),
-            None => None,
-        };
+        begin(&self.last, self.left, &mut self.bytes)?;
+        self.last = write_next(&self.states, self.last.as_ref(), count, &mut self.bytes)?;
         self.left -= count;
         self.end = self.bytes.len();
         if self.left == 0 {
@@ -231,24 +236,26 @@ impl<K: Codec + Ord, S: Codec> OperatorState<K, S> {
         Ok(())
     }
 
-    /// The spelling of the part that the copy is with these logs, each the records of a channel.
-    /// They stand behind the entries until the next call. What has no spelling counts as want of
-    /// memory.
-    pub fn part<R: Codec>(&mut self, logs: &[(u32, &[R])]) -> Result<&[u8], NoMemory>
+    /// Spells these logs behind the copy, each the records of a channel, in place of those that were
+    /// spelled before. What has no spelling counts as want of memory.
+    pub fn spell_logs<R: Codec>(&mut self, logs: &[(u32, &[R])]) -> Result<(), NoMemory>
         requires spelled { self.old.unspelled ≡ 0 }
-        ensures spelling { IfOk result (λ bytes. (copy : List (K × S))
-            → self.old.copy ≡ Some copy
+        ensures ok { OnOk result ((copy : List (K × S)) → self.old.copy ≡ Some copy
             → PartIsSpelled R.HasSpelling K.Ord.cmp K.HasSpelling S.HasSpelling
             (Part.Operator copy (logs_now logs.now))
-            × (bytes.now ≡ part_spelling R.spelling K.spelling S.spelling
+            × (self.new.part ≡ part_spelling R.spelling K.spelling S.spelling
             (Part.Operator copy (logs_now logs.now)))) }
-        ensures stays { self.new ≡ self.old }
+        ensures stays { self.new ≡ record self.old { part = self.new.part } }
     {
         self.bytes.truncate(self.end);
-        if self.end == 0 {
-            write_head(0, &mut self.bytes)?;
-        }
-        write_logs(logs, &mut self.bytes).map_err(|_| NoMemory)?;
-        Ok(&self.bytes)
+        begin(&self.last, 0, &mut self.bytes)?;
+        write_logs(logs, &mut self.bytes).map_err(|_| NoMemory)
+    }
+
+    /// The part, as far as it is spelled.
+    pub fn part(&self) -> &[u8]
+        ensures { result.now ≡ self.now.part }
+    {
+        &self.bytes
     }
 }

@@ -1,0 +1,297 @@
+-- The entries that are left to be spelled, and what is read of those that are.
+use Rattle.std.proofs.Common.{◌≡◌, ◌<◌, ◌≤◌, ◌+◌, ◌-◌, ◌^◌, ℕ, zero, suc, Bool, true, false, cond, Option, Some, None, List, [], ◌∷◌, ◌++◌, length, take, drop, Ok, Ordering, refl, sym, ap, subst, ◌∙◌, append_assoc, arith}
+use Rattle.std.specs.Prelude.{slice_get, filter, unwrap_or}
+use Rattle.std.specs.Cmp.{IsTotalOrder}
+use Rattle.std.specs.Int.{to_be_bytes, w32}
+use Rattle.std.specs.List.{flat_map, All, AllByRecursion}
+use Rattle.std.specs.List.Sorted.{IsStrictlySortedBy}
+use Rattle.std.specs.Map.{keys_of}
+use Rattle.std.specs.Ordering.{is_lt, ordering_reverse}
+use Rattle.std.specs.declared.cmp.Ordering.TheVariants.{Less, Equal, Greater}
+use Rattle.std.proofs.lemmas.Bool.{false≢true}
+use Rattle.std.proofs.lemmas.List.{append-nil, take_all, take-take, length-take, length-take-le, length-drop, length-append, take-append-drop, take-append-le, drop-drop}
+use Rattle.std.proofs.lemmas.List.Concat.{flat_map-append, flat_map-cons}
+use Rattle.std.proofs.lemmas.List.Elements.{All-append, All-push, All-nil}
+use Rattle.abs_codec.specs.Laws.{IsCode}
+use Rattle.abs_codec.specs.Maps.{map_code}
+use Rattle.abs_codec.specs.Reading.{Reading, map_at}
+use Rattle.abs_codec.specs.Spelling.{list_spelling, pair_spelling, PairIsSpelled, MapIsSpelled}
+use Rattle.keyed_state.specs.KeyedMap.{entries_above}
+use Rattle.operator_state.specs.Spelled.{copied, entries_or_none, front_spelling, Begins, IsFront, IsHeld}
+
+-- ---- lists
+
+module _ {X : Type 0} where
+  pub head_is : (xs : List X) (e : X) → slice_get xs 0 ≡ Some e → xs ≡ e ∷ drop 1 xs
+  head_is [] e h = absurd cc
+  head_is (x ∷ xs) e h = ap (λ (y : X). y ∷ xs) (ap (λ (o : Option X). unwrap_or o x) h)
+
+  pub none_is : (xs : List X) → slice_get xs 0 ≡ None → length xs ≡ 0
+  none_is [] h = refl
+  none_is (x ∷ xs) h = absurd cc
+
+  pub take_on : (i : ℕ) (xs : List X) (e : X) (rest : List X) → drop i xs ≡ e ∷ rest → take (suc i) xs ≡ take i xs ++ e ∷ []
+  take_on zero [] e rest h = absurd cc
+  take_on zero (x ∷ xs) e rest h = ap (take 1) h
+  take_on (suc i) [] e rest h = absurd cc
+  take_on (suc i) (x ∷ xs) e rest h = ap (λ (l : List X). x ∷ l) (take_on i xs e rest h)
+
+  pub drop_on : (i : ℕ) (xs : List X) (e : X) (rest : List X) → drop i xs ≡ e ∷ rest → drop (suc i) xs ≡ rest
+  drop_on zero [] e rest h = absurd cc
+  drop_on zero (x ∷ xs) e rest h = ap (drop 1) h
+  drop_on (suc i) [] e rest h = absurd cc
+  drop_on (suc i) (x ∷ xs) e rest h = drop_on i xs e rest h
+
+  pub take_add : (n m : ℕ) (xs : List X) → take (n + m) xs ≡ take n xs ++ take m (drop n xs)
+  take_add zero m xs = refl
+  take_add (suc n) m [] = sym (take_all m [] (omega arith))
+  take_add (suc n) m (x ∷ xs) = ap (λ (l : List X). x ∷ l) (take_add n m xs)
+
+  -- what was there is still there, with more behind it
+  pub take_kept : (n : ℕ) (xs more : List X) → n ≤ length xs → take n (take n xs ++ more) ≡ take n xs
+  take_kept n xs more le = take-append-le n (take n xs) more (omega (arith, length-take-le n xs le)) ∙ take_all n (take n xs) (omega (arith, length-take-le n xs le))
+
+-- ---- the entries above a key
+
+module _ {K S : Type 0} {cmp : K → K → Ordering} (order : IsTotalOrder cmp) where
+  above : K → K × S → Bool
+  above key entry = is_lt (cmp key entry.0)
+
+  less_is : (r : Ordering) → is_lt r ≡ true → r ≡ Less
+  less_is Less e = refl
+  less_is Equal e = absurd cc
+  less_is Greater e = absurd cc
+
+  all_above : (key : K) (es : List (K × S)) → AllByRecursion (λ q. cmp key q ≡ Less) (keys_of es) → filter (above key) es ≡ es
+  all_above key [] all = refl
+  all_above key (e ∷ es) all = rw all.0 (ap (λ (l : List (K × S)). e ∷ l) (all_above key es all.1))
+
+  further_up : (a b : K) (es : List (K × S)) → cmp a b ≡ Less → AllByRecursion (λ q. cmp b q ≡ Less) (keys_of es) → AllByRecursion (λ q. cmp a q ≡ Less) (keys_of es)
+  further_up a b [] h all = tt
+  further_up a b (e ∷ es) h all = (order.trans a b e.0 h all.0, further_up a b es h all.1)
+
+  -- the first that passes is one of them
+  first_is_above : (j key : K) (es : List (K × S)) (e : K × S) (rest : List (K × S)) → AllByRecursion (λ q. cmp j q ≡ Less) (keys_of es) → filter (above key) es ≡ e ∷ rest → cmp j e.0 ≡ Less
+  first_is_above j key [] e rest all h = absurd cc
+  first_is_above j key (x ∷ es) e rest all h = by (above key x) refl
+    where
+      by : (b : Bool) → above key x ≡ b → cmp j e.0 ≡ Less
+      by true p =
+          let same : x ≡ e = ap (λ (l : List (K × S)). unwrap_or (slice_get l 0) x) (sym (the (filter (above key) (x ∷ es) ≡ x ∷ filter (above key) es) (rw p refl)) ∙ h) in
+          subst (λ (y : K × S). cmp j y.0 ≡ Less) same all.0
+      by false p = first_is_above j key es e rest all.1 (sym (the (filter (above key) (x ∷ es) ≡ filter (above key) es) (rw p refl)) ∙ h)
+
+  itself_is : (r : Ordering) → r ≡ ordering_reverse r → r ≡ Equal
+  itself_is Less h = absurd cc
+  itself_is Equal h = refl
+  itself_is Greater h = absurd cc
+
+  -- of entries whose keys rise, those above the first are the others
+  above_first : (x : K × S) (es : List (K × S)) → AllByRecursion (λ q. cmp x.0 q ≡ Less) (keys_of es) → filter (above x.0) (x ∷ es) ≡ es
+  above_first x es all = rw (itself_is (cmp x.0 x.0) (order.antisymm x.0 x.0)) (all_above x.0 es all)
+
+  first_of : (x : K × S) (es : List (K × S)) (e : K × S) (rest : List (K × S)) → x ∷ es ≡ e ∷ rest → x ≡ e
+  first_of x es e rest h = ap (λ (l : List (K × S)). unwrap_or (slice_get l 0) x) h
+
+  -- the entries after the first of those above a key
+  pub next_above : (after : Option K) (es : List (K × S)) (e : K × S) (rest : List (K × S)) → IsStrictlySortedBy cmp (keys_of es) → entries_above cmp after es ≡ e ∷ rest → entries_above cmp (Some e.0) es ≡ rest
+  unfolding IsStrictlySortedBy
+  next_above None [] e rest rises h = absurd cc
+  next_above None (x ∷ es) e rest rises h =
+      subst (λ (y : K × S). filter (above y.0) (x ∷ es) ≡ rest) (first_of x es e rest h) (above_first x es rises.0 ∙ ap (drop 1) h)
+  next_above (Some key) [] e rest rises h = absurd cc
+  next_above (Some key) (x ∷ es) e rest rises h = by (cmp key x.0) refl (next_above (Some key) es e rest rises.1)
+    where
+      by : (r : Ordering) → cmp key x.0 ≡ r → (filter (above key) es ≡ e ∷ rest → filter (above e.0) es ≡ rest) → filter (above e.0) (x ∷ es) ≡ rest
+      passed : cmp key x.0 ≡ Less → filter (above e.0) (x ∷ es) ≡ rest
+      passed p =
+          let seen : x ∷ es ≡ e ∷ rest = sym (the (filter (above key) (x ∷ es) ≡ x ∷ es) (rw p (ap (λ (l : List (K × S)). x ∷ l) (all_above key es (further_up key x.0 es p rises.0))))) ∙ h in
+          subst (λ (y : K × S). filter (above y.0) (x ∷ es) ≡ rest) (first_of x es e rest seen) (above_first x es rises.0 ∙ ap (drop 1) seen)
+      failed : is_lt (cmp key x.0) ≡ false → (filter (above key) es ≡ e ∷ rest → filter (above e.0) es ≡ rest) → filter (above e.0) (x ∷ es) ≡ rest
+      failed p on =
+          let seen : filter (above key) es ≡ e ∷ rest = sym (the (filter (above key) (x ∷ es) ≡ filter (above key) es) (rw p refl)) ∙ h in
+          let up : cmp x.0 e.0 ≡ Less = first_is_above x.0 key es e rest rises.0 seen in
+          let down : cmp e.0 x.0 ≡ Greater = order.antisymm e.0 x.0 ∙ ap ordering_reverse up in
+          rw down (on seen)
+      by Less p on = passed p
+      by Equal p on = failed (ap is_lt p) on
+      by Greater p on = failed (ap is_lt p) on
+
+  -- one entry further, where i entries are done of those that were left
+  pub one_on : (next : Option K) (es left : List (K × S)) (i : ℕ) (e : K × S) → IsStrictlySortedBy cmp (keys_of es) → entries_above cmp next es ≡ drop i left → Some e ≡ slice_get (entries_above cmp next es) 0 → (entries_above cmp (Some e.0) es ≡ drop (i + 1) left) × (take (i + 1) left ≡ take i left ++ e ∷ [])
+  one_on next es left i e rises so_far found =
+      let split : entries_above cmp next es ≡ e ∷ drop 1 (entries_above cmp next es) = head_is (entries_above cmp next es) e (sym found) in
+      let at : drop i left ≡ e ∷ drop 1 (entries_above cmp next es) = sym so_far ∙ split in
+      let on : i + 1 ≡ suc i = omega arith in (
+        next_above next es e (drop 1 (entries_above cmp next es)) rises split ∙ sym (drop_on i left e (drop 1 (entries_above cmp next es)) at) ∙ ap (λ (n : ℕ). drop n left) (sym on),
+        ap (λ (n : ℕ). take n left) on ∙ take_on i left e (drop 1 (entries_above cmp next es)) at,
+      )
+
+module _ {K S : Type 0} (keys : K → List ℕ) (states : S → List ℕ) (old out between last : List ℕ) (before after : List (K × S)) (e : K × S) where
+  -- and its spelling
+  pub text_on : out ≡ old ++ flat_map (pair_spelling keys states) before → between ≡ out ++ keys e.0 → last ≡ between ++ states e.1 → after ≡ before ++ e ∷ [] → last ≡ old ++ flat_map (pair_spelling keys states) after
+  text_on so_far first second more =
+      let pair : K × S → List ℕ = pair_spelling keys states in
+      let whole : flat_map pair after ≡ flat_map pair before ++ pair e = ap (flat_map pair) more ∙ flat_map-append pair before (e ∷ []) ∙ ap (λ (t : List ℕ). flat_map pair before ++ t) (flat_map-cons pair e [] ∙ append-nil (pair e)) in
+      second ∙ ap (λ (t : List ℕ). t ++ states e.1) first ∙ append_assoc out (keys e.0) (states e.1) ∙ ap (λ (t : List ℕ). t ++ pair e) so_far ∙ append_assoc old (flat_map pair before) (pair e) ∙ ap (λ (t : List ℕ). old ++ t) (sym whole)
+
+-- ---- what is kept of a copy
+
+module _ {K S : Type 0} (cmp : K → K → Ordering) (order : IsTotalOrder cmp) (Key : K → Type 0) (keys : K → List ℕ) (read_key : List ℕ → Reading K) (key_code : IsCode Key keys read_key)
+    (State : S → Type 0) (states : S → List ℕ) (read_state : List ℕ → Reading S) (state_code : IsCode State states read_state) where
+  abbrev Pair : K × S → Type 0
+  Pair = PairIsSpelled Key State
+
+  abbrev pair : K × S → List ℕ
+  pair = pair_spelling keys states
+
+  abbrev seen : Option (List (K × S)) → List ℕ → List (K × S)
+  seen = copied cmp read_key read_state
+
+  abbrev Front : Option K → List (K × S) → ℕ → List ℕ → Type 0
+  Front = IsFront cmp Key keys State states
+
+  abbrev Held : Option (List (K × S)) → Bool → Option K → ℕ → List ℕ → Type 0
+  Held frozen has_copied last left bytes = IsHeld cmp Key keys State states frozen (seen frozen bytes) has_copied last left bytes
+
+  whole : (es : List (K × S)) → take (length es - 0) es ≡ es
+  whole es = take_all (length es - 0) es (omega arith)
+
+  all_text : (key : K) (es : List (K × S)) (bytes : List ℕ) → Front (Some key) es 0 bytes → bytes ≡ 1 ∷ list_spelling pair es
+  all_text key es bytes h = h.text ∙ ap (front_spelling keys states (length es)) (whole es)
+
+  all_spelled : (key : K) (es : List (K × S)) (bytes : List ℕ) → IsStrictlySortedBy cmp (keys_of es) → Front (Some key) es 0 bytes → MapIsSpelled cmp Key State es
+  all_spelled key es bytes rises h = (rises, (h.counted, subst (All Pair) (whole es) h.spelled))
+
+  nil_is : (es : List (K × S)) → 0 ≡ length es → es ≡ []
+  nil_is [] h = refl
+  nil_is (e ∷ es) h = absurd (omega (arith, h))
+
+  -- the entries, once all are spelled
+  pub read_back : (last : Option K) (es : List (K × S)) (bytes : List ℕ) → IsStrictlySortedBy cmp (keys_of es) → Front last es 0 bytes → seen None bytes ≡ es
+  read_back None es bytes rises h = ap (seen None) h.1 ∙ sym (nil_is es h.0)
+  read_back (Some key) es bytes rises h =
+      let code = map_code cmp order Key keys read_key key_code State states read_state state_code in
+      ap (seen None) (all_text key es bytes h) ∙ ap entries_or_none (ap (map_at cmp read_key read_state) (sym (append-nil (list_spelling pair es))) ∙ code.again es [] (all_spelled key es bytes rises h))
+
+  pub nothing_held : (frozen : Option (List (K × S))) → frozen ≡ None → Held frozen false None 0 []
+  nothing_held frozen thawed = subst (λ (f : Option (List (K × S))). Held f false None 0 []) (sym thawed) (record {
+    rises = sorted;
+    within = omega arith;
+    front = (refl, refl);
+    frozen_on = λ _. refl;
+    frozen_off = λ _. refl;
+    copied_first = λ _. refl;
+  })
+    where
+      sorted : IsStrictlySortedBy cmp (keys_of (seen None []))
+      unfolding IsStrictlySortedBy
+      sorted = tt
+
+  -- ---- entries that are left
+
+  pub left_above : (last : Option K) (es : List (K × S)) (left : ℕ) (bytes : List ℕ) → Front last es left bytes → entries_above cmp last es ≡ drop (length es - left) es
+  left_above None es left bytes h = let none : length es - left ≡ 0 = omega (arith, h.0) in ap (λ (n : ℕ). drop n es) (sym none)
+  left_above (Some key) es left bytes h = h.others
+
+  is_frozen : (frozen : Option (List (K × S))) (has_copied : Bool) (last : Option K) (left : ℕ) (bytes : List ℕ) → Held frozen has_copied last left bytes → 0 < left → frozen ≡ Some (seen frozen bytes)
+  is_frozen None has_copied last left bytes h some = absurd (omega (arith, h.frozen_on refl))
+  is_frozen (Some es) has_copied last left bytes h some = refl
+
+  -- so many are there to be spelled
+  pub enough : (frozen : Option (List (K × S))) (has_copied : Bool) (last : Option K) (left count : ℕ) (bytes : List ℕ) → Held frozen has_copied last left bytes → 0 < count → count ≤ left → count ≤ length (entries_above cmp last (unwrap_or frozen []))
+  enough frozen has_copied last left count bytes h some le =
+      let es : List (K × S) = seen frozen bytes in
+      let there : unwrap_or frozen [] ≡ es = ap (λ (f : Option (List (K × S))). unwrap_or f []) (is_frozen frozen has_copied last left bytes h (omega arith)) in
+      let long : length (entries_above cmp last es) ≡ length es - (length es - left) = ap length (left_above last es left bytes h.front) ∙ length-drop (length es - left) es in
+      let within : left ≤ length es = h.within in
+      subst (λ (l : List (K × S)). count ≤ length (entries_above cmp last l)) (sym there) (omega arith)
+
+  record Begun (es : List (K × S)) (left : ℕ) (bytes : List ℕ) : Type 0 where
+    counted : length es < 2 ^ 32
+    spelled : All Pair (take (length es - left) es)
+    text : bytes ≡ front_spelling keys states (length es) (take (length es - left) es)
+
+  begun : (last : Option K) (es : List (K × S)) (left : ℕ) (before after : List ℕ) → Front last es left before → Begins last left before after → Begun es left after
+  begun None es left before after h b =
+      let none : length es - left ≡ 0 = omega (arith, h.0) in
+      let first : take (length es - left) es ≡ [] = ap (λ (n : ℕ). take n es) none in record {
+        counted = subst (λ (n : ℕ). n < 2 ^ 32) h.0 b.0;
+        spelled = subst (All Pair) (sym first) (All-nil Pair);
+        text = b.1 ∙ ap (λ (t : List ℕ). t ++ 1 ∷ to_be_bytes w32 left) h.1 ∙ ap (λ (n : ℕ). 1 ∷ to_be_bytes w32 n) h.0 ∙ ap (λ (t : List ℕ). 1 ∷ t) (sym (append-nil (to_be_bytes w32 (length es)))) ∙ ap (front_spelling keys states (length es)) (sym first);
+      }
+  begun (Some key) es left before after h b = record { counted = h.counted; spelled = h.spelled; text = b ∙ h.text }
+
+  -- these entries of a list are spelled, and so are those after them
+  further : (es : List (K × S)) (left count : ℕ) (next : Option K) (bytes text : List ℕ) → Begun es left bytes → 0 < count → count ≤ left → left ≤ length es → text ≡ bytes ++ flat_map pair (take count (drop (length es - left) es)) → All Pair (take count (drop (length es - left) es)) → entries_above cmp next es ≡ drop count (drop (length es - left) es) → Front next es (left - count) text
+  further es left count next bytes text b some le within more spelled others = by next others
+    where
+      n : ℕ
+      n = length es - left
+
+      here : length es - (left - count) ≡ n + count
+      here = omega arith
+
+      both : take (length es - (left - count)) es ≡ take n es ++ take count (drop n es)
+      both = ap (λ (m : ℕ). take m es) here ∙ take_add n count es
+
+      by : (next : Option K) → entries_above cmp next es ≡ drop count (drop n es) → Front next es (left - count) text
+      by None all =
+          let long : length es ≡ length es - n - count = ap length all ∙ length-drop count (drop n es) ∙ ap (λ (m : ℕ). m - count) (length-drop n es) in
+          absurd (omega arith)
+      by (Some key) all = record {
+        counted = b.counted;
+        spelled = subst (All Pair) (sym both) (All-append Pair (take n es) (take count (drop n es)) b.spelled spelled);
+        text = more ∙ ap (λ (t : List ℕ). t ++ flat_map pair (take count (drop n es))) b.text ∙ ap (λ (t : List ℕ). 1 ∷ t) (append_assoc (to_be_bytes w32 (length es)) (flat_map pair (take n es)) (flat_map pair (take count (drop n es))) ∙ ap (λ (t : List ℕ). to_be_bytes w32 (length es) ++ t) (sym (flat_map-append pair (take n es) (take count (drop n es))) ∙ ap (flat_map pair) (sym both)));
+        others = all ∙ drop-drop count n es ∙ ap (λ (m : ℕ). drop m es) (sym here);
+      }
+
+  -- ---- after a call
+
+  module _ (frozen : Option (List (K × S))) (has_copied : Bool) (last next : Option K) (left count : ℕ) (before head after : List ℕ) (h : Held frozen has_copied last left before) (some : 0 < count) (le : count ≤ left) (b : Begins last left before head) where
+    -- what a call spells
+    pub spelled_on : after ≡ head ++ flat_map pair (take count (entries_above cmp last (unwrap_or frozen []))) → All Pair (take count (entries_above cmp last (unwrap_or frozen []))) → entries_above cmp next (unwrap_or frozen []) ≡ drop count (entries_above cmp last (unwrap_or frozen [])) → Front next (seen frozen before) (left - count) after
+    spelled_on more spelled others =
+        let es : List (K × S) = seen frozen before in
+        let there : unwrap_or frozen [] ≡ es = ap (λ (f : Option (List (K × S))). unwrap_or f []) (is_frozen frozen has_copied last left before h (omega arith)) in
+        let todo : entries_above cmp last (unwrap_or frozen []) ≡ drop (length es - left) es = ap (entries_above cmp last) there ∙ left_above last es left before h.front in
+        further es left count next head after (begun last es left before head h.front b) some le h.within
+          (more ∙ ap (λ (l : List (K × S)). head ++ flat_map pair (take count l)) todo)
+          (subst (λ (l : List (K × S)). All Pair (take count l)) todo spelled)
+          (ap (entries_above cmp next) (sym there) ∙ others ∙ ap (drop count) todo)
+
+    module _ (front : Front next (seen frozen before) (left - count) after) where
+      -- the copy stays, and is held
+      pub on_frozen : 0 < left - count → (seen frozen after ≡ seen frozen before) × Held frozen has_copied next (left - count) after
+      on_frozen more = 
+          let is = is_frozen frozen has_copied last left before h (omega arith) in
+          let same : seen frozen after ≡ seen frozen before = ap (λ (f : Option (List (K × S))). seen f after) is in
+          (same, record {
+            rises = subst (λ (es : List (K × S)). IsStrictlySortedBy cmp (keys_of es)) (sym same) h.rises;
+            within = subst (λ (es : List (K × S)). left - count ≤ length es) (sym same) (let w = h.within in omega arith);
+            front = subst (λ (es : List (K × S)). Front next es (left - count) after) (sym same) front;
+            frozen_on = λ none. absurd (omega (arith, h.frozen_on none));
+            frozen_off = λ done. absurd (omega arith);
+            copied_first = λ none. absurd (omega (arith, h.copied_first none));
+          })
+
+      pub on_thawed : (thawed : Option (List (K × S))) → thawed ≡ None → left - count ≡ 0 → (seen thawed after ≡ seen frozen before) × Held thawed has_copied next (left - count) after
+      on_thawed thawed none done =
+          let es : List (K × S) = seen frozen before in
+          let same : seen thawed after ≡ es = ap (λ (f : Option (List (K × S))). seen f after) none ∙ read_back next es after h.rises (subst (λ (n : ℕ). Front next es n after) done front) in
+          (same, record {
+            rises = subst (λ (es : List (K × S)). IsStrictlySortedBy cmp (keys_of es)) (sym same) h.rises;
+            within = omega arith;
+            front = subst (λ (es : List (K × S)). Front next es (left - count) after) (sym same) front;
+            frozen_on = λ _. done;
+            frozen_off = λ _. none;
+            copied_first = λ _. done;
+          })
+
+  -- a whole copy, with logs behind it
+  pub with_logs_behind : (frozen : Option (List (K × S))) (has_copied : Bool) (last : Option K) (left : ℕ) (before head after logs : List ℕ) → Held frozen has_copied last left before → left ≡ 0 → Begins last 0 before head → after ≡ head ++ logs → MapIsSpelled cmp Key State (seen frozen before) × (after ≡ 1 ∷ (list_spelling pair (seen frozen before) ++ logs))
+  with_logs_behind frozen has_copied last left before head after logs h done b more =
+      let es : List (K × S) = seen frozen before in
+      let front : Front last es 0 before = subst (λ (n : ℕ). Front last es n before) done h.front in
+      let b = begun last es 0 before head front b in
+      ((h.rises, (b.counted, subst (All Pair) (whole es) b.spelled)), more ∙ ap (λ (t : List ℕ). t ++ logs) (b.text ∙ ap (front_spelling keys states (length es)) (whole es)))
