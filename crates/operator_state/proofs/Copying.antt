@@ -43,24 +43,27 @@ module _ {X : Type 0} where
   drop_on (suc i) (x ∷ xs) e rest h = drop_on i xs e rest h
 
   pub take_add : (n m : ℕ) (xs : List X) → take (n + m) xs ≡ take n xs ++ take m (drop n xs)
-  take_add zero m xs = refl
-  take_add (suc n) m [] = sym (take_all m [] (omega arith))
-  take_add (suc n) m (x ∷ xs) = ap (λ (l : List X). x ∷ l) (take_add n m xs)
+  take_add zero m xs = let at : 0 + m ≡ m = omega arith in ap (λ (n : ℕ). take n xs) at
+  take_add (suc n) m [] = take_all (suc n + m) [] (omega arith) ∙ sym (take_all m [] (omega arith))
+  take_add (suc n) m (x ∷ xs) = let at : suc n + m ≡ suc (n + m) = omega arith in ap (λ (k : ℕ). take k (x ∷ xs)) at ∙ ap (λ (l : List X). x ∷ l) (take_add n m xs)
 
   -- what was there is still there, with more behind it
   pub take_kept : (n : ℕ) (xs more : List X) → n ≤ length xs → take n (take n xs ++ more) ≡ take n xs
   take_kept n xs more le = take-append-le n (take n xs) more (omega (arith, length-take-le n xs le)) ∙ take_all n (take n xs) (omega (arith, length-take-le n xs le))
 
+  pub none_left : (xs left : List X) (i count : ℕ) → xs ≡ drop i left → None ≡ slice_get xs 0 → i < count → count ≤ length left → ⊥
+  none_left xs left i count at none lt le = omega (arith, none_is xs (sym none), ap length at, length-drop i left)
+
 -- ---- the entries above a key
 
-module _ {K S : Type 0} {cmp : K → K → Ordering} (order : IsTotalOrder cmp) where
-  above : K → K × S → Bool
-  above key entry = is_lt (cmp key entry.0)
+itself_is : (r : Ordering) → r ≡ ordering_reverse r → r ≡ Equal
+itself_is Less h = absurd cc
+itself_is Equal h = refl
+itself_is Greater h = absurd cc
 
-  less_is : (r : Ordering) → is_lt r ≡ true → r ≡ Less
-  less_is Less e = refl
-  less_is Equal e = absurd cc
-  less_is Greater e = absurd cc
+module _ {K S : Type 0} {cmp : K → K → Ordering} (order : IsTotalOrder cmp) where
+  abbrev above : K → K × S → Bool
+  above key entry = is_lt (cmp key entry.0)
 
   all_above : (key : K) (es : List (K × S)) → AllByRecursion (λ q. cmp key q ≡ Less) (keys_of es) → filter (above key) es ≡ es
   all_above key [] all = refl
@@ -73,18 +76,16 @@ module _ {K S : Type 0} {cmp : K → K → Ordering} (order : IsTotalOrder cmp) 
   -- the first that passes is one of them
   first_is_above : (j key : K) (es : List (K × S)) (e : K × S) (rest : List (K × S)) → AllByRecursion (λ q. cmp j q ≡ Less) (keys_of es) → filter (above key) es ≡ e ∷ rest → cmp j e.0 ≡ Less
   first_is_above j key [] e rest all h = absurd cc
-  first_is_above j key (x ∷ es) e rest all h = by (above key x) refl
+  first_is_above j key (x ∷ es) e rest all h = by (above key x) refl (first_is_above j key es e rest all.1)
     where
-      by : (b : Bool) → above key x ≡ b → cmp j e.0 ≡ Less
-      by true p =
-          let same : x ≡ e = ap (λ (l : List (K × S)). unwrap_or (slice_get l 0) x) (sym (the (filter (above key) (x ∷ es) ≡ x ∷ filter (above key) es) (rw p refl)) ∙ h) in
+      by : (b : Bool) → above key x ≡ b → (filter (above key) es ≡ e ∷ rest → cmp j e.0 ≡ Less) → cmp j e.0 ≡ Less
+      by true p later =
+          let kept : filter (above key) (x ∷ es) ≡ x ∷ filter (above key) es = rw p refl in
+          let same : x ≡ e = ap (λ (l : List (K × S)). unwrap_or (slice_get l 0) x) (sym kept ∙ h) in
           subst (λ (y : K × S). cmp j y.0 ≡ Less) same all.0
-      by false p = first_is_above j key es e rest all.1 (sym (the (filter (above key) (x ∷ es) ≡ filter (above key) es) (rw p refl)) ∙ h)
-
-  itself_is : (r : Ordering) → r ≡ ordering_reverse r → r ≡ Equal
-  itself_is Less h = absurd cc
-  itself_is Equal h = refl
-  itself_is Greater h = absurd cc
+      by false p later =
+          let left_out : filter (above key) (x ∷ es) ≡ filter (above key) es = rw p refl in
+          later (sym left_out ∙ h)
 
   -- of entries whose keys rise, those above the first are the others
   above_first : (x : K × S) (es : List (K × S)) → AllByRecursion (λ q. cmp x.0 q ≡ Less) (keys_of es) → filter (above x.0) (x ∷ es) ≡ es
@@ -102,17 +103,21 @@ module _ {K S : Type 0} {cmp : K → K → Ordering} (order : IsTotalOrder cmp) 
   next_above (Some key) [] e rest rises h = absurd cc
   next_above (Some key) (x ∷ es) e rest rises h = by (cmp key x.0) refl (next_above (Some key) es e rest rises.1)
     where
-      by : (r : Ordering) → cmp key x.0 ≡ r → (filter (above key) es ≡ e ∷ rest → filter (above e.0) es ≡ rest) → filter (above e.0) (x ∷ es) ≡ rest
       passed : cmp key x.0 ≡ Less → filter (above e.0) (x ∷ es) ≡ rest
       passed p =
-          let seen : x ∷ es ≡ e ∷ rest = sym (the (filter (above key) (x ∷ es) ≡ x ∷ es) (rw p (ap (λ (l : List (K × S)). x ∷ l) (all_above key es (further_up key x.0 es p rises.0))))) ∙ h in
+          let all : filter (above key) (x ∷ es) ≡ x ∷ es = rw p (ap (λ (l : List (K × S)). x ∷ l) (all_above key es (further_up key x.0 es p rises.0))) in
+          let seen : x ∷ es ≡ e ∷ rest = sym all ∙ h in
           subst (λ (y : K × S). filter (above y.0) (x ∷ es) ≡ rest) (first_of x es e rest seen) (above_first x es rises.0 ∙ ap (drop 1) seen)
+
       failed : is_lt (cmp key x.0) ≡ false → (filter (above key) es ≡ e ∷ rest → filter (above e.0) es ≡ rest) → filter (above e.0) (x ∷ es) ≡ rest
       failed p on =
-          let seen : filter (above key) es ≡ e ∷ rest = sym (the (filter (above key) (x ∷ es) ≡ filter (above key) es) (rw p refl)) ∙ h in
+          let left_out : filter (above key) (x ∷ es) ≡ filter (above key) es = rw p refl in
+          let seen : filter (above key) es ≡ e ∷ rest = sym left_out ∙ h in
           let up : cmp x.0 e.0 ≡ Less = first_is_above x.0 key es e rest rises.0 seen in
           let down : cmp e.0 x.0 ≡ Greater = order.antisymm e.0 x.0 ∙ ap ordering_reverse up in
           rw down (on seen)
+
+      by : (r : Ordering) → cmp key x.0 ≡ r → (filter (above key) es ≡ e ∷ rest → filter (above e.0) es ≡ rest) → filter (above e.0) (x ∷ es) ≡ rest
       by Less p on = passed p
       by Equal p on = failed (ap is_lt p) on
       by Greater p on = failed (ap is_lt p) on
@@ -127,13 +132,16 @@ module _ {K S : Type 0} {cmp : K → K → Ordering} (order : IsTotalOrder cmp) 
         ap (λ (n : ℕ). take n left) on ∙ take_on i left e (drop 1 (entries_above cmp next es)) at,
       )
 
-module _ {K S : Type 0} (keys : K → List ℕ) (states : S → List ℕ) (old out between last : List ℕ) (before after : List (K × S)) (e : K × S) where
+module _ {X : Type 0} (spelling : X → List ℕ) (old out last : List ℕ) (before after : List X) (x : X) where
   -- and its spelling
-  pub text_on : out ≡ old ++ flat_map (pair_spelling keys states) before → between ≡ out ++ keys e.0 → last ≡ between ++ states e.1 → after ≡ before ++ e ∷ [] → last ≡ old ++ flat_map (pair_spelling keys states) after
-  text_on so_far first second more =
-      let pair : K × S → List ℕ = pair_spelling keys states in
-      let whole : flat_map pair after ≡ flat_map pair before ++ pair e = ap (flat_map pair) more ∙ flat_map-append pair before (e ∷ []) ∙ ap (λ (t : List ℕ). flat_map pair before ++ t) (flat_map-cons pair e [] ∙ append-nil (pair e)) in
-      second ∙ ap (λ (t : List ℕ). t ++ states e.1) first ∙ append_assoc out (keys e.0) (states e.1) ∙ ap (λ (t : List ℕ). t ++ pair e) so_far ∙ append_assoc old (flat_map pair before) (pair e) ∙ ap (λ (t : List ℕ). old ++ t) (sym whole)
+  pub text_on : out ≡ old ++ flat_map spelling before → last ≡ out ++ spelling x → after ≡ before ++ x ∷ [] → last ≡ old ++ flat_map spelling after
+  text_on so_far written more =
+      let whole : flat_map spelling after ≡ flat_map spelling before ++ spelling x = ap (flat_map spelling) more ∙ flat_map-append spelling before (x ∷ []) ∙ ap (λ (t : List ℕ). flat_map spelling before ++ t) (flat_map-cons spelling x [] ∙ append-nil (spelling x)) in
+      written ∙ ap (λ (t : List ℕ). t ++ spelling x) so_far ∙ append_assoc old (flat_map spelling before) (spelling x) ∙ ap (λ (t : List ℕ). old ++ t) (sym whole)
+
+-- what was written since
+pub since : (old out last all more : List ℕ) → out ≡ old ++ all → last ≡ out ++ more → (both : List ℕ) × (last ≡ old ++ both)
+since old out last all more so_far written = (all ++ more, written ∙ ap (λ (t : List ℕ). t ++ more) so_far ∙ append_assoc old all more)
 
 -- ---- what is kept of a copy
 
@@ -175,18 +183,15 @@ module _ {K S : Type 0} (cmp : K → K → Ordering) (order : IsTotalOrder cmp) 
       ap (seen None) (all_text key es bytes h) ∙ ap entries_or_none (ap (map_at cmp read_key read_state) (sym (append-nil (list_spelling pair es))) ∙ code.again es [] (all_spelled key es bytes rises h))
 
   pub nothing_held : (frozen : Option (List (K × S))) → frozen ≡ None → Held frozen false None 0 []
+  unfolding IsStrictlySortedBy
   nothing_held frozen thawed = subst (λ (f : Option (List (K × S))). Held f false None 0 []) (sym thawed) (record {
-    rises = sorted;
+    rises = tt;
     within = omega arith;
     front = (refl, refl);
     frozen_on = λ _. refl;
     frozen_off = λ _. refl;
     copied_first = λ _. refl;
   })
-    where
-      sorted : IsStrictlySortedBy cmp (keys_of (seen None []))
-      unfolding IsStrictlySortedBy
-      sorted = tt
 
   -- ---- entries that are left
 

@@ -70,6 +70,21 @@ fn begin<K>(last: &Option<K>, left: usize, out: &mut Vec<u8>) -> Result<(), NoMe
     write_count(left, out).map_err(|_| NoMemory)
 }
 
+/// Writes a key and its state.
+fn write_entry<K: Codec, S: Codec>(
+    key: &K,
+    state: &S,
+    out: &mut Vec<u8>,
+) -> Result<(), NoMemory>
+    ensures appended { OnOk result (PairIsSpelled K.HasSpelling S.HasSpelling (key.now, state.now)
+        × (out.new.items ≡ out.old.items
+        ++ pair_spelling K.spelling S.spelling (key.now, state.now))) }
+    ensures keeps { (more : List ℕ) × (out.new.items ≡ out.old.items ++ more) }
+{
+    key.write(out).map_err(|_| NoMemory)?;
+    state.write(out).map_err(|_| NoMemory)
+}
+
 /// Writes the next entries of the frozen map, and copies the key of the last of them.
 fn write_next<K: Codec + Ord, S: Codec>(
     states: &KeyedState<K, S>,
@@ -92,8 +107,7 @@ fn write_next<K: Codec + Ord, S: Codec>(
     let mut next = last;
     for _ in 0..count {
         if let Some((key, state)) = states.frozen_next(next) {
-            key.write(out).map_err(|_| NoMemory)?;
-            state.write(out).map_err(|_| NoMemory)?;
+            write_entry(key, state, out)?;
             next = Some(key);
         }
     }
