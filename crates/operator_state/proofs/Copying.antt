@@ -253,41 +253,42 @@ module _ {K S : Type 0} (cmp : K → K → Ordering) (order : IsTotalOrder cmp) 
 
   -- ---- after a call
 
-  module _ (frozen : Option (List (K × S))) (has_copied : Bool) (last next : Option K) (left count : ℕ) (before head after : List ℕ) (h : Held frozen has_copied last left before) (some : 0 < count) (le : count ≤ left) (b : Begins last left before head) where
+  module _ (frozen : Option (List (K × S))) (has_copied : Bool) (last next : Option K) (left count : ℕ) (before head after : List ℕ) (h : Held frozen has_copied last left before) (some : 0 < count) (le : count ≤ left) where
     -- what a call spells
-    pub spelled_on : after ≡ head ++ flat_map pair (take count (entries_above cmp last (unwrap_or frozen []))) → All Pair (take count (entries_above cmp last (unwrap_or frozen []))) → entries_above cmp next (unwrap_or frozen []) ≡ drop count (entries_above cmp last (unwrap_or frozen [])) → Front next (seen frozen before) (left - count) after
-    spelled_on more spelled others =
+    pub spelled_on : (cut : List ℕ) (asked : Option K) → cut ≡ before → asked ≡ last → Begins last left cut head → after ≡ head ++ flat_map pair (take count (entries_above cmp asked (unwrap_or frozen []))) → All Pair (take count (entries_above cmp asked (unwrap_or frozen []))) → entries_above cmp next (unwrap_or frozen []) ≡ drop count (entries_above cmp asked (unwrap_or frozen [])) → Front next (seen frozen before) (left - count) after
+    spelled_on cut asked from same b more spelled others =
         let es : List (K × S) = seen frozen before in
         let there : unwrap_or frozen [] ≡ es = ap (λ (f : Option (List (K × S))). unwrap_or f []) (is_frozen frozen has_copied last left before h (omega arith)) in
-        let todo : entries_above cmp last (unwrap_or frozen []) ≡ drop (length es - left) es = ap (entries_above cmp last) there ∙ left_above last es left before h.front in
-        further es left count next head after (begun last es left before head h.front b) some le h.within
+        let todo : entries_above cmp asked (unwrap_or frozen []) ≡ drop (length es - left) es = ap (λ (k : Option K). entries_above cmp k (unwrap_or frozen [])) same ∙ ap (entries_above cmp last) there ∙ left_above last es left before h.front in
+        further es left count next head after (begun last es left before head h.front (subst (λ (t : List ℕ). Begins last left t head) from b)) some le h.within
           (more ∙ ap (λ (l : List (K × S)). head ++ flat_map pair (take count l)) todo)
           (subst (λ (l : List (K × S)). All Pair (take count l)) todo spelled)
           (ap (entries_above cmp next) (sym there) ∙ others ∙ ap (drop count) todo)
 
-    module _ (front : Front next (seen frozen before) (left - count) after) where
+    module _ (front : Front next (seen frozen before) (left - count) after) (kept : List ℕ) (all : kept ≡ after) where
       -- the copy stays, and is held
-      pub on_frozen : 0 < left - count → (seen frozen after ≡ seen frozen before) × Held frozen has_copied next (left - count) after
-      on_frozen more = 
-          let is = is_frozen frozen has_copied last left before h (omega arith) in
-          let same : seen frozen after ≡ seen frozen before = ap (λ (f : Option (List (K × S))). seen f after) is in
+      pub on_frozen : 0 < left - count → (seen frozen kept ≡ seen frozen before) × Held frozen has_copied next (left - count) kept
+      on_frozen more =
+          let is : frozen ≡ Some (seen frozen before) = is_frozen frozen has_copied last left before h (omega arith) in
+          let same : seen frozen kept ≡ seen frozen before = ap (λ (f : Option (List (K × S))). seen f kept) is in
           (same, record {
             rises = subst (λ (es : List (K × S)). IsStrictlySortedBy cmp (keys_of es)) (sym same) h.rises;
-            within = subst (λ (es : List (K × S)). left - count ≤ length es) (sym same) (let w = h.within in omega arith);
-            front = subst (λ (es : List (K × S)). Front next es (left - count) after) (sym same) front;
+            within = subst (λ (es : List (K × S)). left - count ≤ length es) (sym same) (let w : left ≤ length (seen frozen before) = h.within in omega arith);
+            front = subst (λ (es : List (K × S)). Front next es (left - count) kept) (sym same) (subst (Front next (seen frozen before) (left - count)) (sym all) front);
             frozen_on = λ none. absurd (omega (arith, h.frozen_on none));
             frozen_off = λ done. absurd (omega arith);
             copied_first = λ none. absurd (omega (arith, h.copied_first none));
           })
 
-      pub on_thawed : (thawed : Option (List (K × S))) → thawed ≡ None → left - count ≡ 0 → (seen thawed after ≡ seen frozen before) × Held thawed has_copied next (left - count) after
+      pub on_thawed : (thawed : Option (List (K × S))) → thawed ≡ None → left - count ≡ 0 → (seen thawed kept ≡ seen frozen before) × Held thawed has_copied next (left - count) kept
       on_thawed thawed none done =
           let es : List (K × S) = seen frozen before in
-          let same : seen thawed after ≡ es = ap (λ (f : Option (List (K × S))). seen f after) none ∙ read_back next es after h.rises (subst (λ (n : ℕ). Front next es n after) done front) in
+          let whole_front : Front next es (left - count) kept = subst (Front next es (left - count)) (sym all) front in
+          let same : seen thawed kept ≡ es = ap (λ (f : Option (List (K × S))). seen f kept) none ∙ read_back next es kept h.rises (subst (λ (n : ℕ). Front next es n kept) done whole_front) in
           (same, record {
             rises = subst (λ (es : List (K × S)). IsStrictlySortedBy cmp (keys_of es)) (sym same) h.rises;
             within = omega arith;
-            front = subst (λ (es : List (K × S)). Front next es (left - count) after) (sym same) front;
+            front = subst (λ (es : List (K × S)). Front next es (left - count) kept) (sym same) whole_front;
             frozen_on = λ _. done;
             frozen_off = λ _. none;
             copied_first = λ _. done;

@@ -1,24 +1,40 @@
-use Rattle.std.proofs.Common.{rules, ◌≡◌, ◌≤◌, ◌+◌, ◌-◌, ◌++◌, ℕ, List, [], take, drop, length, is_some, Some, None, IsTrue, IsOk, OnOk, OnErr, IfOk, if◌then◌else◌, ◌*◌, ◌<◌, ◌/◌, ◌%◌, Bool, true, false, nat_eq, nat_lt, ◌∷◌, slice_index_or, slice_set, bit_and, bit_or, Fits, w8, w32, w64, Bor, MutBor}
-use Rattle.std.specs.Option.{option_copied}
-use Rattle.std.specs.List.Sorted.{IsStrictlySortedBy}
-use Rattle.std.specs.List.{All, flat_map}
-use Rattle.std.specs.Map.{keys_of}
-use Rattle.std.specs.BTreeMap.{is_at}
-use Rattle.abs_codec.specs.Entries.{value_at}
-use Rattle.abs_codec.specs.Spelling.{pair_spelling, PairIsSpelled}
-use Rattle.keyed_state.specs.KeyedMap.{entries_above, frozen_entries}
-use Rattle.operator_state.specs.Spelled.{Begins}
-use Rattle.task_part.specs.declared.part.Part.TheVariants as Part
-use Rattle.task_part.specs.Spelling.{logs_now, part_spelling, PartIsSpelled}
+use Rattle.std.proofs.Common.{◌≡◌, ◌<◌, ◌≤◌, ◌-◌, List, take, length, Some, None, cond, ap, sym, subst, ◌∙◌, arith}
+use Rattle.std.proofs.lemmas.List.{take_all}
+use Rattle.operator_state.specs.Spelled.{IsHeld}
+use Rattle.operator_state.proofs.Copying.{spelled_on, on_frozen, on_thawed}
 use Rattle.operator_state.proofs.operator_state.OperatorState.spell_some.Goals as goal
 
--- src/operator_state.rt:234:13
 pub invariant_of-self-then-self-eq0 : goal.invariant_of-self-then-self-eq0
-invariant_of-self-then-self-eq0 g c = ?
+invariant_of-self-then-self-eq0 g c =
+    let some : 0 < c.min-count.result = omega (arith, c.if-count-eq0.false) in
+    let le : c.min-count.result ≤ c.self.inside.left = omega (arith, c.min-count.ensures) in
+    let done = c.in_ok-self-inside.ensures in
+    let front = spelled_on g.K.Ord.cmp g.met.K.Ord.total g.K.Codec.HasSpelling g.K.Codec.spelling g.K.Codec.reading g.met.K.Codec.code g.S.Codec.HasSpelling g.S.Codec.spelling g.S.Codec.reading g.met.S.Codec.code c.self.inside.states.frozen c.self.inside.has_copied c.self.inside.last c.in_ok-self-inside.field-0 c.self.inside.left c.min-count.result (take c.self.inside.end c.self.inside.bytes.items) c.begin.new.out.items c.write_next.new.out.items c.self.invariant.1 some le c.truncate.new.self.items _ c.truncate.ensures.items c.as_ref.ensures.value c.in_ok-begin.ensures.begun done.appended done.spelled done.others in
+    let all : take c.len-self-inside.result c.write_next.new.out.items ≡ c.write_next.new.out.items = take_all c.len-self-inside.result c.write_next.new.out.items (omega (arith, c.len-self-inside.ensures)) in
+    let held = on_thawed g.K.Ord.cmp g.met.K.Ord.total g.K.Codec.HasSpelling g.K.Codec.spelling g.K.Codec.reading g.met.K.Codec.code g.S.Codec.HasSpelling g.S.Codec.spelling g.S.Codec.reading g.met.S.Codec.code c.self.inside.states.frozen c.self.inside.has_copied c.self.inside.last c.in_ok-self-inside.field-0 c.self.inside.left c.min-count.result (take c.self.inside.end c.self.inside.bytes.items) c.begin.new.out.items c.write_next.new.out.items c.self.invariant.1 some le front (take c.len-self-inside.result c.write_next.new.out.items) all c.thaw.new.self.frozen (ap (λ m. m.frozen) c.thaw.ensures) c.if-self-eq0.true in
+    (omega (arith, c.len-self-inside.ensures), held.1)
 
 pub invariant_of-self-else-self-eq0 : goal.invariant_of-self-else-self-eq0
-invariant_of-self-else-self-eq0 g c = ?
+invariant_of-self-else-self-eq0 g c =
+    let some : 0 < c.min-count.result = omega (arith, c.if-count-eq0.false) in
+    let le : c.min-count.result ≤ c.self.inside.left = omega (arith, c.min-count.ensures) in
+    let done = c.in_ok-self-inside.ensures in
+    let front = spelled_on g.K.Ord.cmp g.met.K.Ord.total g.K.Codec.HasSpelling g.K.Codec.spelling g.K.Codec.reading g.met.K.Codec.code g.S.Codec.HasSpelling g.S.Codec.spelling g.S.Codec.reading g.met.S.Codec.code c.self.inside.states.frozen c.self.inside.has_copied c.self.inside.last c.in_ok-self-inside.field-0 c.self.inside.left c.min-count.result (take c.self.inside.end c.self.inside.bytes.items) c.begin.new.out.items c.write_next.new.out.items c.self.invariant.1 some le c.truncate.new.self.items _ c.truncate.ensures.items c.as_ref.ensures.value c.in_ok-begin.ensures.begun done.appended done.spelled done.others in
+    let all : take c.len-self-inside.result c.write_next.new.out.items ≡ c.write_next.new.out.items = take_all c.len-self-inside.result c.write_next.new.out.items (omega (arith, c.len-self-inside.ensures)) in
+    let held = on_frozen g.K.Ord.cmp g.met.K.Ord.total g.K.Codec.HasSpelling g.K.Codec.spelling g.K.Codec.reading g.met.K.Codec.code g.S.Codec.HasSpelling g.S.Codec.spelling g.S.Codec.reading g.met.S.Codec.code c.self.inside.states.frozen c.self.inside.has_copied c.self.inside.last c.in_ok-self-inside.field-0 c.self.inside.left c.min-count.result (take c.self.inside.end c.self.inside.bytes.items) c.begin.new.out.items c.write_next.new.out.items c.self.invariant.1 some le front (take c.len-self-inside.result c.write_next.new.out.items) all (omega (arith, c.if-self-eq0.false)) in
+    (omega (arith, c.len-self-inside.ensures), held.1)
 
--- src/operator_state.rt:218:5
 pub returns-then-self-eq0-clause-ok : goal.returns-then-self-eq0-clause-ok
-returns-then-self-eq0-clause-ok g c = ?
+returns-then-self-eq0-clause-ok g c =
+    let some : 0 < c.min-count.result = omega (arith, c.if-count-eq0.false) in
+    let le : c.min-count.result ≤ c.self.inside.left = omega (arith, c.min-count.ensures) in
+    let done = c.in_ok-self-inside.ensures in
+    let front = spelled_on g.K.Ord.cmp g.met.K.Ord.total g.K.Codec.HasSpelling g.K.Codec.spelling g.K.Codec.reading g.met.K.Codec.code g.S.Codec.HasSpelling g.S.Codec.spelling g.S.Codec.reading g.met.S.Codec.code c.self.inside.states.frozen c.self.inside.has_copied c.self.inside.last c.in_ok-self-inside.field-0 c.self.inside.left c.min-count.result (take c.self.inside.end c.self.inside.bytes.items) c.begin.new.out.items c.write_next.new.out.items c.self.invariant.1 some le c.truncate.new.self.items _ c.truncate.ensures.items c.as_ref.ensures.value c.in_ok-begin.ensures.begun done.appended done.spelled done.others in
+    let all : take c.len-self-inside.result c.write_next.new.out.items ≡ c.write_next.new.out.items = take_all c.len-self-inside.result c.write_next.new.out.items (omega (arith, c.len-self-inside.ensures)) in
+    let held = on_thawed g.K.Ord.cmp g.met.K.Ord.total g.K.Codec.HasSpelling g.K.Codec.spelling g.K.Codec.reading g.met.K.Codec.code g.S.Codec.HasSpelling g.S.Codec.spelling g.S.Codec.reading g.met.S.Codec.code c.self.inside.states.frozen c.self.inside.has_copied c.self.inside.last c.in_ok-self-inside.field-0 c.self.inside.left c.min-count.result (take c.self.inside.end c.self.inside.bytes.items) c.begin.new.out.items c.write_next.new.out.items c.self.invariant.1 some le front (take c.len-self-inside.result c.write_next.new.out.items) all c.thaw.new.self.frozen (ap (λ m. m.frozen) c.thaw.ensures) c.if-self-eq0.true in
+    let seen = c.self.view_is in
+    let entries : c.thaw.new.self.entries ≡ c.args.self.now.entries = ap (λ m. m.entries) c.thaw.ensures ∙ ap (λ o. o.entries) seen in
+    let copy = ap (λ (es : List _). cond c.self.inside.has_copied (Some es) None) held.0 ∙ ap (λ o. o.copy) seen in
+    let unspelled : c.self.inside.left - c.min-count.result ≡ c.args.self.now.unspelled - c.args.most = omega (arith, c.min-count.ensures, ap (λ o. o.unspelled) seen) in
+    let unmerged : c.thaw.new.self.unmerged ≡ c.args.self.now.unmerged = ap (λ m. m.unmerged) c.thaw.ensures ∙ ap (λ o. o.unmerged) seen in
+    λ i. record { entries = entries i; copy = copy i; unspelled = unspelled i; unmerged = unmerged i; part = c.write_next.new.out.items }
