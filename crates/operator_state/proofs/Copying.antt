@@ -1,5 +1,5 @@
 -- The entries that are left to be spelled, and what is read of those that are.
-use Rattle.std.proofs.Common.{◌≡◌, ◌<◌, ◌≤◌, ◌+◌, ◌-◌, ◌^◌, ℕ, zero, suc, Bool, true, false, cond, Option, Some, None, List, [], ◌∷◌, ◌++◌, length, take, drop, Ok, Ordering, refl, sym, ap, subst, ◌∙◌, append_assoc, arith}
+use Rattle.std.proofs.Common.{◌≡◌, ◌<◌, ◌≤◌, ◌+◌, ◌-◌, ◌^◌, ℕ, zero, suc, Bool, true, false, Option, Some, None, List, [], ◌∷◌, ◌++◌, length, take, drop, Ordering, refl, sym, ap, subst, ◌∙◌, append_assoc, arith}
 use Rattle.std.specs.Prelude.{slice_get, filter, unwrap_or}
 use Rattle.std.specs.Cmp.{IsTotalOrder}
 use Rattle.std.specs.Int.{to_be_bytes, w32}
@@ -8,10 +8,9 @@ use Rattle.std.specs.List.Sorted.{IsStrictlySortedBy}
 use Rattle.std.specs.Map.{keys_of}
 use Rattle.std.specs.Ordering.{is_lt, ordering_reverse}
 use Rattle.std.specs.declared.cmp.Ordering.TheVariants.{Less, Equal, Greater}
-use Rattle.std.proofs.lemmas.Bool.{false≢true}
-use Rattle.std.proofs.lemmas.List.{append-nil, take_all, take-take, length-take, length-take-le, length-drop, length-append, take-append-drop, take-append-le, drop-drop}
+use Rattle.std.proofs.lemmas.List.{append-nil, take_all, length-drop, drop-drop}
 use Rattle.std.proofs.lemmas.List.Concat.{flat_map-append, flat_map-cons}
-use Rattle.std.proofs.lemmas.List.Elements.{All-append, All-push, All-nil}
+use Rattle.std.proofs.lemmas.List.Elements.{All-append, All-nil}
 use Rattle.abs_codec.specs.Laws.{IsCode}
 use Rattle.abs_codec.specs.Maps.{map_code}
 use Rattle.abs_codec.specs.Reading.{Reading, map_at}
@@ -46,10 +45,6 @@ module _ {X : Type 0} where
   take_add zero m xs = let at : 0 + m ≡ m = omega arith in ap (λ (n : ℕ). take n xs) at
   take_add (suc n) m [] = take_all (suc n + m) [] (omega arith) ∙ sym (take_all m [] (omega arith))
   take_add (suc n) m (x ∷ xs) = let at : suc n + m ≡ suc (n + m) = omega arith in ap (λ (k : ℕ). take k (x ∷ xs)) at ∙ ap (λ (l : List X). x ∷ l) (take_add n m xs)
-
-  -- what was there is still there, with more behind it
-  pub take_kept : (n : ℕ) (xs more : List X) → n ≤ length xs → take n (take n xs ++ more) ≡ take n xs
-  take_kept n xs more le = take-append-le n (take n xs) more (omega (arith, length-take-le n xs le)) ∙ take_all n (take n xs) (omega (arith, length-take-le n xs le))
 
   pub none_left : (xs left : List X) (i count : ℕ) → xs ≡ drop i left → None ≡ slice_get xs 0 → i < count → count ≤ length left → ⊥
   none_left xs left i count at none lt le = omega (arith, none_is xs (sym none), ap length at, length-drop i left)
@@ -203,15 +198,6 @@ module _ {K S : Type 0} (cmp : K → K → Ordering) (order : IsTotalOrder cmp) 
   is_frozen None has_copied last left bytes h some = absurd (omega (arith, h.frozen_on refl))
   is_frozen (Some es) has_copied last left bytes h some = refl
 
-  -- so many are there to be spelled
-  pub enough : (frozen : Option (List (K × S))) (has_copied : Bool) (last : Option K) (left count : ℕ) (bytes : List ℕ) → Held frozen has_copied last left bytes → 0 < count → count ≤ left → count ≤ length (entries_above cmp last (unwrap_or frozen []))
-  enough frozen has_copied last left count bytes h some le =
-      let es : List (K × S) = seen frozen bytes in
-      let there : unwrap_or frozen [] ≡ es = ap (λ (f : Option (List (K × S))). unwrap_or f []) (is_frozen frozen has_copied last left bytes h (omega arith)) in
-      let long : length (entries_above cmp last es) ≡ length es - (length es - left) = ap length (left_above last es left bytes h.front) ∙ length-drop (length es - left) es in
-      let within : left ≤ length es = h.within in
-      subst (λ (l : List (K × S)). count ≤ length (entries_above cmp last l)) (sym there) (omega arith)
-
   record Begun (es : List (K × S)) (left : ℕ) (bytes : List ℕ) : Type 0 where
     counted : length es < 2 ^ 32
     spelled : All Pair (take (length es - left) es)
@@ -261,43 +247,39 @@ module _ {K S : Type 0} (cmp : K → K → Ordering) (order : IsTotalOrder cmp) 
         let there : unwrap_or frozen [] ≡ es = ap (λ (f : Option (List (K × S))). unwrap_or f []) (is_frozen frozen has_copied last left before h (omega arith)) in
         let todo : entries_above cmp asked (unwrap_or frozen []) ≡ drop (length es - left) es = ap (λ (k : Option K). entries_above cmp k (unwrap_or frozen [])) same ∙ ap (entries_above cmp last) there ∙ left_above last es left before h.front in
         further es left count next head after (begun last es left before head h.front (subst (λ (t : List ℕ). Begins last left t head) from b)) some le h.within
-          (more ∙ ap (λ (l : List (K × S)). head ++ flat_map pair (take count l)) todo)
-          (subst (λ (l : List (K × S)). All Pair (take count l)) todo spelled)
-          (ap (entries_above cmp next) (sym there) ∙ others ∙ ap (drop count) todo)
+        (more ∙ ap (λ (l : List (K × S)). head ++ flat_map pair (take count l)) todo)
+        (subst (λ (l : List (K × S)). All Pair (take count l)) todo spelled)
+        (ap (entries_above cmp next) (sym there) ∙ others ∙ ap (drop count) todo)
 
     module _ (front : Front next (seen frozen before) (left - count) after) (kept : List ℕ) (all : kept ≡ after) where
       -- the copy stays, and is held
       pub on_frozen : 0 < left - count → (seen frozen kept ≡ seen frozen before) × Held frozen has_copied next (left - count) kept
       on_frozen more =
           let is : frozen ≡ Some (seen frozen before) = is_frozen frozen has_copied last left before h (omega arith) in
-          let same : seen frozen kept ≡ seen frozen before = ap (λ (f : Option (List (K × S))). seen f kept) is in
-          (same, record {
-            rises = subst (λ (es : List (K × S)). IsStrictlySortedBy cmp (keys_of es)) (sym same) h.rises;
-            within = subst (λ (es : List (K × S)). left - count ≤ length es) (sym same) (let w : left ≤ length (seen frozen before) = h.within in omega arith);
-            front = subst (λ (es : List (K × S)). Front next es (left - count) kept) (sym same) (subst (Front next (seen frozen before) (left - count)) (sym all) front);
-            frozen_on = λ none. absurd (omega (arith, h.frozen_on none));
-            frozen_off = λ done. absurd (omega arith);
-            copied_first = λ none. absurd (omega (arith, h.copied_first none));
-          })
+          let same : seen frozen kept ≡ seen frozen before = ap (λ (f : Option (List (K × S))). seen f kept) is in (
+            same,
+            record {
+              rises = subst (λ (es : List (K × S)). IsStrictlySortedBy cmp (keys_of es)) (sym same) h.rises;
+              within = subst (λ (es : List (K × S)). left - count ≤ length es) (sym same) (let w : left ≤ length (seen frozen before) = h.within in omega arith);
+              front = subst (λ (es : List (K × S)). Front next es (left - count) kept) (sym same) (subst (Front next (seen frozen before) (left - count)) (sym all) front);
+              frozen_on = λ none. absurd (omega (arith, h.frozen_on none));
+              frozen_off = λ done. absurd (omega arith);
+              copied_first = λ none. absurd (omega (arith, h.copied_first none));
+            },
+          )
 
       pub on_thawed : (thawed : Option (List (K × S))) → thawed ≡ None → left - count ≡ 0 → (seen thawed kept ≡ seen frozen before) × Held thawed has_copied next (left - count) kept
       on_thawed thawed none done =
           let es : List (K × S) = seen frozen before in
           let whole_front : Front next es (left - count) kept = subst (Front next es (left - count)) (sym all) front in
-          let same : seen thawed kept ≡ es = ap (λ (f : Option (List (K × S))). seen f kept) none ∙ read_back next es kept h.rises (subst (λ (n : ℕ). Front next es n kept) done whole_front) in
-          (same, record {
-            rises = subst (λ (es : List (K × S)). IsStrictlySortedBy cmp (keys_of es)) (sym same) h.rises;
-            within = omega arith;
-            front = subst (λ (es : List (K × S)). Front next es (left - count) kept) (sym same) whole_front;
-            frozen_on = λ _. done;
-            frozen_off = λ _. none;
-            copied_first = λ _. done;
-          })
-
-  -- a whole copy, with logs behind it
-  pub with_logs_behind : (frozen : Option (List (K × S))) (has_copied : Bool) (last : Option K) (left : ℕ) (before head after logs : List ℕ) → Held frozen has_copied last left before → left ≡ 0 → Begins last 0 before head → after ≡ head ++ logs → MapIsSpelled cmp Key State (seen frozen before) × (after ≡ 1 ∷ (list_spelling pair (seen frozen before) ++ logs))
-  with_logs_behind frozen has_copied last left before head after logs h done b more =
-      let es : List (K × S) = seen frozen before in
-      let front : Front last es 0 before = subst (λ (n : ℕ). Front last es n before) done h.front in
-      let b = begun last es 0 before head front b in
-      ((h.rises, (b.counted, subst (All Pair) (whole es) b.spelled)), more ∙ ap (λ (t : List ℕ). t ++ logs) (b.text ∙ ap (front_spelling keys states (length es)) (whole es)))
+          let same : seen thawed kept ≡ es = ap (λ (f : Option (List (K × S))). seen f kept) none ∙ read_back next es kept h.rises (subst (λ (n : ℕ). Front next es n kept) done whole_front) in (
+            same,
+            record {
+              rises = subst (λ (es : List (K × S)). IsStrictlySortedBy cmp (keys_of es)) (sym same) h.rises;
+              within = omega arith;
+              front = subst (λ (es : List (K × S)). Front next es (left - count) kept) (sym same) whole_front;
+              frozen_on = λ _. done;
+              frozen_off = λ _. none;
+              copied_first = λ _. done;
+            },
+          )

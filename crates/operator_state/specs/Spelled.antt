@@ -1,5 +1,5 @@
 -- What is kept of a copy: its entries while they are frozen, and the front of its spelling.
-use Rattle.std.specs.Prelude.{◌≡◌, ◌<◌, ◌≤◌, ◌-◌, ◌^◌, ℕ, Bool, true, false, List, [], ◌∷◌, ◌++◌, length, take, drop, Option, None, Some, unwrap_or, Ok, Err}
+use Rattle.std.specs.Prelude.{◌≡◌, ◌<◌, ◌≤◌, ◌-◌, ◌^◌, ℕ, Bool, false, List, [], ◌∷◌, ◌++◌, length, take, drop, Option, None, Some, Ok, Err}
 use Rattle.std.specs.Int.{to_be_bytes, w32}
 use Rattle.std.specs.List.{flat_map, All}
 use Rattle.std.specs.List.Sorted.{IsStrictlySortedBy}
@@ -7,7 +7,7 @@ use Rattle.std.specs.Map.{keys_of}
 use Rattle.std.specs.declared.cmp.Ordering.{Ordering}
 use Rattle.abs_codec.specs.Reading.{Reading, map_at}
 use Rattle.abs_codec.specs.Spelling.{pair_spelling, PairIsSpelled}
-use Rattle.keyed_state.specs.KeyedMap.{KeyedMap, entries_above}
+use Rattle.keyed_state.specs.KeyedMap.{entries_above}
 
 -- what was read, or nothing
 abbrev pub entries_or_none : {K S : Type 0} → Reading (List (K × S)) → List (K × S)

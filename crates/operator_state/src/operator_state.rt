@@ -46,14 +46,14 @@ impl<K: Codec + Ord, S: Codec> Model for OperatorState<K, S> {
     ghost view = { λ o. record {
       entries = o.states.entries;
       copy = if o.has_copied then Some (copied K.Ord.cmp K.reading S.reading o.states.frozen
-        (take o.end o.bytes.items)) else None;
+          (take o.end o.bytes.items)) else None;
       unspelled = o.left;
       unmerged = o.states.unmerged;
       part = o.bytes.items;
     } };
 
     ghost invariant = { λ o. (o.end ≤ length o.bytes.items)
-      × IsHeld K.Ord.cmp K.HasSpelling K.spelling S.HasSpelling S.spelling o.states.frozen
+        × IsHeld K.Ord.cmp K.HasSpelling K.spelling S.HasSpelling S.spelling o.states.frozen
         (copied K.Ord.cmp K.reading S.reading o.states.frozen (take o.end o.bytes.items))
         o.has_copied o.last o.left (take o.end o.bytes.items) };
 }
@@ -71,11 +71,7 @@ fn begin<K>(last: &Option<K>, left: usize, out: &mut Vec<u8>) -> Result<(), NoMe
 }
 
 /// Writes a key and its state.
-fn write_entry<K: Codec, S: Codec>(
-    key: &K,
-    state: &S,
-    out: &mut Vec<u8>,
-) -> Result<(), NoMemory>
+fn write_entry<K: Codec, S: Codec>(key: &K, state: &S, out: &mut Vec<u8>) -> Result<(), NoMemory>
     ensures appended { OnOk result (PairIsSpelled K.HasSpelling S.HasSpelling (key.now, state.now)
         × (out.new.items ≡ out.old.items
         ++ pair_spelling K.spelling S.spelling (key.now, state.now))) }
@@ -120,8 +116,13 @@ fn write_next<K: Codec + Ord, S: Codec>(
 impl<K: Codec + Ord, S: Codec> OperatorState<K, S> {
     /// These states, and no copy. It takes no memory.
     pub fn from_map(alloc: Global, map: Map<K, S>) -> Self
-        ensures { result ≡ record { entries = map; copy = None; unspelled = 0; unmerged = 0;
-            part = [] } }
+        ensures { result ≡ record {
+          entries = map;
+          copy = None;
+          unspelled = 0;
+          unmerged = 0;
+          part = [];
+        } }
     {
         OperatorState {
             alloc,
@@ -161,7 +162,10 @@ impl<K: Codec + Ord, S: Codec> OperatorState<K, S> {
     /// where nothing is left to merge.
     pub fn copy(&mut self) -> Result<(), NoMemory>
         ensures ok { OnOk result (self.new ≡ record self.old {
-            copy = Some self.old.entries; unspelled = length self.old.entries; unmerged = 0 }) }
+          copy = Some self.old.entries;
+          unspelled = length self.old.entries;
+          unmerged = 0;
+        }) }
         // It is never refused where nothing is left to merge.
         ensures merged { self.old.unmerged ≡ 0 → IsOk result }
         ensures entries { self.new.entries ≡ self.old.entries }
@@ -188,8 +192,11 @@ impl<K: Codec + Ord, S: Codec> OperatorState<K, S> {
 
     /// Forgets the copy, if there is one. It takes no memory.
     pub fn forget(&mut self)
-        ensures { self.new ≡ record self.old { copy = None; unspelled = 0;
-            part = [] } }
+        ensures { self.new ≡ record self.old {
+          copy = None;
+          unspelled = 0;
+          part = [];
+        } }
     {
         self.states.thaw();
         self.has_copied = false;
@@ -217,8 +224,10 @@ impl<K: Codec + Ord, S: Codec> OperatorState<K, S> {
     /// spelling counts as want of memory. At an `Err` as many are left as before.
     pub fn spell_some(&mut self, most: usize) -> Result<(), NoMemory>
         ensures ok { OnOk result
-            (self.new ≡ record self.old { unspelled = self.old.unspelled - most;
-            part = self.new.part }) }
+            (self.new ≡ record self.old {
+              unspelled = self.old.unspelled - most;
+              part = self.new.part;
+            }) }
         ensures err { OnErr result (self.new ≡ record self.old { part = self.new.part }) }
     {
         let count = most.min(self.left);

@@ -1,4 +1,4 @@
-use Rattle.std.proofs.Common.{rules, ◌≡◌, ◌+◌, ◌++◌, ℕ, List, [], ◌∷◌, take, drop, length, Some, None, ap, sym, subst, ◌∙◌, arith}
+use Rattle.std.proofs.Common.{◌+◌, take, ap, sym, subst, ◌∙◌}
 use Rattle.std.specs.Option.{option_copied}
 use Rattle.std.specs.List.{All, flat_map}
 use Rattle.std.proofs.lemmas.List.Elements.{All-push}
@@ -11,7 +11,8 @@ use Rattle.operator_state.proofs.operator_state.write_next.Goals.{in-Some+in_ok-
 pub returns-in_err-write_entry-clause-keeps : goal.returns-in_err-write_entry-clause-keeps
 returns-in_err-write_entry-clause-keeps g c =
     let more = c.write_entry.ensures.keeps in
-    since c.args.out.now.items c.loop.out.items c.write_entry.new.out.items _ more.0 c.loop.invariant.text more.1
+    let done = flat_map (pair_spelling g.K.Codec.spelling g.S.Codec.spelling) (take c.loop.counter (entries_above g.K.Ord.cmp (option_copied c.args.last) (frozen_entries c.args.states.now))) in
+    since c.args.out.now.items c.loop.out.items c.write_entry.new.out.items done more.0 c.loop.invariant.text more.1
 
 pub loop-preserved : goal.loop-preserved
 loop-preserved g c =

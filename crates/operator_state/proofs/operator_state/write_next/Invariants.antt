@@ -1,4 +1,4 @@
-use Rattle.std.proofs.Common.{◌≡◌, ◌++◌, ℕ, List, take, drop, length}
+use Rattle.std.proofs.Common.{◌≡◌, ◌++◌, take, drop}
 use Rattle.std.specs.Option.{option_copied}
 use Rattle.std.specs.List.{flat_map, All}
 use Rattle.abs_codec.specs.Spelling.{pair_spelling, PairIsSpelled}

@@ -1,4 +1,4 @@
-use Rattle.std.proofs.Common.{◌≡◌, [], ap, arith}
+use Rattle.std.proofs.Common.{ap, arith}
 use Rattle.operator_state.proofs.Copying.{nothing_held}
 use Rattle.operator_state.proofs.operator_state.OperatorState.forget.Goals as goal
 

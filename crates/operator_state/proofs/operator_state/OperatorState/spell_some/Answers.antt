@@ -1,6 +1,5 @@
-use Rattle.std.proofs.Common.{◌≡◌, ◌<◌, ◌≤◌, ◌-◌, List, take, length, Some, None, cond, ap, sym, subst, ◌∙◌, arith}
+use Rattle.std.proofs.Common.{◌≡◌, ◌<◌, ◌≤◌, ◌-◌, List, take, Some, None, cond, ap, ◌∙◌, arith}
 use Rattle.std.proofs.lemmas.List.{take_all}
-use Rattle.operator_state.specs.Spelled.{IsHeld}
 use Rattle.operator_state.proofs.Copying.{spelled_on, on_frozen, on_thawed}
 use Rattle.operator_state.proofs.operator_state.OperatorState.spell_some.Goals as goal
 
