@@ -58,7 +58,8 @@ impl<K: Codec + Ord, S: Codec> Model for OperatorState<K, S> {
         o.has_copied o.last o.left (take o.end o.bytes.items) };
 }
 
-/// Writes the head of the part where nothing is spelled yet: the tag, and how many entries there are.
+/// Writes the head of the part where nothing is spelled yet: the tag, and how many entries there
+/// are.
 fn begin<K>(last: &Option<K>, left: usize, out: &mut Vec<u8>) -> Result<(), NoMemory>
     ensures begun { OnOk result (Begins last.now left out.old.items out.new.items) }
     ensures keeps { (more : List ℕ) × (out.new.items ≡ out.old.items ++ more) }
@@ -94,7 +95,8 @@ fn write_next<K: Codec + Ord, S: Codec>(
         ++ flat_map (pair_spelling K.spelling S.spelling) (take count
         (entries_above K.Ord.cmp (option_copied last.entry) (frozen_entries states.now)))) }
     ensures spelled { OnOk result (All (PairIsSpelled K.HasSpelling S.HasSpelling)
-        (take count (entries_above K.Ord.cmp (option_copied last.entry) (frozen_entries states.now)))) }
+        (take count (entries_above K.Ord.cmp (option_copied last.entry)
+        (frozen_entries states.now)))) }
     ensures others { IfOk result (λ next. entries_above K.Ord.cmp next (frozen_entries states.now)
         ≡ drop count (entries_above K.Ord.cmp (option_copied last.entry)
         (frozen_entries states.now))) }
@@ -259,8 +261,8 @@ impl<K: Codec + Ord, S: Codec> OperatorState<K, S> {
         Ok(())
     }
 
-    /// Spells these logs behind the copy, each the records of a channel, in place of those that were
-    /// spelled before. What has no spelling counts as want of memory.
+    /// Spells these logs behind the copy, each the records of a channel, in place of those that
+    /// were spelled before. What has no spelling counts as want of memory.
     pub fn spell_logs<R: Codec>(&mut self, logs: &[(u32, &[R])]) -> Result<(), NoMemory>
         requires spelled { self.old.unspelled ≡ 0 }
         ensures ok { OnOk result ((copy : List (K × S)) → self.old.copy ≡ Some copy
