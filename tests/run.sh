@@ -19,7 +19,7 @@ programs=()
 cd "$(dirname "$0")/.."
 
 # The stages of conformance/ whose steps are all served; and those of which some are not, each script of which is run up to the first of these, or whole
-# where it has none. (Of stage12 `persist T K` and `claim T I K` are not; 33 of its scripts have none of them.)
+# where it has none. (Of stage12 `claim T I K` is not; 119 of its scripts have none.)
 served="stage08"
 begun="stage12"
 

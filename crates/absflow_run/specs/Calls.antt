@@ -1,5 +1,5 @@
 -- What a step of a script asks for.
-use Rattle.std.specs.Prelude.{◌≡◌, ◌⊎◌, ℕ, ◌-◌, ◌^◌, List}
+use Rattle.std.specs.Prelude.{◌≡◌, ◌⊎◌, Bool, true, false, ℕ, ◌-◌, ◌^◌, List}
 use Rattle.abs_codec.specs.Spelling.{Fits, IsTextWithin, bytes_spelling}
 use Rattle.absflow_run.specs.declared.answer.Asked.{Asked}
 use Rattle.absflow_run.specs.declared.answer.Asked.TheVariants as asked
@@ -24,7 +24,7 @@ use Rattle.operators.specs.declared.row.Row.{Row}
 use Rattle.operators.specs.declared.row_op.RowOp.{RowOp}
 use Rattle.operators.specs.declared.row_state.RowState.{RowState}
 use Rattle.script_file.specs.declared.step.Step.{Step}
-use Rattle.script_file.specs.declared.step.Step.TheVariants.{Read, Work, Claim, Finish, Barrier, Trigger, Inject, Persist, Complete, Commit, Settle, Drain, Fail, Restart, Append, Fault}
+use Rattle.script_file.specs.declared.step.Step.TheVariants.{Read, Work, Claim, Finish, Barrier, Trigger, Inject, Persist, PersistSome, Complete, Commit, Settle, Drain, Fail, Restart, Append, Fault}
 use Rattle.task_part.specs.Spelling.{part_spelling}
 
 -- The core's call that the step names; `work` names the three that make up a task's work, and a fault none, but the device's call that is to fail.
@@ -37,6 +37,7 @@ asked_by (Barrier task input) = asked.Call (call.Barrier task input)
 asked_by Trigger = asked.Call call.Trigger
 asked_by (Inject task) = asked.Call (call.Inject task)
 asked_by (Persist task) = asked.Call (call.Persist task)
+asked_by (PersistSome task most) = asked.Call (call.PersistSome task most)
 asked_by Complete = asked.Call call.Complete
 asked_by (Commit sink) = asked.Call (call.Commit sink)
 asked_by Settle = asked.Call call.Settle
@@ -45,6 +46,11 @@ asked_by Fail = asked.Call call.Fail
 asked_by Restart = asked.Call call.Restart
 asked_by (Append partition row) = asked.Call (call.Append partition row)
 asked_by (Fault device when) = asked.Fault device when
+
+-- some of the work on a part, so that its end is told
+abbrev pub asks_for_some : Step → Bool
+asks_for_some (PersistSome task most) = true
+asks_for_some other = false
 
 -- what is appended fits
 abbrev pub AskedFits : (Row → Type 0) → Asked → Type 0

@@ -2,7 +2,7 @@
 
 ghost use Rattle.std.specs.Prelude.{◌≡◌};
 ghost use Rattle.abs_codec.specs.Spelling.{Fits};
-ghost use Rattle.absflow_run.specs.Calls.{asked_by, AskedFits, Works, MakesStep};
+ghost use Rattle.absflow_run.specs.Calls.{asked_by, asks_for_some, AskedFits, Works, Does, MakesStep};
 ghost use Rattle.dataflow_core.specs.Runs.{StepFits, EndsStep};
 
 use crate::opening::RowCore;
@@ -19,7 +19,11 @@ use std::fmt;
 
 /// The answer to a step. Its text is what follows the step's number on the answer line.
 #[derive(Clone, Copy, Debug, PartialEq, Eq)]
-pub struct Answer(pub Reply);
+pub struct Answer {
+    pub reply: Reply,
+    /// Whether the step asked for some of the work on a part, so that its end is told.
+    pub asked_for_some: bool,
+}
 
 fn word_of(effect: Effect) -> &'static str {
     match effect {
@@ -40,8 +44,10 @@ fn ending_of(drained: Drained) -> &'static str {
 
 impl fmt::Display for Answer {
     fn fmt<W: fmt::Write>(&self, f: &mut fmt::Formatter<W>) -> fmt::Result {
-        match self.0 {
+        match self.reply {
+            Reply::Accepted if self.asked_for_some => write!(f, "ok done"),
             Reply::Accepted => write!(f, "ok"),
+            Reply::More => write!(f, "ok more"),
             Reply::Number(number) => write!(f, "ok {number}"),
             Reply::Barrier(effect) => {
                 let word = word_of(effect);
@@ -91,6 +97,7 @@ fn asked_by(step: Step) -> Asked
         Step::Trigger => Asked::Call(CoreStep::Trigger),
         Step::Inject(task) => Asked::Call(CoreStep::Inject(task)),
         Step::Persist(task) => Asked::Call(CoreStep::Persist(task)),
+        Step::PersistSome(task, most) => Asked::Call(CoreStep::PersistSome(task, most)),
         Step::Complete => Asked::Call(CoreStep::Complete),
         Step::Commit(sink) => Asked::Call(CoreStep::Commit(sink)),
         Step::Settle => Asked::Call(CoreStep::Settle),
@@ -134,16 +141,37 @@ fn work<O: Operator, S: SnapshotStore, X: Transactions, P: Partitions<Record = O
     }
 }
 
-/// Makes a step: what its name asks for is done.
-pub fn make_step(core: &mut RowCore, desk: &mut Desk<RowOp>, step: Step) -> Answer
-    ensures { MakesStep step core.old desk.old core.new desk.new result.0 }
+/// Whether a step asks for some of the work on a part.
+fn asks_for_some(step: &Step) -> bool
+    ensures { result ≡ asks_for_some step.now }
 {
-    match asked_by(step) {
-        Asked::Call(call) => Answer(reply_to(core, desk, &call)),
-        Asked::Work(task, input) => Answer(work(core, task, input)),
+    matches!(step, Step::PersistSome(_, _))
+}
+
+/// Does what was asked for.
+fn do_asked(core: &mut RowCore, desk: &mut Desk<RowOp>, asked: Asked) -> Reply
+    requires { AskedFits (Fits ⟦<Row as Codec>⟧.HasSpelling ⟦<Row as Codec>⟧.spelling) asked }
+    ensures { Does asked core.old desk.old core.new desk.new result }
+{
+    match asked {
+        Asked::Call(call) => reply_to(core, desk, &call),
+        Asked::Work(task, input) => work(core, task, input),
         Asked::Fault(call, when) => {
             core.arm(device_call(call), when);
-            Answer(Reply::Accepted)
+            Reply::Accepted
         }
+    }
+}
+
+/// Makes a step: what its name asks for is done.
+pub fn make_step(core: &mut RowCore, desk: &mut Desk<RowOp>, step: Step) -> Answer
+    ensures made { MakesStep step core.old desk.old core.new desk.new result.reply }
+    ensures asked { result.asked_for_some ≡ asks_for_some step }
+{
+    let asked_for_some = asks_for_some(&step);
+    let reply = do_asked(core, desk, asked_by(step));
+    Answer {
+        reply,
+        asked_for_some,
     }
 }

@@ -2,7 +2,7 @@
 
 use crate::cores::{expect_answers, opened};
 use crate::devices::Devices;
-use crate::jobs::{COUNT, EARLY, LINE, LONG_LOOP};
+use crate::jobs::{COUNT, EARLY, LINE, LONG_LOOP, ONE_COUNT};
 use snapshot_store::StoreFault;
 use std::alloc::Global;
 use std::process::Abort;
@@ -140,6 +140,43 @@ fn a_part_has_what_came_before_the_barriers(rt: HostRuntime) -> Result<(), Fail>
         1, 0, 0, 0, 1, 0, 0, 0, 1, 0x61, 1, 0, 0, 0, 0, 0, 0, 0, 2, 0, 0, 0, 0,
     ];
     expect_part_after(&rt, rt.alloc(), COUNT, &steps, 2, part)
+}
+
+/// The part has a 1, b 1 and c 1, which were counted before the barrier. While it is spelled, a row
+/// of d and one of a are counted.
+#[test]
+fn a_part_is_spelled_as_it_was_at_the_copy(rt: HostRuntime) -> Result<(), Fail> {
+    let steps = [
+        ("append 0 1 a", "ok"),
+        ("append 0 1 b", "ok"),
+        ("append 0 1 c", "ok"),
+        ("restart", "ok 0"),
+        ("read 0", "ok"),
+        ("read 0", "ok"),
+        ("read 0", "ok"),
+        ("work 1 0", "ok"),
+        ("work 1 0", "ok"),
+        ("work 1 0", "ok"),
+        ("trigger", "ok 1"),
+        ("inject 0", "ok"),
+        ("barrier 1 0", "ok copy-done"),
+        ("persist 1 2", "ok more"),
+        ("append 0 1 d", "ok"),
+        ("append 0 9 a", "ok"),
+        ("read 0", "ok"),
+        ("read 0", "ok"),
+        ("work 1 0", "ok"),
+        ("work 1 0", "ok"),
+        ("persist 1 2", "ok more"),
+        ("persist 1 2", "ok more"),
+        ("persist 1 2", "ok done"),
+        ("settle", "ok"),
+    ];
+    let part: &[u8] = &[
+        1, 0, 0, 0, 3, 0, 0, 0, 1, 0x61, 1, 0, 0, 0, 0, 0, 0, 0, 1, 0, 0, 0, 1, 0x62, 1, 0, 0, 0,
+        0, 0, 0, 0, 1, 0, 0, 0, 1, 0x63, 1, 0, 0, 0, 0, 0, 0, 0, 1, 0, 0, 0, 0,
+    ];
+    expect_part_after(&rt, rt.alloc(), ONE_COUNT, &steps, 1, part)
 }
 
 /// The row that went round between the copy and the barrier stands in the log of channel 2.

@@ -26,6 +26,8 @@ pub(crate) struct Round {
     stage: Stage,
     to_inject: VecDeque<u32>,
     to_persist: VecDeque<u32>,
+    /// Whether work on the first copy has gone on, and a record has had no turn since.
+    gives_way: bool,
     /// How many parts are in the store.
     persisted: u32,
     /// The next sink to commit.
@@ -46,6 +48,7 @@ impl Round {
             stage: Stage::None,
             to_inject,
             to_persist,
+            gives_way: false,
             persisted: 0,
             sink: 0,
             tasks,
@@ -58,6 +61,7 @@ impl Round {
         self.stage = Stage::None;
         self.to_inject.clear();
         self.to_persist.clear();
+        self.gives_way = false;
     }
 
     /// A checkpoint begins.
@@ -65,6 +69,7 @@ impl Round {
         self.stage = Stage::Pending;
         self.to_inject.clear();
         self.to_persist.clear();
+        self.gives_way = false;
         self.persisted = 0;
         for &task in sources {
             let _ = self.to_inject.push_back(task);
@@ -111,8 +116,21 @@ impl Round {
         let _ = self.to_inject.pop_front();
     }
 
+    /// Work on the first copy has gone on, and more is left of it.
+    pub(crate) fn has_more(&mut self) {
+        self.gives_way = true;
+    }
+
+    /// Whether a record has its turn before what is needed next, which it is asked once.
+    pub(crate) fn gives_way(&mut self) -> bool {
+        let gives_way = self.gives_way;
+        self.gives_way = false;
+        gives_way
+    }
+
     /// The first copy is in the store, now or before.
     pub(crate) fn persisted(&mut self, is_new: bool) {
+        self.gives_way = false;
         let _ = self.to_persist.pop_front();
         if is_new {
             self.persisted = self.persisted.saturating_add(1);

@@ -20,7 +20,7 @@ pub enum Step {
     Trigger,
     /// A source task sends the barrier.
     Inject(u32),
-    /// A task's part is put in the store.
+    /// Some work on a task's part, or the part is put in the store.
     Persist(u32),
     /// The checkpoint becomes complete.
     Complete,
@@ -134,29 +134,48 @@ impl Schedule {
             return Step::Over;
         }
         match self.round.next() {
-            Some(need) => step_for(need),
+            Some(need) => self.next_need(need),
             None if self.is_due() => Step::Trigger,
             None => self.next_record(),
         }
+    }
+
+    /// The step for what the checkpoint needs. Where a part takes many, a record's step comes
+    /// between two of them, if one is to be had.
+    fn next_need(&mut self, need: Need) -> Step {
+        if self.round.gives_way() {
+            if let Some(step) = self.record_step() {
+                return step;
+            }
+        }
+        step_for(need)
     }
 
     fn is_due(&self) -> bool {
         self.every > 0 && self.finishes >= self.every && self.round.is_none()
     }
 
-    /// A step that takes a record or a barrier, and what is to be done where there is none.
-    fn next_record(&mut self) -> Step {
+    /// A step that takes a record or a barrier, or finds out where one is.
+    fn record_step(&mut self) -> Option<Step> {
         if let Some(place) = self.next_input() {
-            return Step::Work(place);
+            return Some(Step::Work(place));
         }
         if self.claims > 0 && self.ahead >= MOST_AHEAD {
-            return Step::Idle;
+            return None;
         }
         if let Some(task) = self.sources.front() {
-            return Step::Read(*task);
+            return Some(Step::Read(*task));
         }
         if self.mark_sender() {
-            return Step::Look;
+            return Some(Step::Look);
+        }
+        None
+    }
+
+    /// A step that takes a record or a barrier, and what is to be done where there is none.
+    fn next_record(&mut self) -> Step {
+        if let Some(step) = self.record_step() {
+            return step;
         }
         if self.claims > 0 {
             return Step::Idle;
@@ -379,6 +398,13 @@ impl Schedule {
         }
     }
 
+    /// Work on the next part has gone on, and more is left of it.
+    pub(crate) fn has_more(&mut self) {
+        self.is_searched = false;
+        self.round.has_more();
+    }
+
+    /// The next part is in the store: now, or it was before.
     pub(crate) fn persisted(&mut self, is_new: bool) {
         self.is_searched = false;
         self.round.persisted(is_new);

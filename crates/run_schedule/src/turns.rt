@@ -4,7 +4,7 @@ use crate::fault::RunFault;
 use crate::inputs::Place;
 use crate::schedule::{Schedule, Step};
 use alignment::Effect;
-use core_model::CoreFault;
+use core_model::{CoreFault, Persisted};
 
 /// The turns of the present run.
 #[derive(Drop)]
@@ -100,7 +100,7 @@ impl Turns {
         self.schedule.is_pending()
     }
 
-    /// What came of a step that is no task's work.
+    /// What came of a step that is no task's work, and no call for its part.
     pub fn made(&mut self, step: Step, outcome: Result<(), CoreFault>) {
         match outcome {
             Ok(()) => self.accepted(step),
@@ -153,16 +153,24 @@ impl Turns {
         }
     }
 
+    /// What came of a call for a task's part.
+    pub fn persisted(&mut self, task: u32, outcome: Result<Persisted, CoreFault>) {
+        match outcome {
+            Ok(Persisted::More) => self.schedule.has_more(),
+            Ok(Persisted::Done) => self.schedule.persisted(true),
+            Err(fault) => self.refused(Step::Persist(task), fault),
+        }
+    }
+
     fn accepted(&mut self, step: Step) {
         match step {
             Step::Restart => self.schedule.restarted(),
             Step::Trigger => self.schedule.triggered(true),
             Step::Inject(task) => self.schedule.injected(task, true),
-            Step::Persist(_) => self.schedule.persisted(true),
             Step::Complete => self.schedule.completed(),
             Step::Commit(_) => self.schedule.committed(),
             Step::Read(_) => self.schedule.read(),
-            Step::Work(_) | Step::Over | Step::Idle | Step::Look => {}
+            Step::Persist(_) | Step::Work(_) | Step::Over | Step::Idle | Step::Look => {}
         }
     }
 

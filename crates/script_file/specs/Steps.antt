@@ -1,10 +1,10 @@
 -- The steps of a script.
-use Rattle.std.specs.Prelude.{ℕ, ℤ, List, [], unwrap_or, Result, Ok, Err, if◌then◌else◌, codes}
+use Rattle.std.specs.Prelude.{ℕ, ℤ, List, [], ◌&&◌, nat_lt, Option, Some, None, unwrap_or, Result, Ok, Err, if◌then◌else◌, codes}
 use Rattle.std.specs.Str.{bytes_eq}
 use Rattle.serde_json.specs.Data.{Data}
 use Rattle.serde_json.specs.Find.{as_str}
 use Rattle.script_file.specs.declared.step.Step.{Step}
-use Rattle.script_file.specs.declared.step.Step.TheVariants.{Read, Work, Claim, Finish, Barrier, Trigger, Inject, Persist, Complete, Commit, Settle, Drain, Fail, Restart, Append, Fault}
+use Rattle.script_file.specs.declared.step.Step.TheVariants.{Read, Work, Claim, Finish, Barrier, Trigger, Inject, Persist, PersistSome, Complete, Commit, Settle, Drain, Fail, Restart, Append, Fault}
 use Rattle.script_file.specs.declared.fault.ItemFault.{ItemFault}
 use Rattle.script_file.specs.declared.fault.ItemFault.TheVariants as one
 use Rattle.script_file.specs.declared.fault.ScriptFault.{ScriptFault}
@@ -39,6 +39,22 @@ of_two step text = do
   numbers ← two_numbers text
   Ok (step numbers.0 numbers.1)
 
+-- a number from 1 to 1,000,000
+abbrev pub count_of_text : List ℕ → Result ℕ ItemFault
+count_of_text text = number_of_text text >>= λ n. if nat_lt 0 n && nat_lt n 1000001 then Ok n else Err one.Bad
+
+-- a task's number, which may be followed by how many entries are worked at most
+abbrev pub persisted_by : Option ℕ → List ℕ → Result Step ItemFault
+persisted_by (Some task) text = Ok (Persist task)
+persisted_by None text = do
+  parts ← bad (cut text)
+  task ← number_of_text parts.0
+  count ← count_of_text parts.1
+  Ok (PersistSome task count)
+
+unfoldable pub persisted : List ℕ → Result Step ItemFault
+persisted text = persisted_by (number_of text) text
+
 -- a partition, a value, and a key that is all the rest
 unfoldable pub appended : List ℕ → Result (ℕ × Row) ItemFault
 appended text = do
@@ -58,7 +74,7 @@ step_with word rest =
     else (if bytes_eq word (codes "finish") then one_number Finish rest
     else (if bytes_eq word (codes "barrier") then of_two Barrier rest
     else (if bytes_eq word (codes "inject") then one_number Inject rest
-    else (if bytes_eq word (codes "persist") then one_number Persist rest
+    else (if bytes_eq word (codes "persist") then persisted rest
     else (if bytes_eq word (codes "commit") then one_number Commit rest
     else (if bytes_eq word (codes "drain") then one_number Drain rest
     else (if bytes_eq word (codes "append") then (appended rest >>= λ a. Ok (Append a.0 a.1))

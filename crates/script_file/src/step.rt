@@ -3,7 +3,7 @@
 ghost use Rattle.std.specs.Prelude.{◌≡◌, []};
 ghost use Rattle.script_file.specs.Faults.{FindsItem, Gives};
 ghost use Rattle.script_file.specs.Cuts.{bad, cut};
-ghost use Rattle.script_file.specs.Steps.{number_of_text, signed_of_text, one_number, two_numbers, appended, step_with, step_of, step_at};
+ghost use Rattle.script_file.specs.Steps.{number_of_text, signed_of_text, count_of_text, one_number, two_numbers, persisted, appended, step_with, step_of, step_at};
 ghost use Rattle.script_file.specs.Lists.{each_after};
 ghost use Rattle.serde_json.specs.View.{view, items_view};
 
@@ -35,6 +35,8 @@ pub enum Step {
     Inject(u32),
     /// `persist T`: the task's part goes to the store.
     Persist(u32),
+    /// `persist T K`: the next part of that work, of K entries of the state at most.
+    PersistSome(u32, u32),
     /// `complete`: the pending checkpoint is complete.
     Complete,
     /// `commit S`: the sink's transactions up to the last complete checkpoint are committed.
@@ -79,6 +81,29 @@ fn two_numbers(text: &str) -> Result<(u32, u32), ItemFault>
     Ok((number_of(first)?, number_of(second)?))
 }
 
+/// A number from 1 to 1,000,000.
+fn count_of(text: &str) -> Result<u32, ItemFault>
+    ensures { FindsItem (λ n. n) result (count_of_text text.now) }
+{
+    let count = number_of(text)?;
+    if count == 0 || count > 1_000_000 {
+        return Err(ItemFault::Bad);
+    }
+    Ok(count)
+}
+
+/// A task's number, which may be followed by how many entries are worked at most.
+#[tactic(auto, unfolding(crate::specs::Steps::persisted))]
+fn persisted(text: &str) -> Result<Step, ItemFault>
+    ensures { FindsItem (λ s. s) result (persisted text.now) }
+{
+    if let Some(task) = number(text) {
+        return Ok(Step::Persist(task));
+    }
+    let (task, count) = cut(text)?;
+    Ok(Step::PersistSome(number_of(task)?, count_of(count)?))
+}
+
 #[tactic(auto, unfolding(crate::specs::Steps::appended))]
 fn appended(alloc: Global, text: &str) -> Result<(u32, FittingRow), ItemFault>
     ensures { FindsItem (λ p. p) result (appended text.now) }
@@ -110,7 +135,7 @@ fn step_with(alloc: Global, word: &str, rest: &str) -> Result<Step, ItemFault>
             Ok(Step::Barrier(task, input))
         }
         "inject" => Ok(Step::Inject(number_of(rest)?)),
-        "persist" => Ok(Step::Persist(number_of(rest)?)),
+        "persist" => persisted(rest),
         "commit" => Ok(Step::Commit(number_of(rest)?)),
         "drain" => Ok(Step::Drain(number_of(rest)?)),
         "append" => {

@@ -10,7 +10,7 @@ ghost use Rattle.core_model.specs.LastCommitted.{committed_of, complete_numbers}
 ghost use Rattle.core_model.specs.Sound.{IsSound};
 ghost use Rattle.core_model.specs.declared.fault.CoreFault.TheVariants as CoreFault;
 ghost use Rattle.core_plain.specs.Plain.{StepsIfOk};
-ghost use Rattle.dataflow_core.specs.Calls.{Fails, Restarts, Reads, Injects, Triggers, Persists, Completes, Commits, Appends};
+ghost use Rattle.dataflow_core.specs.Calls.{Fails, Restarts, Reads, Injects, Triggers, Persists, PersistsSome, Completes, Commits, Appends};
 ghost use Rattle.dataflow_core.specs.Claims.{Refuses, Claims, TakesBarrierUnclaimed};
 ghost use Rattle.dataflow_core.specs.CoreState.{claims_after};
 ghost use Rattle.dataflow_core.specs.Steps.{IsRestart};
@@ -21,7 +21,7 @@ ghost use Rattle.thread_runner.specs.Standing.{LeavesClaims, MakesStep, StaysPut
 use crate::station::Station;
 use alignment::Effect;
 use commit_sink::Transactions;
-use dataflow_core::{CoreFault, Job, Rules};
+use dataflow_core::{CoreFault, Job, Persisted, Rules};
 use operators::Operator;
 use snapshot_store::SnapshotStore;
 use source_log::{Partitions, SourceFault};
@@ -142,6 +142,20 @@ impl<
         ensures claims { LeavesClaims self.old self.new }
     {
         self.core.persist(task)
+    }
+
+    /// At most `most` entries of the work on a task's part are done, which nothing shows (`More`);
+    /// or none are left, and the part is put in the store and acknowledged (`Done`). It is refused
+    /// as `persist`, but for an open log only where no entry is left.
+    pub fn persist_some(&mut self, task: u32, most: u32) -> Result<Persisted, CoreFault>
+        ensures ends { PersistsSome self.old.core.engine self.new.core.engine
+            ⟦<O as Rules>⟧.spelling task result }
+        ensures step { MakesStep self.old self.new ⟦<O as Rules>⟧.lang ⟦<O as Rules>⟧.RecordFits }
+        ensures stays { StaysPut self.old self.new ⟦<O as Rules>⟧.lang }
+        ensures counted { CountsFaults self.old self.new result }
+        ensures claims { LeavesClaims self.old self.new }
+    {
+        self.core.persist_some(task, most)
     }
 
     /// The pending checkpoint, of which the store has every task's part, becomes complete.

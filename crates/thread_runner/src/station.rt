@@ -22,6 +22,9 @@ use std::marker::Model;
 use std::sync::Wait;
 use std::sync::ledger::{Blank, Book, Ledger, Share};
 
+/// So many entries of the work on a task's part are done in one turn.
+const ENTRIES_A_TURN: u32 = 64;
+
 /// What a worker does next.
 #[derive(Drop)]
 pub(crate) enum Next<O: Operator> {
@@ -381,6 +384,7 @@ fn take_turn<O: Operator, S: SnapshotStore, X: Transactions, P: Partitions<Recor
         Step::Idle => Next::Idle,
         Step::Look => Next::Again,
         Step::Work(place) => claim(core, turns, place),
+        Step::Persist(task) => persist(core, turns, task),
         step => {
             turns.made(step, make(core, step));
             if ends_commits(core, step) {
@@ -429,7 +433,22 @@ fn claim<O: Operator, S: SnapshotStore, X: Transactions, P: Partitions<Record = 
     }
 }
 
-/// Makes a step that is no task's work.
+/// Goes on with the work on a task's part, or puts it in the store.
+fn persist<O: Operator, S: SnapshotStore, X: Transactions, P: Partitions<Record = O::Record>>(
+    core: &mut Core<O, S, X, P>,
+    turns: &mut Turns,
+    task: u32,
+) -> Next<O>
+    ensures once { ClaimsOnce core.old core.new }
+    ensures step { Preserves ⟦<O as Rules>⟧.lang ⟦<O as Rules>⟧.RecordFits core.old.engine
+        core.new.engine }
+{
+    let outcome = core.persist_some(task, ENTRIES_A_TURN);
+    turns.persisted(task, outcome);
+    Next::Again
+}
+
+/// Makes a step that is no task's work, and no call for its part.
 fn make<O: Operator, S: SnapshotStore, X: Transactions, P: Partitions<Record = O::Record>>(
     core: &mut Core<O, S, X, P>,
     step: Step,
@@ -442,11 +461,10 @@ fn make<O: Operator, S: SnapshotStore, X: Transactions, P: Partitions<Record = O
         Step::Restart => restart(core),
         Step::Trigger => core.trigger().map(|_| ()),
         Step::Inject(task) => core.inject(task),
-        Step::Persist(task) => core.persist(task),
         Step::Complete => core.complete().map(|_| ()),
         Step::Commit(sink) => core.commit(sink),
         Step::Read(task) => core.read(task),
-        Step::Work(_) | Step::Over | Step::Idle | Step::Look => Ok(()),
+        Step::Persist(_) | Step::Work(_) | Step::Over | Step::Idle | Step::Look => Ok(()),
     }
 }
 

@@ -1,0 +1,9 @@
+use Rattle.dataflow_core.proofs.Preserving.{of_step}
+use Rattle.thread_runner.proofs.Shown.{call_kept}
+use Rattle.thread_runner.proofs.station.Station.persist_some.Goals as goal
+
+pub returns-clause-ends : goal.returns-clause-ends
+returns-clause-ends g c = rw (← c.self.view_is) c.persist_some.ensures.ends
+
+pub invariant_of-self : goal.invariant_of-self
+invariant_of-self g c = call_kept _ _ _ _ _ _ c.persist_some.ensures.claims (of_step _ _ _ _ c.persist_some.ensures.step) c.self.invariant
