@@ -410,17 +410,12 @@ impl<O: Operator, S: SnapshotStore, X: Transactions, P: Partitions<Record = O::R
     /// or none are left, and the part is put in the store and acknowledged (`Done`). It is refused
     /// as `persist`, but for an open log only where no entry is left.
     pub fn persist_some(&mut self, task: u32, most: u32) -> Result<Persisted, CoreFault>
-        ensures ends { OnStore self.old self.new
-            (λ h k. EndsPersistSome self.old.graph task h k self.old.stored self.new.stored
-            (part_spelling O.Record.spelling O.Key.spelling O.State.spelling)) result }
-        ensures goes { Goes (language O.meaning O.Key.cmp O.Record.spelling O.Record.reading
-            O.Key.reading O.State.reading) self.old self.new }
-        ensures sound { IsSound (language O.meaning O.Key.cmp O.Record.spelling O.Record.reading
-            O.Key.reading O.State.reading) (Fits O.Record.HasSpelling O.Record.spelling) self.old
-            → IsSound (language O.meaning O.Key.cmp O.Record.spelling O.Record.reading O.Key.reading
-            O.State.reading) (Fits O.Record.HasSpelling O.Record.spelling) self.new }
-        ensures stays { Stays (language O.meaning O.Key.cmp O.Record.spelling O.Record.reading
-            O.Key.reading O.State.reading) self.old self.new }
+        ensures ends { OnStore self.old self.new (λ h k. EndsPersistSome self.old.graph task h k
+            self.old.stored self.new.stored ⟦<O as Rules>⟧.spelling) result }
+        ensures goes { Goes ⟦<O as Rules>⟧.lang self.old self.new }
+        ensures sound { IsSound ⟦<O as Rules>⟧.lang ⟦<O as Rules>⟧.RecordFits self.old
+            → IsSound ⟦<O as Rules>⟧.lang ⟦<O as Rules>⟧.RecordFits self.new }
+        ensures stays { Stays ⟦<O as Rules>⟧.lang self.old self.new }
         ensures counted { IsCounted self.old.faults self.new.faults result }
         ensures same { IsSameJob self.old self.new }
         ensures ledger { self.new.ledger ≡ self.old.ledger }
@@ -428,7 +423,14 @@ impl<O: Operator, S: SnapshotStore, X: Transactions, P: Partitions<Record = O::R
         let Some(attempt) = &mut self.attempt else {
             return Err(CoreFault::NotRunning);
         };
-        let outcome = persist_some(self.alloc, attempt, &self.graph, &mut self.store, task, most);
+        let outcome = persist_some(
+            self.alloc,
+            attempt,
+            &self.graph,
+            &mut self.store,
+            task,
+            most,
+        );
         leave(&mut self.attempt, outcome)
     }
 
