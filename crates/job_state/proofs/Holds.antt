@@ -1,5 +1,5 @@
 -- What an attempt holds after its calls.
-use Rattle.std.proofs.Common.{◌≡◌, ◌<◌, ◌+◌, ◌++◌, ℕ, Bool, true, List, [], ◌∷◌, length, map, slice_get, slice_set, unwrap_or, Option, Some, Result, Ok, Err, OnErr, subst, sym, ap, ◌∙◌, arith, Ordering}
+use Rattle.std.proofs.Common.{◌≡◌, ◌<◌, ◌+◌, ◌++◌, ℕ, Bool, true, List, [], ◌∷◌, length, map, slice_get, slice_set, unwrap_or, Option, Some, Result, Ok, Err, OnOk, OnErr, subst, sym, ap, ◌∙◌, arith, Ordering}
 use Rattle.std.proofs.lemmas.List.{length-set}
 use Rattle.alignment.specs.Table.{is_logged}
 use Rattle.backedge_log.specs.Recorded.{without_last}
@@ -18,6 +18,14 @@ use Rattle.job_state.proofs.Logging.{logged_dropped}
 pub on_err : {T E : Type 0} (r : Result T E) (P : Type 0) → P → OnErr r P
 on_err (Ok x) P p = tt
 on_err (Err e) P p = p
+
+pub on_ok : {T E : Type 0} (r : Result T E) {P Q : Type 0} → (P → Q) → OnOk r P → OnOk r Q
+on_ok (Ok x) f p = f p
+on_ok (Err e) f p = tt
+
+pub on_refused : {T E : Type 0} (r : Result T E) {P Q : Type 0} → (P → Q) → OnErr r P → OnErr r Q
+on_refused (Ok x) f p = tt
+on_refused (Err e) f p = f p
 
 module _ {R : Type 0} where
   pub puts_at : {before was after new : List (List (Item R))} (puts items : ℕ → List (Item R)) → before ≡ was → after ≡ new → ((k : ℕ) → puts k ≡ items k) → Puts puts before after → Puts items was new
