@@ -1,25 +1,22 @@
 //! A checkpoint begins, its parts are put, it is complete, and its transactions are committed.
 
-ghost use Rattle.std.specs.Prelude.{◌≡◌, ◌≢◌, ◌<◌, ◌≤◌, ℕ, List, Ok, Err, Some, None, length, slice_get, false, OnOk, IfOk, IfErr};
+ghost use Rattle.std.specs.Prelude.{◌≡◌, ◌≢◌, ◌<◌, ℕ, Ok, Err, Some, None, length, false};
 ghost use Rattle.coordinator.specs.Coordinator.{IsReady, has_acked, ack_refusal};
 ghost use Rattle.coordinator.specs.Coordinator as coordination;
 ghost use Rattle.snapshot_store.specs.Store.{put_refusal, complete_refusal};
 ghost use Rattle.abs_codec.specs.Reading.{whole_of};
 ghost use Rattle.job_state.specs.Held.{copy_at, logs_of, with_logs};
 ghost use Rattle.task_part.specs.declared.part.Part.{Part};
-ghost use Rattle.task_part.specs.Spelling.{logs_now, part_spelling, part_at};
+ghost use Rattle.task_part.specs.Spelling.{part_spelling, part_at};
 ghost use Rattle.core_model.specs.declared.fault.CoreFault.TheVariants as CoreFault;
 ghost use Rattle.core_model.specs.Calls.{EndsTrigger, EndsPersist, EndsComplete, WhereReached};
 
-use abs_codec::NoMemory;
 use commit_sink::Transactions;
 use core_model::CoreFault;
 use job_graph::Graph;
-use job_state::{Attempt, Holding};
+use job_state::Attempt;
 use operators::Operator;
 use snapshot_store::{SnapshotStore, StoreFault};
-use std::alloc::Global;
-use task_part::{Part, write_with_logs};
 
 /// A checkpoint begins under a number of its own. The parts below the last complete number are
 /// discarded first.
@@ -52,53 +49,9 @@ pub fn trigger<O: Operator, S: SnapshotStore>(
     }
 }
 
-/// The logs of a task, each with its channel.
-fn logs_of<'a, O: Operator>(
-    alloc: Global,
-    attempt: &'a Attempt<O>,
-    graph: &Graph,
-    task: u32,
-) -> Result<Vec<(u32, &'a [O::Record])>, NoMemory>
-    ensures { IfOk result (λ logs. logs_now logs.items ≡ logs_of graph.now attempt.now task) }
-{
-    let mut logs = Vec::new(alloc);
-    for &number in graph.inputs(task) {
-        if graph.is_marked(number) {
-            logs.push((number, attempt.logged(number)))?;
-        }
-    }
-    Ok(logs)
-}
-
-/// The spelling of the part that a task's copy is with the task's logs, from which the part is read
-/// again.
-fn spelled<O: Operator>(
-    alloc: Global,
-    attempt: &Attempt<O>,
-    graph: &Graph,
-    task: u32,
-    copy: &Part<O::Record, O::Key, O::State>,
-) -> Result<Vec<u8>, CoreFault>
-    ensures ok { IfOk result (λ bytes. bytes.items
-        ≡ part_spelling O.Record.spelling O.Key.spelling O.State.spelling
-        (with_logs (logs_of graph.now attempt.now task) copy.now)) }
-    ensures readable { OnOk result (whole_of (part_at O.Record.reading O.Key.cmp O.Key.reading
-        O.State.reading) (part_spelling O.Record.spelling O.Key.spelling O.State.spelling
-        (with_logs (logs_of graph.now attempt.now task) copy.now))
-        ≡ Ok (with_logs (logs_of graph.now attempt.now task) copy.now)) }
-    ensures err { IfErr result (λ fault. fault ≡ CoreFault.Memory) }
-{
-    let logs = logs_of(alloc, attempt, graph, task)?;
-    let mut bytes = Vec::new(alloc);
-    match write_with_logs(copy, &logs, &mut bytes) {
-        Ok(()) => Ok(bytes),
-        Err(_) => Err(CoreFault::Memory),
-    }
-}
-
-/// Puts the part of a task that has copied, and whose logs are closed.
+/// Puts the part of a task that has copied, and whose logs are closed. What is left of the copy is
+/// spelled first, and what was written since is merged.
 pub fn persist<O: Operator, S: SnapshotStore>(
-    alloc: Global,
     attempt: &mut Attempt<O>,
     graph: &Graph,
     store: &mut S,
@@ -128,14 +81,15 @@ pub fn persist<O: Operator, S: SnapshotStore>(
     let Some(checkpoint) = attempt.pending() else {
         return Err(CoreFault::NoCheckpoint);
     };
-    let Some(part) = attempt.copy(task) else {
+    if !attempt.has_copied(task) {
         return Err(CoreFault::NotReady);
-    };
+    }
     if !attempt.is_closed(task) || attempt.has_acked(task) {
         return Err(CoreFault::NotReady);
     }
-    let bytes = spelled(alloc, attempt, graph, task, part)?;
-    match store.put(checkpoint, task, &bytes) {
+    attempt.spell_all(task)?;
+    let bytes = attempt.part(graph, task)?;
+    match store.put(checkpoint, task, bytes) {
         Ok(()) => {
             attempt.acknowledge(checkpoint, task);
             Ok(())
