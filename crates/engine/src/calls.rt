@@ -402,7 +402,7 @@ impl<O: Operator, S: SnapshotStore, X: Transactions, P: Partitions<Record = O::R
         let Some(attempt) = &mut self.attempt else {
             return Err(CoreFault::NotRunning);
         };
-        let outcome = persist(self.alloc, attempt, &self.graph, &mut self.store, task);
+        let outcome = persist(attempt, &self.graph, &mut self.store, task);
         leave(&mut self.attempt, outcome)
     }
 

@@ -1,0 +1,19 @@
+use Rattle.std.proofs.Common.{◌≡◌, ap, ◌∙◌, subst}
+use Rattle.job_state.specs.Held.{copy_at, logs_of, with_logs}
+use Rattle.task_part.specs.Laws.{part_code}
+use Rattle.task_part.specs.Spelling.{part_spelling, part_at, PartIsSpelled}
+use Rattle.engine_checkpoints.proofs.Readable.{whole_again}
+use Rattle.engine_checkpoints.proofs.checkpoints.persist.Goals as goal
+
+-- what the codecs' laws say
+pub returns-in-Ok-clause-readable : goal.returns-in-Ok-clause-readable
+returns-in-Ok-clause-readable g c = λ p at.
+    let r = g.O.Record.Codec in
+    let k = g.O.Key.Codec in
+    let s = g.O.State.Codec in
+    let cmp = g.O.Key.Ord.cmp in
+    let same : c.spell_all.new.attempt ≡ c.args.attempt.now = c.spell_all.ensures in
+    let spelled = c.in_ok-bytes.ensures.spelled p (ap (λ h. copy_at h c.args.task) same ∙ at) in
+    whole_again (PartIsSpelled r.HasSpelling cmp k.HasSpelling s.HasSpelling) (part_spelling r.spelling k.spelling s.spelling) (part_at r.reading cmp k.reading s.reading)
+    (part_code r.HasSpelling r.spelling r.reading g.met.O.Record.Codec.code cmp g.met.O.Key.Ord.total k.HasSpelling k.spelling k.reading g.met.O.Key.Codec.code s.HasSpelling s.spelling s.reading g.met.O.State.Codec.code)
+    (with_logs (logs_of c.args.graph.now c.args.attempt.now c.args.task) p) (subst (λ h. PartIsSpelled r.HasSpelling cmp k.HasSpelling s.HasSpelling (with_logs (logs_of c.args.graph.now h c.args.task) p)) same spelled.0)
