@@ -8,7 +8,6 @@ use crate::calls::Engine;
 use channels::Item;
 use commit_sink::Transactions;
 use job_graph::{Graph, Role};
-use job_state::Holding;
 use operators::Operator;
 use snapshot_store::SnapshotStore;
 use source_log::Partitions;
@@ -57,11 +56,11 @@ impl<O: Operator, S: SnapshotStore, X: Transactions, P: Partitions<Record = O::R
         let Some(Role::Source(partition)) = self.graph.role(task) else {
             return false;
         };
-        let Some(Holding::Source(offset)) = attempt.holding(task) else {
+        let Some(offset) = attempt.offset(task) else {
             return false;
         };
         match self.log.len(partition) {
-            Ok(len) => *offset < len,
+            Ok(len) => offset < len,
             Err(_) => false,
         }
     }

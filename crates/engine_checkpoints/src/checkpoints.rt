@@ -8,19 +8,16 @@ ghost use Rattle.snapshot_store.specs.Store.{put_refusal, complete_refusal};
 ghost use Rattle.abs_codec.specs.Reading.{whole_of};
 ghost use Rattle.job_state.specs.Held.{copy_at, gate_at, logs_of, with_logs};
 ghost use Rattle.task_part.specs.declared.part.Part.{Part};
-ghost use Rattle.task_part.specs.Spelling.{logs_now, part_spelling, part_at};
+ghost use Rattle.task_part.specs.Spelling.{part_spelling, part_at};
 ghost use Rattle.core_model.specs.declared.fault.CoreFault.TheVariants as CoreFault;
 ghost use Rattle.core_model.specs.Calls.{IsTask, EndsTrigger, EndsPersist, EndsPersistSome, EndsComplete, WhereReached, WherePut};
 
-use abs_codec::NoMemory;
 use commit_sink::Transactions;
 use core_model::{CoreFault, Persisted};
 use job_graph::Graph;
-use job_state::{Attempt, Holding};
+use job_state::Attempt;
 use operators::Operator;
 use snapshot_store::{SnapshotStore, StoreFault};
-use std::alloc::Global;
-use task_part::{Part, write_with_logs};
 
 /// A checkpoint begins under a number of its own. The parts below the last complete number are
 /// discarded first.
@@ -53,53 +50,48 @@ pub fn trigger<O: Operator, S: SnapshotStore>(
     }
 }
 
-/// The logs of a task, each with its channel.
-fn logs_of<'a, O: Operator>(
-    alloc: Global,
-    attempt: &'a Attempt<O>,
+/// Puts the part of a task that has copied, and whose logs are closed, and acknowledges it.
+fn put_part<O: Operator, S: SnapshotStore>(
+    attempt: &mut Attempt<O>,
     graph: &Graph,
+    store: &mut S,
+    checkpoint: u64,
     task: u32,
-) -> Result<Vec<(u32, &'a [O::Record])>, NoMemory>
-    ensures { IfOk result (λ logs. logs_now logs.items ≡ logs_of graph.now attempt.now task) }
+) -> Result<(), CoreFault>
+    requires acked { length attempt.old.coordination.acked ≡ length graph.now.tasks }
+    requires may { put_refusal (S.state store.old) checkpoint task ≡ None }
+    requires is_task { IsTask graph.now task }
+    requires pending { attempt.old.coordination.pending ≡ Some checkpoint }
+    requires copied { IsSome (copy_at attempt.old task) }
+    requires closed { (gate_at attempt.old task).phase ≡ AtRest }
+    requires unacknowledged { has_acked attempt.old.coordination task ≡ false }
+    ensures ends { EndsPersist graph.now task attempt.old attempt.new (S.state store.old)
+        (S.state store.new) (part_spelling O.Record.spelling O.Key.spelling O.State.spelling)
+        result }
+    ensures counted { result ≡ Err CoreFault.Device
+        → S.fault_count store.old < S.fault_count store.new }
+    ensures told { result ≢ Err CoreFault.Device
+        → S.fault_count store.new ≡ S.fault_count store.old }
+    ensures readable { WhereReached result ((p : Part O.Record O.Key O.State)
+        → copy_at attempt.old task ≡ Some p → whole_of
+        (part_at O.Record.reading O.Key.cmp O.Key.reading O.State.reading)
+        (part_spelling O.Record.spelling O.Key.spelling O.State.spelling
+        (with_logs (logs_of graph.now attempt.old task) p))
+        ≡ Ok (with_logs (logs_of graph.now attempt.old task) p)) }
 {
-    let mut logs = Vec::new(alloc);
-    for &number in graph.inputs(task) {
-        if graph.is_marked(number) {
-            logs.push((number, attempt.logged(number)))?;
+    let bytes = attempt.part(graph, task)?;
+    match store.put(checkpoint, task, bytes) {
+        Ok(()) => {
+            attempt.acknowledge(checkpoint, task);
+            Ok(())
         }
-    }
-    Ok(logs)
-}
-
-/// The spelling of the part that a task's copy is with the task's logs, from which the part is read
-/// again.
-fn spelled<O: Operator>(
-    alloc: Global,
-    attempt: &Attempt<O>,
-    graph: &Graph,
-    task: u32,
-    copy: &Part<O::Record, O::Key, O::State>,
-) -> Result<Vec<u8>, CoreFault>
-    ensures ok { IfOk result (λ bytes. bytes.items
-        ≡ part_spelling O.Record.spelling O.Key.spelling O.State.spelling
-        (with_logs (logs_of graph.now attempt.now task) copy.now)) }
-    ensures readable { OnOk result (whole_of (part_at O.Record.reading O.Key.cmp O.Key.reading
-        O.State.reading) (part_spelling O.Record.spelling O.Key.spelling O.State.spelling
-        (with_logs (logs_of graph.now attempt.now task) copy.now))
-        ≡ Ok (with_logs (logs_of graph.now attempt.now task) copy.now)) }
-    ensures err { IfErr result (λ fault. fault ≡ CoreFault.Memory) }
-{
-    let logs = logs_of(alloc, attempt, graph, task)?;
-    let mut bytes = Vec::new(alloc);
-    match write_with_logs(copy, &logs, &mut bytes) {
-        Ok(()) => Ok(bytes),
-        Err(_) => Err(CoreFault::Memory),
+        Err(StoreFault::Memory) => Err(CoreFault::Memory),
+        Err(_) => Err(CoreFault::Device),
     }
 }
 
 /// Puts the part of a task that has copied, and whose logs are closed.
 pub fn persist<O: Operator, S: SnapshotStore>(
-    alloc: Global,
     attempt: &mut Attempt<O>,
     graph: &Graph,
     store: &mut S,
@@ -129,83 +121,16 @@ pub fn persist<O: Operator, S: SnapshotStore>(
     let Some(checkpoint) = attempt.pending() else {
         return Err(CoreFault::NoCheckpoint);
     };
-    let Some(part) = attempt.copy(task) else {
-        return Err(CoreFault::NotReady);
-    };
-    if !attempt.is_closed(task) || attempt.has_acked(task) {
+    if !attempt.has_copied(task) || !attempt.is_closed(task) || attempt.has_acked(task) {
         return Err(CoreFault::NotReady);
     }
-    let bytes = spelled(alloc, attempt, graph, task, part)?;
-    match store.put(checkpoint, task, &bytes) {
-        Ok(()) => {
-            attempt.acknowledge(checkpoint, task);
-            Ok(())
-        }
-        Err(StoreFault::Memory) => Err(CoreFault::Memory),
-        Err(_) => Err(CoreFault::Device),
-    }
-}
-
-/// Puts the part of a task that has copied, and whose logs are closed, and acknowledges it.
-fn put_part<O: Operator, S: SnapshotStore>(
-    alloc: Global,
-    attempt: &mut Attempt<O>,
-    graph: &Graph,
-    store: &mut S,
-    checkpoint: u64,
-    task: u32,
-) -> Result<(), CoreFault>
-    requires acked { length attempt.old.coordination.acked ≡ length graph.now.tasks }
-    requires may { put_refusal (S.state store.old) checkpoint task ≡ None }
-    requires is_task { IsTask graph.now task }
-    requires pending { attempt.old.coordination.pending ≡ Some checkpoint }
-    requires copied { IsSome (copy_at attempt.old task) }
-    requires closed { (gate_at attempt.old task).phase ≡ AtRest }
-    requires unacknowledged { has_acked attempt.old.coordination task ≡ false }
-    ensures ends { EndsPersist graph.now task attempt.old attempt.new (S.state store.old)
-        (S.state store.new) (part_spelling O.Record.spelling O.Key.spelling O.State.spelling)
-        result }
-    ensures counted { result ≡ Err CoreFault.Device
-        → S.fault_count store.old < S.fault_count store.new }
-    ensures told { result ≢ Err CoreFault.Device
-        → S.fault_count store.new ≡ S.fault_count store.old }
-    ensures readable { WhereReached result ((p : Part O.Record O.Key O.State)
-        → copy_at attempt.old task ≡ Some p → whole_of
-        (part_at O.Record.reading O.Key.cmp O.Key.reading O.State.reading)
-        (part_spelling O.Record.spelling O.Key.spelling O.State.spelling
-        (with_logs (logs_of graph.now attempt.old task) p))
-        ≡ Ok (with_logs (logs_of graph.now attempt.old task) p)) }
-{
-    let Some(part) = attempt.copy(task) else {
-        return Err(CoreFault::NotReady);
-    };
-    let bytes = spelled(alloc, attempt, graph, task, part)?;
-    match store.put(checkpoint, task, &bytes) {
-        Ok(()) => {
-            attempt.acknowledge(checkpoint, task);
-            Ok(())
-        }
-        Err(StoreFault::Memory) => Err(CoreFault::Memory),
-        Err(_) => Err(CoreFault::Device),
-    }
-}
-
-/// Placeholder for the attempt's own.
-fn spell_some<O: Operator>(
-    attempt: &mut Attempt<O>,
-    task: u32,
-    most: usize,
-) -> Result<bool, NoMemory>
-    ensures { attempt.new ≡ attempt.old }
-{
-    let _ = attempt.pending();
-    Ok(most as usize > task as usize)
+    attempt.spell_all(task)?;
+    put_part(attempt, graph, store, checkpoint, task)
 }
 
 /// Goes on with the part of a task that has copied, by at most `most` entries; where none are left,
 /// it is put, if its logs are closed.
 pub fn persist_some<O: Operator, S: SnapshotStore>(
-    alloc: Global,
     attempt: &mut Attempt<O>,
     graph: &Graph,
     store: &mut S,
@@ -236,16 +161,16 @@ pub fn persist_some<O: Operator, S: SnapshotStore>(
     let Some(checkpoint) = attempt.pending() else {
         return Err(CoreFault::NoCheckpoint);
     };
-    if attempt.copy(task).is_none() || attempt.has_acked(task) {
+    if !attempt.has_copied(task) || attempt.has_acked(task) {
         return Err(CoreFault::NotReady);
     }
-    if spell_some(attempt, task, most as usize)? {
+    if attempt.spell_some(task, most as usize)? {
         return Ok(Persisted::More);
     }
     if !attempt.is_closed(task) {
         return Err(CoreFault::NotReady);
     }
-    match put_part(alloc, attempt, graph, store, checkpoint, task) {
+    match put_part(attempt, graph, store, checkpoint, task) {
         Ok(()) => Ok(Persisted::Done),
         Err(fault) => Err(fault),
     }

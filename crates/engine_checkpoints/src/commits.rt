@@ -12,26 +12,11 @@ ghost use Rattle.core_model.specs.Commits.{IsNext, NoneIsNext, EndsCommit};
 ghost use Rattle.core_model.specs.Keeps.{SinkIn};
 ghost use Rattle.engine_checkpoints.specs.Rounds.{EndsRound};
 
-use commit_sink::{Pending, Sink, Transactions};
+use commit_sink::{Pending, Transactions};
 use core_model::CoreFault;
 use job_graph::Graph;
-use job_state::{Attempt, Holding};
+use job_state::Attempt;
 use operators::Operator;
-
-/// The sink that a task holds, if it holds one.
-fn sink_at<O: Operator>(attempt: &Attempt<O>, task: u32) -> Option<&Sink>
-    ensures some { IfSome result (λ sink. slice_get attempt.now.tasks task
-        ≡ Some (Holding.Sink sink.now)) }
-    ensures none { IfNone result ((sink : Sinking)
-        → slice_get attempt.now.tasks task ≡ Some (Holding.Sink sink) → ⊥) }
-{
-    match attempt.holding(task) {
-        Some(Holding::Sink(sink)) => Some(sink),
-        Some(Holding::Source(_)) => None,
-        Some(Holding::Operator(_)) => None,
-        None => None,
-    }
-}
 
 /// A sink's oldest pending transaction, if its checkpoint is complete: if it is not the one that is
 /// pending.
@@ -39,7 +24,7 @@ fn next_of<O: Operator>(attempt: &Attempt<O>, task: u32) -> Option<Pending>
     ensures some { IfSome result (λ p. (sink : Sinking) × IsNext task attempt.now sink p) }
     ensures none { IfNone result (NoneIsNext task attempt.now) }
 {
-    let sink = sink_at(attempt, task)?;
+    let sink = attempt.sink(task)?;
     let next = sink.oldest()?;
     if attempt.pending() == Some(next.checkpoint) {
         return None;
