@@ -3,4 +3,5 @@ pub mod Putting
 pub mod Received
 pub mod Logging
 pub mod Opening
+pub mod Standings
 pub mod Holds

@@ -1,3 +1,5 @@
 pub mod Sending
+pub mod Standing
 pub mod Held
+pub mod Kinds
 pub mod Inside

@@ -1,7 +1,8 @@
 //! The attempt.
 
-ghost use Rattle.std.specs.Prelude.{◌≡◌, ◌<◌, ◌^◌, ◌↔◌, false, length, slice_get, Some, None, IfOk, IsTrue};
+ghost use Rattle.std.specs.Prelude.{◌≡◌, ◌<◌, ◌^◌, ◌↔◌, ℕ, List, false, length, slice_get, is_some, Some, None, IfOk, IfSome, IfNone, IsTrue};
 ghost use Rattle.std.specs.Option.{option_copied};
+ghost use Rattle.abs_codec.specs.Entries.{value_at};
 ghost use Rattle.alignment.specs.Inputs as gates;
 ghost use Rattle.alignment.specs.Table.{effect_of, is_blocked};
 ghost use Rattle.alignment.specs.declared.input.Phase.TheVariants.{AtRest};
@@ -11,46 +12,46 @@ use crate::gates::fresh_gates;
 use crate::holding::Holding;
 use crate::logs::{open_logs, reopen};
 use crate::openings::opened_channels;
-use crate::parts::{clear, forget_oldest, no_copies};
 use crate::sending::first;
+use crate::task::Task;
+use crate::tasks::{clear, forget_oldest, fresh_tasks};
 use abs_codec::{Items, NoMemory};
 use alignment::{Effect, Gate, Phase};
 use backedge_log::Logs;
 use channels::{Channel, Item};
+use commit_sink::Sink;
 use coordinator::Coordinator;
 use job_graph::Graph;
 use operators::Operator;
 use std::alloc::Global;
 use std::marker::Model;
-use task_part::Part;
 
 /// What a running job holds in memory.
 #[derive(Drop)]
 pub struct Attempt<O: Operator> {
     pub(crate) alloc: Global,
-    pub(crate) tasks: Vec<Holding<O::Key, O::State>>,
+    pub(crate) tasks: Vec<Task<O::Record, O::Key, O::State>>,
     pub(crate) channels: Vec<Channel<O::Record>>,
     pub(crate) gates: Vec<Gate>,
     /// A channel's log is open as long as the pending checkpoint's barrier has not come from it.
     pub(crate) logs: Logs<O::Record>,
-    pub(crate) copies: Vec<Option<Part<O::Record, O::Key, O::State>>>,
     pub(crate) coordinator: Coordinator,
 }
 
 impl<O: Operator> Model for Attempt<O> {
     ghost use Rattle.job_state.specs.Held.{Held};
-    ghost use Rattle.job_state.specs.Inside.{came_of, records_of};
+    ghost use Rattle.job_state.specs.Inside.{holdings_of, copies_of, came_of, records_of};
     ghost use Rattle.job_state.specs.Sending.{contents_items};
 
     ghost Value = { Held O.Record O.Key O.State };
 
     ghost view = { λ a. record {
-      tasks = a.tasks.items;
+      tasks = holdings_of a.tasks.items;
       channels = contents_items a.channels.items;
       gates = a.gates.items;
       came = came_of a.logs;
       logs = records_of a.logs;
-      copies = a.copies.items;
+      copies = copies_of a.tasks.items;
       coordination = a.coordinator;
     } };
 }
@@ -59,7 +60,7 @@ impl<O: Operator> Attempt<O> {
     ghost use Rattle.commit_sink.specs.Sink.{Sinking};
     ghost use Rattle.job_state.specs.declared.holding.Holding.TheVariants as Holding;
     ghost use Rattle.job_state.specs.Sending.{items_at};
-    ghost use Rattle.job_state.specs.Held.{copy_at, gate_at, came_at, logged_at, begun, oldest_forgotten, with_started, with_acknowledged, with_completed};
+    ghost use Rattle.job_state.specs.Held.{copy_at, gate_at, came_at, begun, oldest_forgotten, with_started, with_acknowledged, with_completed};
 
     /// An attempt that begins: these tasks, these records in the channels, and no checkpoint
     /// pending. Records that are for no channel are dropped.
@@ -77,7 +78,7 @@ impl<O: Operator> Attempt<O> {
         let channels = opened_channels(alloc, graph.channels(), openings)?;
         let gates = fresh_gates(alloc, graph, count)?;
         let logs = open_logs(alloc, graph.channels())?;
-        let copies = no_copies(alloc, count)?;
+        let tasks = fresh_tasks(alloc, tasks)?;
         let coordinator = Coordinator::new(alloc, count)?.with_last_complete(last_complete);
         Ok(Attempt {
             alloc,
@@ -85,16 +86,37 @@ impl<O: Operator> Attempt<O> {
             channels,
             gates,
             logs,
-            copies,
             coordinator,
         })
     }
 
-    /// What a task holds; `None` if there is no such task.
-    pub fn holding(&self, task: u32) -> Option<&Holding<O::Key, O::State>>
-        ensures { option_copied result ≡ slice_get self.now.tasks task }
+    /// The offset that a task holds, if it holds one.
+    pub fn offset(&self, task: u32) -> Option<u64>
+        ensures some { IfSome result (λ offset. slice_get self.now.tasks task
+            ≡ Some (Holding.Source offset)) }
+        ensures none { IfNone result ((offset : ℕ)
+            → slice_get self.now.tasks task ≡ Some (Holding.Source offset) → ⊥) }
     {
-        self.tasks.get(task as usize)
+        self.tasks.get(task as usize)?.offset()
+    }
+
+    /// The sink that a task holds, if it holds one.
+    pub fn sink(&self, task: u32) -> Option<&Sink>
+        ensures some { IfSome result (λ sink. slice_get self.now.tasks task
+            ≡ Some (Holding.Sink sink.now)) }
+        ensures none { IfNone result ((sink : Sinking)
+            → slice_get self.now.tasks task ≡ Some (Holding.Sink sink) → ⊥) }
+    {
+        self.tasks.get(task as usize)?.sink()
+    }
+
+    /// The state that an operator has at a key.
+    pub fn state(&self, task: u32, key: &O::Key) -> Option<&O::State>
+        ensures { (entries : List (O.Key × O.State))
+            → slice_get self.now.tasks task ≡ Some (Holding.Operator entries)
+            → option_copied result ≡ value_at O.Key.cmp entries key.now }
+    {
+        self.tasks.get(task as usize)?.state(key)
     }
 
     /// The item that stands first in a channel.
@@ -141,22 +163,14 @@ impl<O: Operator> Attempt<O> {
         (channel as usize) < self.logs.channels() && !self.logs.is_open(channel)
     }
 
-    /// The records that are logged for a channel.
-    pub fn logged(&self, channel: u32) -> &[O::Record]
-        ensures { result.now ≡ logged_at self.now channel }
+    /// Whether a task has copied for the pending checkpoint.
+    pub fn has_copied(&self, task: u32) -> bool
+        ensures { result ≡ is_some (copy_at self.now task) }
     {
-        if (channel as usize) < self.logs.channels() {
-            self.logs.records(channel)
-        } else {
-            &[]
+        match self.tasks.get(task as usize) {
+            Some(task) => task.has_copied(),
+            None => false,
         }
-    }
-
-    /// A task's copy for the pending checkpoint. Its logs stand by channel.
-    pub fn copy(&self, task: u32) -> Option<&Part<O::Record, O::Key, O::State>>
-        ensures { option_copied result ≡ copy_at self.now task }
-    {
-        self.copies.get(task as usize)?.as_ref()
     }
 
     /// The number of the pending checkpoint.
@@ -195,7 +209,7 @@ impl<O: Operator> Attempt<O> {
         ensures { (sink : Sinking) → slice_get self.old.tasks task ≡ Some (Holding.Sink sink)
             → self.new ≡ oldest_forgotten task sink self.old }
     {
-        forget_oldest(&mut self.tasks[task as usize]);
+        forget_oldest(&mut self.tasks, task);
     }
 
     /// A checkpoint is pending from now on, for which no task has copied and no barrier has come.
@@ -205,7 +219,7 @@ impl<O: Operator> Attempt<O> {
         ensures { self.new ≡ with_started checkpoint self.old }
     {
         let _ = self.coordinator.start(checkpoint);
-        clear(&mut self.copies);
+        clear(&mut self.tasks);
         reopen(&mut self.logs);
     }
 
@@ -224,7 +238,7 @@ impl<O: Operator> Attempt<O> {
         ensures { self.new ≡ with_completed checkpoint self.old }
     {
         let _ = self.coordinator.complete(checkpoint);
-        clear(&mut self.copies);
+        clear(&mut self.tasks);
         reopen(&mut self.logs);
     }
 }

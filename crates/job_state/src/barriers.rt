@@ -6,15 +6,13 @@ ghost use Rattle.alignment.specs.Table.{IsFor};
 
 use crate::attempt::Attempt;
 use crate::gates::note_barrier;
-use crate::holding::Holding;
 use crate::logs::close;
-use crate::parts::copied_states;
-use crate::sending::{forward_barriers, send_barriers, take_head};
+use crate::sending::{pass_on, reserve_barriers, send_barriers, take_head};
+use crate::tasks::{copy_names, copy_offset, copy_states};
 use abs_codec::{Items, NoMemory};
 use commit_sink::Sink;
 use job_graph::Graph;
 use operators::Operator;
-use task_part::Part;
 
 impl<O: Operator> Attempt<O> {
     ghost use Rattle.job_state.specs.declared.holding.Holding.TheVariants as Holding;
@@ -51,12 +49,12 @@ impl<O: Operator> Attempt<O> {
         ensures err { OnErr result (self.new ≡ self.old) }
     {
         send_barriers(self.alloc, &mut self.channels, graph, task, checkpoint)?;
-        self.copies[task as usize] = Some(Part::Source(offset));
+        copy_offset(self.alloc, &mut self.tasks, task, offset);
         Ok(())
     }
 
     /// An operator takes the barrier at the head of an input, which is this channel, copies its
-    /// map, and sends the barrier.
+    /// map, and sends the barrier. No entry of the map is copied for it.
     pub fn copy_operator(
         &mut self,
         graph: &Graph,
@@ -78,18 +76,11 @@ impl<O: Operator> Attempt<O> {
             self.old self.new) }
         ensures err { OnErr result (self.new ≡ self.old) }
     {
-        let states = copied_states(self.alloc, &self.tasks[task as usize])?;
-        forward_barriers(
-            self.alloc,
-            &mut self.channels,
-            graph,
-            task,
-            channel,
-            checkpoint,
-        )?;
+        let puts = reserve_barriers(self.alloc, &mut self.channels, graph, task, checkpoint)?;
+        copy_states(&mut self.tasks, task)?;
+        let _ = pass_on(&mut self.channels, channel, puts);
         note_barrier(&mut self.gates, task, input, checkpoint);
         close(&mut self.logs, channel);
-        self.copies[task as usize] = Some(Part::Operator(states, Items::new(self.alloc)));
         Ok(())
     }
 
@@ -114,7 +105,6 @@ impl<O: Operator> Attempt<O> {
         ensures { self.new ≡ sink_copied task input channel checkpoint names sink self.old }
     {
         self.take_barrier(task, input, channel, checkpoint);
-        self.tasks[task as usize] = Holding::Sink(sink);
-        self.copies[task as usize] = Some(Part::Sink(names, Items::new(self.alloc)));
+        copy_names(self.alloc, &mut self.tasks, task, sink, names);
     }
 }

@@ -9,13 +9,16 @@
 
 mod attempt;
 mod barriers;
+mod copies;
 mod gates;
 mod holding;
 mod logs;
 mod openings;
-mod parts;
 mod records;
 mod sending;
+mod spelling;
+mod task;
+mod tasks;
 
 pub use attempt::Attempt;
 pub use holding::Holding;

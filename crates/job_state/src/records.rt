@@ -5,10 +5,9 @@ ghost use Rattle.channels.specs.declared.item.Item.TheVariants as Item;
 
 use crate::attempt::Attempt;
 use crate::gates::is_logged;
-use crate::holding::Holding;
 use crate::logs::{drop_last, log_copy, log_taken, reserve_log};
-use crate::parts::keep;
 use crate::sending::{first, pass_on, reserve_deliveries, send_records, take_head};
+use crate::tasks::{advance, keep};
 use abs_codec::NoMemory;
 use channels::Item;
 use job_graph::Graph;
@@ -36,7 +35,7 @@ impl<O: Operator> Attempt<O> {
         let mut sent = Vec::new(self.alloc);
         sent.push((0, row))?;
         send_records::<O>(self.alloc, &mut self.channels, graph, task, sent)?;
-        self.tasks[task as usize] = Holding::Source(offset + 1);
+        advance(&mut self.tasks, task, offset + 1);
         Ok(())
     }
 
@@ -69,7 +68,7 @@ impl<O: Operator> Attempt<O> {
         let logged = is_logged(&self.gates, task, input);
         reserve_log(&mut self.logs, channel, logged)?;
         let puts = reserve_deliveries::<O>(self.alloc, &mut self.channels, graph, task, sent)?;
-        keep::<O>(&mut self.tasks[task as usize], key, state)?;
+        keep::<O>(&mut self.tasks, task, key, state)?;
         let taken = pass_on(&mut self.channels, channel, puts);
         log_taken(&mut self.logs, channel, logged, taken);
         Ok(())

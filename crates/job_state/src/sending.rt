@@ -157,23 +157,3 @@ pub(crate) fn send_barriers<R: Drop>(
     push_all(channels, puts);
     Ok(())
 }
-
-/// Takes the barrier from a channel and sends it on.
-pub(crate) fn forward_barriers<R: Drop>(
-    alloc: Global,
-    channels: &mut [Channel<R>],
-    graph: &Graph,
-    task: u32,
-    channel: u32,
-    checkpoint: u64,
-) -> Result<(), NoMemory>
-    requires { length channels.old ≡ length graph.now.channels }
-    ensures ok { OnOk result (Puts (λ number. barrier_into checkpoint task
-        (slice_get graph.now.channels number)) (without_head channel (contents_items channels.old))
-        (contents_items channels.new)) }
-    ensures err { OnErr result (contents_items channels.new ≡ contents_items channels.old) }
-{
-    let puts = reserve_barriers(alloc, channels, graph, task, checkpoint)?;
-    pass_on(channels, channel, puts);
-    Ok(())
-}

@@ -11,4 +11,4 @@ mod part;
 mod spell;
 
 pub use part::Part;
-pub use spell::write_with_logs;
+pub use spell::{write_count, write_logs, write_sink, write_source, write_with_logs};

@@ -5,10 +5,11 @@ ghost use Rattle.std.specs.Prelude.{◌≡◌, ◌≢◌, ◌<◌, ◌≤◌, �
 ghost use Rattle.std.specs.Int.{to_be_bytes, w32};
 ghost use Rattle.abs_codec.specs.declared.fault.CodecFault.TheVariants.{Memory, TooLong};
 ghost use Rattle.abs_codec.specs.Spelling.{list_spelling, AreSpelled};
+ghost use Rattle.task_part.specs.declared.part.Part.TheVariants as Part;
 ghost use Rattle.task_part.specs.Spelling.{logs_spelling, LogsAreSpelled, logs_now, with_logs, part_spelling, PartIsSpelled};
 
 use crate::part::Part;
-use abs_codec::{Codec, CodecFault};
+use abs_codec::{Codec, CodecFault, Items};
 
 /// Appends the spelling of the part that a copy is with these logs, each the records of a channel;
 /// the copy's own logs are left out. After an `Err` some of it may be there.
@@ -40,8 +41,46 @@ pub fn write_with_logs<R: Codec, K: Codec + Ord, S: Codec>(
     write_logs(logs, out)
 }
 
-/// Writes how many logs there are, and each with its channel.
-fn write_logs<R: Codec>(logs: &[(u32, &[R])], out: &mut Vec<u8>) -> Result<(), CodecFault>
+/// Appends the spelling of the part that a source has at this offset. After an `Err` some of it may
+/// be there.
+pub fn write_source<R: Codec, K: Codec + Ord, S: Codec>(
+    offset: u64,
+    out: &mut Vec<u8>,
+) -> Result<(), CodecFault>
+    ensures appended { OnOk result (PartIsSpelled R.HasSpelling K.Ord.cmp K.HasSpelling
+        S.HasSpelling (Part.Source offset)
+        × (out.new.items ≡ out.old.items ++ part_spelling R.spelling K.spelling S.spelling
+        (Part.Source offset))) }
+    ensures keeps { (more : List ℕ) × (out.new.items ≡ out.old.items ++ more) }
+    ensures memory { IfErr result (λ f. f ≡ Memory) }
+{
+    Part::<R, K, S>::Source(offset).write(out)
+}
+
+/// Appends the spelling of the part that a sink has with these pending transactions, the newest
+/// last, and these logs, each the records of a channel. After an `Err` some of it may be there.
+pub fn write_sink<R: Codec, K: Codec + Ord, S: Codec>(
+    transactions: &Items<u64>,
+    logs: &[(u32, &[R])],
+    out: &mut Vec<u8>,
+) -> Result<(), CodecFault>
+    ensures appended { OnOk result (PartIsSpelled R.HasSpelling K.Ord.cmp K.HasSpelling
+        S.HasSpelling (Part.Sink transactions.now (logs_now logs.now))
+        × (out.new.items ≡ out.old.items ++ part_spelling R.spelling K.spelling S.spelling
+        (Part.Sink transactions.now (logs_now logs.now)))) }
+    ensures keeps { (more : List ℕ) × (out.new.items ≡ out.old.items ++ more) }
+    ensures too_long { IfErr result (λ f. f ≢ Memory → (f ≡ TooLong)
+        × ¬ PartIsSpelled R.HasSpelling K.Ord.cmp K.HasSpelling S.HasSpelling
+        (Part.Sink transactions.now (logs_now logs.now))) }
+{
+    out.push(2)?;
+    transactions.write(out)?;
+    write_logs(logs, out)
+}
+
+/// Appends the spelling of these logs: how many there are, and each with its channel. After an
+/// `Err` some of it may be there.
+pub fn write_logs<R: Codec>(logs: &[(u32, &[R])], out: &mut Vec<u8>) -> Result<(), CodecFault>
     ensures appended { OnOk result (LogsAreSpelled R.HasSpelling (logs_now logs.now)
         × (out.new.items ≡ out.old.items ++ logs_spelling R.spelling (logs_now logs.now))) }
     ensures keeps { (more : List ℕ) × (out.new.items ≡ out.old.items ++ more) }
@@ -71,8 +110,8 @@ fn write_records<R: Codec>(records: &[R], out: &mut Vec<u8>) -> Result<(), Codec
     Ok(())
 }
 
-/// Writes a count of at most 2^32 - 1.
-fn write_count(count: usize, out: &mut Vec<u8>) -> Result<(), CodecFault>
+/// Appends a count of at most 2^32 - 1. After an `Err` some of it may be there.
+pub fn write_count(count: usize, out: &mut Vec<u8>) -> Result<(), CodecFault>
     ensures appended { OnOk result ((count < 2 ^ 32)
         × (out.new.items ≡ out.old.items ++ to_be_bytes w32 count)) }
     ensures keeps { (more : List ℕ) × (out.new.items ≡ out.old.items ++ more) }

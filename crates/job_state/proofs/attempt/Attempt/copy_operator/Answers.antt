@@ -1,24 +1,31 @@
-use Rattle.std.proofs.Common.{◌<◌, length, slice_get, slice_set, refl, sym, ap, ◌∙◌, arith}
+use Rattle.std.proofs.Common.{[], Some, slice_get, slice_set, refl, sym, ap, ◌∙◌, arith}
 use Rattle.std.proofs.lemmas.List.{with_items_is}
-use Rattle.std.proofs.lemmas.Option.{same_Some, slice_get_read, slice_get_within}
+use Rattle.std.specs.Vec.{with_items}
 use Rattle.alignment.specs.Inputs.{with_barrier}
 use Rattle.alignment.specs.Table.{after, effect_of}
-use Rattle.job_state.specs.Inside.{gate_in}
-use Rattle.job_state.specs.Sending.{contents_items, without_head}
+use Rattle.task_part.specs.declared.part.Part.TheVariants as Part
+use Rattle.job_state.specs.Inside.{gate_in, holdings_of, copies_of}
+use Rattle.job_state.specs.Sending.{contents_items, without_head, put_into}
+use Rattle.job_state.proofs.Received.{barriers_put}
 use Rattle.job_state.proofs.Holds.{puts_at, copies_from}
 use Rattle.job_state.proofs.attempt.Attempt.copy_operator.Goals as goal
 
 pub returns-clause-ok : goal.returns-clause-ok
 returns-clause-ok g c =
-    let items = with_items_is c.self.inside.channels c.forward_barriers.new.channels (omega arith) in
+    let task = c.args.task in
+    let channel = c.args.channel in
+    let entries = c.requires.holds.0 in
+    let items = with_items_is c.self.inside.channels c.reserve_barriers.new.channels (omega arith) in
+    let passed = with_items_is (with_items c.self.inside.channels c.reserve_barriers.new.channels) c.pass_on.new.channels (omega arith) in
+    let tasks = with_items_is c.self.inside.tasks c.copy_states.new.tasks (omega arith) in
     let gates = with_items_is c.self.inside.gates c.note_barrier.new.gates (omega arith) in
-    let tasks = c.self.inside.tasks.items in
-    let held = ap (λ h. h.tasks) c.self.view_is in
-    let within : c.args.task < length tasks = omega (arith, ap (λ l. length l) held, slice_get_within _ c.args.task _ c.requires.holds.1) in
-    let here = slice_get_read tasks _ c.args.task c.index.result.now refl within c.index.ensures in
-    let is = same_Some _ _ (sym here ∙ ap (λ l. slice_get l c.args.task) held ∙ c.requires.holds.1) in
-    copies_from c.args.graph.now c.args.task c.args.input c.args.channel c.args.checkpoint _ _ _ c.requires.holds.0 c.in_ok-states.states c.new.result c.self.view_is c.requires.holds.1 (c.in_ok-states.ensures c.requires.holds.0 is) c.new.ensures
-    (puts_at _ _ (ap (λ l. without_head c.args.channel (contents_items l)) c.deref_mut.ensures.value) (ap (λ l. contents_items l) (sym items)) (λ k. refl) c.in_ok-forward_barriers.ensures.ok)
-    (gates ∙ c.note_barrier.ensures ∙ ap (λ l. slice_set l c.args.task (after (effect_of (gate_in l c.args.task) c.args.input) c.args.checkpoint (with_barrier (gate_in l c.args.task).inputs c.args.input))) c.deref_mut-2.ensures.value)
+    let stands = c.deref_mut-2.ensures.value in
+    let stood = ap (λ l. contents_items l) (c.deref_mut-3.ensures.value ∙ items) ∙ (c.in_ok-puts.ensures.same ∙ ap (λ l. contents_items l) c.deref_mut.ensures.value) in
+    let holds = ap (λ l. slice_get (holdings_of l) task) stands ∙ (ap (λ h. slice_get h.tasks task) c.self.view_is ∙ c.requires.holds.1) in
+    copies_from c.args.graph.now task c.args.input channel c.args.checkpoint _ _ _ entries _ _ c.self.view_is c.requires.holds.1
+    (puts_at _ _ (ap (λ l. without_head channel l) stood) (ap (λ l. contents_items l) (sym passed)) (λ k. ap (put_into k) c.in_ok-puts.ensures.puts ∙ barriers_put g.row.O-Record.Denot c.args.graph.now task c.args.checkpoint k) c.pass_on.ensures.puts)
+    (gates ∙ c.note_barrier.ensures ∙ ap (λ l. slice_set l task (after (effect_of (gate_in l task) c.args.input) c.args.checkpoint (with_barrier (gate_in l task).inputs c.args.input))) c.deref_mut-4.ensures.value)
     c.close.ensures.came c.close.ensures.logged
+    (ap (λ l. holdings_of l) tasks ∙ c.copy_states.ensures.holdings ∙ ap (λ l. holdings_of l) stands)
+    (ap (λ l. copies_of l) tasks ∙ c.in_ok-copy_states.ensures.ok entries holds ∙ ap (λ l. slice_set (copies_of l) task (Some (Part.Operator entries []))) stands)
     refl

@@ -1,0 +1,2 @@
+pub mod Operating
+pub mod Spelled

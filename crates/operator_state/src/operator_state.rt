@@ -1,0 +1,286 @@
+//! States by key, and the copy for the pending checkpoint as far as it is spelled.
+
+ghost use Rattle.std.specs.Prelude.{◌≡◌, ◌≤◌, ◌+◌, ◌-◌, ◌++◌, ℕ, List, [], take, drop, length, is_some, Some, None, IsTrue, IsOk, OnOk, OnErr, IfOk, if◌then◌else◌};
+ghost use Rattle.std.specs.Option.{option_copied};
+ghost use Rattle.std.specs.List.Sorted.{IsStrictlySortedBy};
+ghost use Rattle.std.specs.List.{All, flat_map};
+ghost use Rattle.std.specs.Map.{keys_of};
+ghost use Rattle.std.specs.BTreeMap.{is_at};
+ghost use Rattle.abs_codec.specs.Entries.{value_at};
+ghost use Rattle.abs_codec.specs.Spelling.{pair_spelling, PairIsSpelled};
+ghost use Rattle.keyed_state.specs.KeyedMap.{entries_above, frozen_entries};
+ghost use Rattle.operator_state.specs.Spelled.{Begins};
+ghost use Rattle.task_part.specs.declared.part.Part.TheVariants as Part;
+ghost use Rattle.task_part.specs.Spelling.{logs_now, part_spelling, PartIsSpelled};
+
+use abs_codec::{Codec, Map, NoMemory};
+use keyed_state::KeyedState;
+use std::alloc::Global;
+use std::marker::Model;
+use task_part::{write_count, write_logs};
+
+/// The states of an operator by key, and its copy for the pending checkpoint.
+#[derive(Drop)]
+pub struct OperatorState<K: Codec + Ord, S: Codec> {
+    alloc: Global,
+    /// Frozen while entries of the copy are left to be spelled.
+    states: KeyedState<K, S>,
+    has_copied: bool,
+    /// The key of the last entry that is spelled.
+    last: Option<K>,
+    /// How many entries of the copy are left to be spelled.
+    left: usize,
+    /// The part up to the entry that was spelled last, and what was written behind it.
+    bytes: Vec<u8>,
+    /// How many bytes the part has up to that entry.
+    end: usize,
+}
+
+impl<K: Codec + Ord, S: Codec> Model for OperatorState<K, S> {
+    ghost use Rattle.std.specs.Prelude.{◌≤◌, Some, None, take, length, if◌then◌else◌};
+    ghost use Rattle.operator_state.specs.Operating.{Operating};
+    ghost use Rattle.operator_state.specs.Spelled.{copied, IsHeld};
+
+    ghost Value = { Operating K S };
+
+    ghost view = { λ o. record {
+      entries = o.states.entries;
+      copy = if o.has_copied then Some (copied K.Ord.cmp K.reading S.reading o.states.frozen
+          (take o.end o.bytes.items)) else None;
+      unspelled = o.left;
+      unmerged = o.states.unmerged;
+      part = o.bytes.items;
+    } };
+
+    ghost invariant = { λ o. (o.end ≤ length o.bytes.items)
+        × IsHeld K.Ord.cmp K.HasSpelling K.spelling S.HasSpelling S.spelling o.states.frozen
+        (copied K.Ord.cmp K.reading S.reading o.states.frozen (take o.end o.bytes.items))
+        o.has_copied o.last o.left (take o.end o.bytes.items) };
+}
+
+/// Writes the head of the part where nothing is spelled yet: the tag, and how many entries there
+/// are.
+fn begin<K>(last: &Option<K>, left: usize, out: &mut Vec<u8>) -> Result<(), NoMemory>
+    ensures begun { OnOk result (Begins last.now left out.old.items out.new.items) }
+    ensures keeps { (more : List ℕ) × (out.new.items ≡ out.old.items ++ more) }
+{
+    if last.is_some() {
+        return Ok(());
+    }
+    out.push(1)?;
+    write_count(left, out).map_err(|_| NoMemory)
+}
+
+/// Writes a key and its state.
+fn write_entry<K: Codec, S: Codec>(key: &K, state: &S, out: &mut Vec<u8>) -> Result<(), NoMemory>
+    ensures appended { OnOk result (PairIsSpelled K.HasSpelling S.HasSpelling (key.now, state.now)
+        × (out.new.items ≡ out.old.items
+        ++ pair_spelling K.spelling S.spelling (key.now, state.now))) }
+    ensures keeps { (more : List ℕ) × (out.new.items ≡ out.old.items ++ more) }
+{
+    key.write(out).map_err(|_| NoMemory)?;
+    state.write(out).map_err(|_| NoMemory)
+}
+
+/// Writes the next entries of the frozen map, and copies the key of the last of them.
+fn write_next<K: Codec + Ord, S: Codec>(
+    states: &KeyedState<K, S>,
+    last: Option<&K>,
+    count: usize,
+    out: &mut Vec<u8>,
+) -> Result<Option<K>, NoMemory>
+    requires { count ≤ length (entries_above K.Ord.cmp (option_copied last)
+        (frozen_entries states.now)) }
+    ensures appended { OnOk result (out.new.items ≡ out.old.items
+        ++ flat_map (pair_spelling K.spelling S.spelling) (take count
+        (entries_above K.Ord.cmp (option_copied last.entry) (frozen_entries states.now)))) }
+    ensures spelled { OnOk result (All (PairIsSpelled K.HasSpelling S.HasSpelling)
+        (take count (entries_above K.Ord.cmp (option_copied last.entry)
+        (frozen_entries states.now)))) }
+    ensures others { IfOk result (λ next. entries_above K.Ord.cmp next (frozen_entries states.now)
+        ≡ drop count (entries_above K.Ord.cmp (option_copied last.entry)
+        (frozen_entries states.now))) }
+    ensures keeps { (more : List ℕ) × (out.new.items ≡ out.old.items ++ more) }
+{
+    let mut next = last;
+    for _ in 0..count {
+        if let Some((key, state)) = states.frozen_next(next) {
+            write_entry(key, state, out)?;
+            next = Some(key);
+        }
+    }
+    match next {
+        Some(key) => Ok(Some(key.copied()?)),
+        None => Ok(None),
+    }
+}
+
+impl<K: Codec + Ord, S: Codec> OperatorState<K, S> {
+    /// These states, and no copy. It takes no memory.
+    pub fn from_map(alloc: Global, map: Map<K, S>) -> Self
+        ensures { result ≡ record {
+          entries = map;
+          copy = None;
+          unspelled = 0;
+          unmerged = 0;
+          part = [];
+        } }
+    {
+        OperatorState {
+            alloc,
+            states: KeyedState::from_map(alloc, map),
+            has_copied: false,
+            last: None,
+            left: 0,
+            bytes: Vec::new(alloc),
+            end: 0,
+        }
+    }
+
+    /// The state at a key, among those that are seen.
+    pub fn get(&self, key: &K) -> Option<&S>
+        ensures { option_copied result ≡ value_at K.Ord.cmp self.now.entries key.now }
+    {
+        self.states.get(key)
+    }
+
+    /// Gives the key this state. The copy stays.
+    pub fn set(&mut self, key: K, state: S) -> Result<(), NoMemory>
+        ensures states { OnOk result ((q : K) → value_at K.Ord.cmp self.new.entries q
+            ≡ (if is_at (K.Ord.cmp key) q then Some state
+            else value_at K.Ord.cmp self.old.entries q)) }
+        ensures copy { self.new.copy ≡ self.old.copy }
+        ensures unspelled { self.new.unspelled ≡ self.old.unspelled }
+        ensures unmerged { self.new.unmerged ≤ self.old.unmerged + 1 }
+        // Only a copy that is not spelled yet has more to merge after it.
+        ensures all_spelled { self.old.unspelled ≡ 0 → self.new.unmerged ≡ self.old.unmerged }
+        ensures none_merged { self.old.unmerged ≤ self.new.unmerged }
+        ensures err { OnErr result (self.new ≡ self.old) }
+    {
+        self.states.set(key, state)
+    }
+
+    /// Copies the states as they are now, in place of the copy that was there. It takes no memory
+    /// where nothing is left to merge.
+    pub fn copy(&mut self) -> Result<(), NoMemory>
+        ensures ok { OnOk result (self.new ≡ record self.old {
+          copy = Some self.old.entries;
+          unspelled = length self.old.entries;
+          unmerged = 0;
+        }) }
+        // It is never refused where nothing is left to merge.
+        ensures merged { self.old.unmerged ≡ 0 → IsOk result }
+        ensures entries { self.new.entries ≡ self.old.entries }
+        ensures err { OnErr result (self.new ≡ record self.old { unmerged = self.new.unmerged }) }
+        ensures unmerged { self.new.unmerged ≤ self.old.unmerged }
+    {
+        self.states.freeze()?;
+        self.has_copied = true;
+        self.last = None;
+        self.left = self.states.len();
+        self.end = 0;
+        if self.left == 0 {
+            self.states.thaw();
+        }
+        Ok(())
+    }
+
+    /// Whether there is a copy.
+    pub fn has_copied(&self) -> bool
+        ensures { result ≡ is_some self.now.copy }
+    {
+        self.has_copied
+    }
+
+    /// Forgets the copy, if there is one. It takes no memory.
+    pub fn forget(&mut self)
+        ensures { self.new ≡ record self.old {
+          copy = None;
+          unspelled = 0;
+          part = [];
+        } }
+    {
+        self.states.thaw();
+        self.has_copied = false;
+        self.last = None;
+        self.left = 0;
+        self.bytes = Vec::new(self.alloc);
+        self.end = 0;
+    }
+
+    /// How many entries of the copy are still to be spelled.
+    pub fn unspelled(&self) -> usize
+        ensures { result ≡ self.now.unspelled }
+    {
+        self.left
+    }
+
+    /// How many later writes are still to be merged.
+    pub fn unmerged(&self) -> usize
+        ensures { result ≡ self.now.unmerged }
+    {
+        self.states.unmerged()
+    }
+
+    /// Spells at most so many of the next entries of the copy, if there is one. What has no
+    /// spelling counts as want of memory. At an `Err` as many are left as before.
+    pub fn spell_some(&mut self, most: usize) -> Result<(), NoMemory>
+        ensures ok { OnOk result
+            (self.new ≡ record self.old {
+              unspelled = self.old.unspelled - most;
+              part = self.new.part;
+            }) }
+        ensures err { OnErr result (self.new ≡ record self.old { part = self.new.part }) }
+    {
+        let count = most.min(self.left);
+        if count == 0 {
+            return Ok(());
+        }
+        self.bytes.truncate(self.end);
+        begin(&self.last, self.left, &mut self.bytes)?;
+        self.last = write_next(&self.states, self.last.as_ref(), count, &mut self.bytes)?;
+        self.left -= count;
+        self.end = self.bytes.len();
+        if self.left == 0 {
+            self.states.thaw();
+        }
+        Ok(())
+    }
+
+    /// Merges at most so many of the later writes, and none while entries of the copy are still to
+    /// be spelled. The states that are seen stay, also where memory is refused.
+    pub fn merge_some(&mut self, most: usize) -> Result<(), NoMemory>
+        ensures ok { OnOk result (self.old.unspelled ≡ 0
+            → self.new.unmerged ≡ self.old.unmerged - most) }
+        // It is never refused where nothing is left to merge.
+        ensures merged { self.old.unmerged ≡ 0 → IsOk result }
+        ensures stays { self.new ≡ record self.old { unmerged = self.new.unmerged } }
+        ensures unmerged { self.new.unmerged ≤ self.old.unmerged }
+    {
+        self.states.merge(most)?;
+        Ok(())
+    }
+
+    /// Spells these logs behind the copy, each the records of a channel, in place of those that
+    /// were spelled before. What has no spelling counts as want of memory.
+    pub fn spell_logs<R: Codec>(&mut self, logs: &[(u32, &[R])]) -> Result<(), NoMemory>
+        requires spelled { self.old.unspelled ≡ 0 }
+        ensures ok { OnOk result ((copy : List (K × S)) → self.old.copy ≡ Some copy
+            → PartIsSpelled R.HasSpelling K.Ord.cmp K.HasSpelling S.HasSpelling
+            (Part.Operator copy (logs_now logs.now))
+            × (self.new.part ≡ part_spelling R.spelling K.spelling S.spelling
+            (Part.Operator copy (logs_now logs.now)))) }
+        ensures stays { self.new ≡ record self.old { part = self.new.part } }
+    {
+        self.bytes.truncate(self.end);
+        begin(&self.last, 0, &mut self.bytes)?;
+        write_logs(logs, &mut self.bytes).map_err(|_| NoMemory)
+    }
+
+    /// The part, as far as it is spelled.
+    pub fn part(&self) -> &[u8]
+        ensures { result.now ≡ self.now.part }
+    {
+        &self.bytes
+    }
+}
