@@ -423,14 +423,7 @@ impl<O: Operator, S: SnapshotStore, X: Transactions, P: Partitions<Record = O::R
         let Some(attempt) = &mut self.attempt else {
             return Err(CoreFault::NotRunning);
         };
-        let outcome = persist_some(
-            self.alloc,
-            attempt,
-            &self.graph,
-            &mut self.store,
-            task,
-            most,
-        );
+        let outcome = persist_some(attempt, &self.graph, &mut self.store, task, most);
         leave(&mut self.attempt, outcome)
     }
 
