@@ -12,3 +12,4 @@ pub mod Looping
 pub mod Works
 pub mod Ending
 pub mod Chained
+pub mod Rules

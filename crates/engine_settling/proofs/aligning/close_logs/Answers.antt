@@ -1,50 +1,54 @@
 use Rattle.std.proofs.Common.{true, ap, arith, refl, length, sym, subst, slice_get, ◌∙◌}
-use Rattle.abs_codec.specs.Spelling.{Fits}
-use Rattle.core_model.specs.Language.{language}
-use Rattle.operators.specs.Operator.{IsGoodState}
 use Rattle.job_graph.specs.Expanded.{Expanded, IsExpanded}
 use Rattle.engine_settling.specs.Advancing.{IsPending, HaveCopied, HaveCome, HaveAllCome}
 use Rattle.engine_settling.proofs.Bringing.{brings_none, brings_both, part_early, holds_running, graph_same}
 use Rattle.engine_settling.proofs.Looping.{logs_start, logs_sent, logs_more, logs_all}
 use Rattle.engine_settling.proofs.Ordering.{order_length}
+use Rattle.engine_settling.proofs.Rules.{rules_of}
 use Rattle.engine_settling.proofs.aligning.close_logs.Goals as goal
 
 pub loop-place-init : goal.loop-place-init
-loop-place-init g c = record {
-  brings = brings_none (language g.O.Operator.meaning g.O.Key.Ord.cmp g.O.Record.Codec.spelling g.O.Record.Codec.reading g.O.Key.Codec.reading g.O.State.Codec.reading) (Fits g.O.Record.Codec.HasSpelling g.O.Record.Codec.spelling) c.args.engine.now (holds_running c.args.engine.now (λ graph h. IsPending h × HaveCopied graph h) c.requires.copied);
-  so_far = logs_start (language g.O.Operator.meaning g.O.Key.Ord.cmp g.O.Record.Codec.spelling g.O.Record.Codec.reading g.O.Key.Codec.reading g.O.State.Codec.reading) (Fits g.O.Record.Codec.HasSpelling g.O.Record.Codec.spelling) (IsGoodState (Fits g.O.State.Codec.HasSpelling g.O.State.Codec.spelling) g.O.Operator.Suits) c.args.engine.now c.requires.copied;
-  faults = refl;
-}
+loop-place-init g c =
+    let rules = rules_of g.O.Operator g.O.Key.Ord g.O.Record.Codec g.O.Key.Codec g.O.State.Codec in record {
+      brings = brings_none rules.lang rules.RecordFits c.args.engine.now (holds_running c.args.engine.now (λ graph h. IsPending h × HaveCopied graph h) c.requires.copied);
+      so_far = logs_start rules.lang rules.RecordFits rules.IsGood c.args.engine.now c.requires.copied;
+      faults = refl;
+    }
 
 pub task_at-task-requires : goal.task_at-task-requires
 task_at-task-requires g c =
+    let rules = rules_of g.O.Operator g.O.Key.Ord g.O.Record.Codec g.O.Key.Codec g.O.State.Codec in
     let b = c.loop-place.invariant.brings in
-    let same = graph_same (language g.O.Operator.meaning g.O.Key.Ord.cmp g.O.Record.Codec.spelling g.O.Record.Codec.reading g.O.Key.Codec.reading g.O.State.Codec.reading) (Fits g.O.Record.Codec.HasSpelling g.O.Record.Codec.spelling) b.moves c.args.engine.now c.loop-place.engine b.works in
+    let same = graph_same rules.lang rules.RecordFits b.moves c.args.engine.now c.loop-place.engine b.works in
     let expanded : IsExpanded c.args.engine.now.graph = rw c.graph.ensures at c.tasks-place-end.ensures.expanded in
     omega (arith, order_length c.args.engine.now.graph expanded, ap (λ (x : Expanded). length x.order) same, ap (λ (x : Expanded). length x.order) c.graph-in-loop-place.ensures, c.loop-place-test.true, c.tasks-place-end.ensures.count, ap (λ (x : Expanded). length x.tasks) c.graph.ensures)
 
 pub take_inputs-requires : goal.take_inputs-requires
 take_inputs-requires g c =
+    let rules = rules_of g.O.Operator g.O.Key.Ord g.O.Record.Codec g.O.Key.Codec g.O.State.Codec in
     let b = c.loop-place.invariant.brings in
-    let same = graph_same (language g.O.Operator.meaning g.O.Key.Ord.cmp g.O.Record.Codec.spelling g.O.Record.Codec.reading g.O.Key.Codec.reading g.O.State.Codec.reading) (Fits g.O.Record.Codec.HasSpelling g.O.Record.Codec.spelling) b.moves c.args.engine.now c.loop-place.engine b.works in
+    let same = graph_same rules.lang rules.RecordFits b.moves c.args.engine.now c.loop-place.engine b.works in
     let expanded : IsExpanded c.args.engine.now.graph = rw c.graph.ensures at c.tasks-place-end.ensures.expanded in
-    record { sent = logs_sent (language g.O.Operator.meaning g.O.Key.Ord.cmp g.O.Record.Codec.spelling g.O.Record.Codec.reading g.O.Key.Codec.reading g.O.State.Codec.reading) (Fits g.O.Record.Codec.HasSpelling g.O.Record.Codec.spelling) (IsGoodState (Fits g.O.State.Codec.HasSpelling g.O.State.Codec.spelling) g.O.Operator.Suits) c.loop-place.engine c.loop-place.place c.task_at-task.result (subst IsExpanded (sym same) expanded) c.loop-place.invariant.so_far }
+    record { sent = logs_sent rules.lang rules.RecordFits rules.IsGood c.loop-place.engine c.loop-place.place c.task_at-task.result (subst IsExpanded (sym same) expanded) c.loop-place.invariant.so_far }
 
 pub returns-in-Err-clause-ends : goal.returns-in-Err-clause-ends
 returns-in-Err-clause-ends g c =
-    part_early (language g.O.Operator.meaning g.O.Key.Ord.cmp g.O.Record.Codec.spelling g.O.Record.Codec.reading g.O.Key.Codec.reading g.O.State.Codec.reading) (Fits g.O.Record.Codec.HasSpelling g.O.Record.Codec.spelling) c.args.engine.now c.loop-place.engine c.take_inputs.new.engine (λ graph h. HaveCome graph h true c.task_at-task.result) HaveAllCome c.in-Err.fault c.loop-place.invariant.brings c.in-Err.ensures.ends
+    let rules = rules_of g.O.Operator g.O.Key.Ord g.O.Record.Codec g.O.Key.Codec g.O.State.Codec in
+    part_early rules.lang rules.RecordFits c.args.engine.now c.loop-place.engine c.take_inputs.new.engine (λ graph h. HaveCome graph h true c.task_at-task.result) HaveAllCome c.in-Err.fault c.loop-place.invariant.brings c.in-Err.ensures.ends
 
 pub loop-place-preserved : goal.loop-place-preserved
 loop-place-preserved g c =
+    let rules = rules_of g.O.Operator g.O.Key.Ord g.O.Record.Codec g.O.Key.Codec g.O.State.Codec in
     let one = c.in-Ok.ensures.ends in
-    let graphs = graph_same (language g.O.Operator.meaning g.O.Key.Ord.cmp g.O.Record.Codec.spelling g.O.Record.Codec.reading g.O.Key.Codec.reading g.O.State.Codec.reading) (Fits g.O.Record.Codec.HasSpelling g.O.Record.Codec.spelling) one.0.moves c.loop-place.engine c.take_inputs.new.engine one.0.works in record {
-      brings = brings_both (language g.O.Operator.meaning g.O.Key.Ord.cmp g.O.Record.Codec.spelling g.O.Record.Codec.reading g.O.Key.Codec.reading g.O.State.Codec.reading) (Fits g.O.Record.Codec.HasSpelling g.O.Record.Codec.spelling) c.args.engine.now c.loop-place.engine c.take_inputs.new.engine c.loop-place.invariant.brings one.0;
-      so_far = logs_more (language g.O.Operator.meaning g.O.Key.Ord.cmp g.O.Record.Codec.spelling g.O.Record.Codec.reading g.O.Key.Codec.reading g.O.State.Codec.reading) (Fits g.O.Record.Codec.HasSpelling g.O.Record.Codec.spelling) (IsGoodState (Fits g.O.State.Codec.HasSpelling g.O.State.Codec.spelling) g.O.Operator.Suits) c.loop-place.engine c.take_inputs.new.engine c.loop-place.place c.task_at-task.result one.0 (ap (λ (x : Expanded). slice_get x.order c.loop-place.place) (graphs ∙ sym c.graph-in-loop-place.ensures) ∙ c.task_at-task.ensures) c.loop-place.invariant.so_far one.1;
+    let graphs = graph_same rules.lang rules.RecordFits one.0.moves c.loop-place.engine c.take_inputs.new.engine one.0.works in record {
+      brings = brings_both rules.lang rules.RecordFits c.args.engine.now c.loop-place.engine c.take_inputs.new.engine c.loop-place.invariant.brings one.0;
+      so_far = logs_more rules.lang rules.RecordFits rules.IsGood c.loop-place.engine c.take_inputs.new.engine c.loop-place.place c.task_at-task.result one.0 (ap (λ (x : Expanded). slice_get x.order c.loop-place.place) (graphs ∙ sym c.graph-in-loop-place.ensures) ∙ c.task_at-task.ensures) c.loop-place.invariant.so_far one.1;
       faults = c.in-Ok.ensures.counted ∙ c.loop-place.invariant.faults;
     }
 
 pub returns-clause-ends : goal.returns-clause-ends
 returns-clause-ends g c =
+    let rules = rules_of g.O.Operator g.O.Key.Ord g.O.Record.Codec g.O.Key.Codec g.O.State.Codec in
     let b = c.loop-place.invariant.brings in
-    let same = graph_same (language g.O.Operator.meaning g.O.Key.Ord.cmp g.O.Record.Codec.spelling g.O.Record.Codec.reading g.O.Key.Codec.reading g.O.State.Codec.reading) (Fits g.O.Record.Codec.HasSpelling g.O.Record.Codec.spelling) b.moves c.args.engine.now c.loop-place.engine b.works in
-    (b, logs_all (language g.O.Operator.meaning g.O.Key.Ord.cmp g.O.Record.Codec.spelling g.O.Record.Codec.reading g.O.Key.Codec.reading g.O.State.Codec.reading) (Fits g.O.Record.Codec.HasSpelling g.O.Record.Codec.spelling) (IsGoodState (Fits g.O.State.Codec.HasSpelling g.O.State.Codec.spelling) g.O.Operator.Suits) c.loop-place.engine c.loop-place.place c.is_fresh.ensures.kept (omega (arith, ap (λ (x : Expanded). length x.tasks) same, c.loop-place-test.false, c.tasks-place-end.ensures.count, ap (λ (x : Expanded). length x.tasks) c.graph.ensures)) c.loop-place.invariant.so_far)
+    let same = graph_same rules.lang rules.RecordFits b.moves c.args.engine.now c.loop-place.engine b.works in
+    (b, logs_all rules.lang rules.RecordFits rules.IsGood c.loop-place.engine c.loop-place.place c.is_fresh.ensures.kept (omega (arith, ap (λ (x : Expanded). length x.tasks) same, c.loop-place-test.false, c.tasks-place-end.ensures.count, ap (λ (x : Expanded). length x.tasks) c.graph.ensures)) c.loop-place.invariant.so_far)

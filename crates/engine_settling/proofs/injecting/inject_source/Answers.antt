@@ -1,20 +1,19 @@
 use Rattle.std.proofs.Common.{ap}
-use Rattle.abs_codec.specs.Spelling.{Fits}
 use Rattle.commit_sink.specs.Ledger.{Ledger, committed_rows}
-use Rattle.core_model.specs.Language.{language}
-use Rattle.operators.specs.Operator.{IsGoodState}
 use Rattle.engine_rounds.proofs.Many.{begins_same}
 use Rattle.engine_settling.proofs.Bringing.{counted_done}
 use Rattle.engine_settling.proofs.Parts.{inject_part}
+use Rattle.engine_settling.proofs.Rules.{rules_of}
 use Rattle.engine_settling.proofs.injecting.inject_source.Goals as goal
 
 pub returns-clause-ends : goal.returns-clause-ends
 returns-clause-ends g c =
+    let rules = rules_of g.O.Operator g.O.Key.Ord g.O.Record.Codec g.O.Key.Codec g.O.State.Codec in
     let old = c.args.engine.now in
     let new = c.inject.new.self in
     rw c.done.ensures
-    (inject_part (language g.O.Operator.meaning g.O.Key.Ord.cmp g.O.Record.Codec.spelling g.O.Record.Codec.reading g.O.Key.Codec.reading g.O.State.Codec.reading) (Fits g.O.Record.Codec.HasSpelling g.O.Record.Codec.spelling)
-    (IsGoodState (Fits g.O.State.Codec.HasSpelling g.O.State.Codec.spelling) g.O.Operator.Suits) old new c.is_fresh.ensures.kept
+    (inject_part rules.lang rules.RecordFits
+    rules.IsGood old new c.is_fresh.ensures.kept
     (record {
       goes = c.inject.ensures.goes;
       sound = c.inject.ensures.sound;

@@ -1,17 +1,16 @@
-use Rattle.abs_codec.specs.Spelling.{Fits}
-use Rattle.core_model.specs.Language.{language}
-use Rattle.operators.specs.Operator.{IsGoodState}
 use Rattle.std.proofs.Common.{ap}
 use Rattle.commit_sink.specs.Ledger.{Ledger, committed_rows}
 use Rattle.engine_rounds.proofs.Many.{begins_same}
 use Rattle.engine_settling.proofs.Ending.{complete_done, complete_fails}
+use Rattle.engine_settling.proofs.Rules.{rules_of}
 use Rattle.engine_settling.proofs.putting.complete.Goals as goal
 
 pub returns-in-Ok-clause-ends : goal.returns-in-Ok-clause-ends
 returns-in-Ok-clause-ends g c =
+    let rules = rules_of g.O.Operator g.O.Key.Ord g.O.Record.Codec g.O.Key.Codec g.O.State.Codec in
     let old = c.args.engine.now in
     let new = c.complete.new.self in
-    complete_done (language g.O.Operator.meaning g.O.Key.Ord.cmp g.O.Record.Codec.spelling g.O.Record.Codec.reading g.O.Key.Codec.reading g.O.State.Codec.reading) (Fits g.O.Record.Codec.HasSpelling g.O.Record.Codec.spelling) (IsGoodState (Fits g.O.State.Codec.HasSpelling g.O.State.Codec.spelling) g.O.Operator.Suits) old new c.is_fresh.ensures.kept
+    complete_done rules.lang rules.RecordFits rules.IsGood old new c.is_fresh.ensures.kept
     (record {
       goes = c.in-Ok.ensures.goes;
       sound = c.in-Ok.ensures.sound;
@@ -21,9 +20,10 @@ returns-in-Ok-clause-ends g c =
 
 pub returns-in-Err-clause-ends : goal.returns-in-Err-clause-ends
 returns-in-Err-clause-ends g c =
+    let rules = rules_of g.O.Operator g.O.Key.Ord g.O.Record.Codec g.O.Key.Codec g.O.State.Codec in
     let old = c.args.engine.now in
     let new = c.complete.new.self in
-    complete_fails (language g.O.Operator.meaning g.O.Key.Ord.cmp g.O.Record.Codec.spelling g.O.Record.Codec.reading g.O.Key.Codec.reading g.O.State.Codec.reading) (Fits g.O.Record.Codec.HasSpelling g.O.Record.Codec.spelling) (IsGoodState (Fits g.O.State.Codec.HasSpelling g.O.State.Codec.spelling) g.O.Operator.Suits) old new c.is_fresh.ensures.kept
+    complete_fails rules.lang rules.RecordFits rules.IsGood old new c.is_fresh.ensures.kept
     (record {
       goes = c.in-Err.ensures.goes;
       sound = c.in-Err.ensures.sound;

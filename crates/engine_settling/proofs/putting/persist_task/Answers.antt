@@ -1,27 +1,25 @@
 use Rattle.std.proofs.Common.{ap}
-use Rattle.abs_codec.specs.Spelling.{Fits}
 use Rattle.commit_sink.specs.Ledger.{Ledger, committed_rows}
-use Rattle.core_model.specs.Language.{language}
-use Rattle.operators.specs.Operator.{IsGoodState}
-use Rattle.task_part.specs.Spelling.{part_spelling}
 use Rattle.engine_rounds.proofs.Many.{begins_same}
 use Rattle.engine_settling.proofs.Bringing.{counted_done}
 use Rattle.engine_settling.proofs.Parts.{persist_part}
+use Rattle.engine_settling.proofs.Rules.{rules_of}
 use Rattle.engine_settling.proofs.putting.persist_task.Goals as goal
 
 pub returns-clause-ends : goal.returns-clause-ends
 returns-clause-ends g c =
+    let rules = rules_of g.O.Operator g.O.Key.Ord g.O.Record.Codec g.O.Key.Codec g.O.State.Codec in
     let old = c.args.engine.now in
     let new = c.persist.new.self in
     rw c.done.ensures
-    (persist_part (language g.O.Operator.meaning g.O.Key.Ord.cmp g.O.Record.Codec.spelling g.O.Record.Codec.reading g.O.Key.Codec.reading g.O.State.Codec.reading) (Fits g.O.Record.Codec.HasSpelling g.O.Record.Codec.spelling)
-    (IsGoodState (Fits g.O.State.Codec.HasSpelling g.O.State.Codec.spelling) g.O.Operator.Suits) old new c.is_fresh.ensures.kept
+    (persist_part rules.lang rules.RecordFits
+    rules.IsGood old new c.is_fresh.ensures.kept
     (record {
       goes = c.persist.ensures.goes;
       sound = c.persist.ensures.sound;
       begins = λ task subtask at. begins_same (committed_rows old.ledger subtask) (committed_rows new.ledger subtask) (ap (λ (l : Ledger). committed_rows l subtask) c.persist.ensures.ledger);
     })
-    c.persist.ensures.stays c.args.task c.requires.within (part_spelling g.O.Record.Codec.spelling g.O.Key.Codec.spelling g.O.State.Codec.spelling) c.requires.ended c.persist.result c.persist.ensures.ends)
+    c.persist.ensures.stays c.args.task c.requires.within rules.spelling c.requires.ended c.persist.result c.persist.ensures.ends)
 
 pub returns-clause-counted : goal.returns-clause-counted
 returns-clause-counted g c = rw c.done.ensures (counted_done c.args.engine.now.faults c.persist.new.self.faults c.persist.result c.persist.ensures.counted)
