@@ -21,7 +21,7 @@ use crate::parts::{Given, Made, Operand};
 use commit_sink::{TransactionFault, Transactions};
 use core_model::CoreFault;
 use job_graph::Graph;
-use job_state::{Attempt, Holding};
+use job_state::Attempt;
 use operators::{Operator, Outcome};
 
 /// An operator's outcome is taken.
@@ -86,7 +86,7 @@ fn put_bytes<O: Operator, X: Transactions>(
     ensures told { result ≢ Err CoreFault.Device
         → X.fault_count transactions.new ≡ X.fault_count transactions.old }
 {
-    let Some(Holding::Sink(sink)) = attempt.holding(task) else {
+    let Some(sink) = attempt.sink(task) else {
         return Err(CoreFault::NotReady);
     };
     let open = sink.open();

@@ -10,7 +10,7 @@ ghost use Rattle.claims.specs.Tasks.{RefusesRecord};
 use channels::Item;
 use core_model::CoreFault;
 use job_graph::Graph;
-use job_state::{Attempt, Holding};
+use job_state::Attempt;
 use operators::Operator;
 
 /// The channel that a task's input is.
@@ -30,10 +30,7 @@ pub(crate) fn state_at<'a, O: Operator>(
         → slice_get attempt.now.tasks task ≡ Some (Holding.Operator entries)
         → option_copied result ≡ state_of O.Key.cmp entries key.now }
 {
-    let Some(Holding::Operator(states)) = attempt.holding(task) else {
-        return None;
-    };
-    states.get(key.as_ref()?)
+    attempt.state(task, key.as_ref()?)
 }
 
 /// The record at the head of an input, which is this channel, where it may be taken.

@@ -12,13 +12,12 @@ ghost use Rattle.core_model.specs.Keeps.{AreHeld, GateFits};
 ghost use Rattle.job_state.specs.Held.{gate_at};
 ghost use Rattle.engine_moves.specs.Taking.{RefusesBarrier, GateAwaits, EndsBegin, EndsSinkCopy};
 
-use crate::reads::source_offset;
 use alignment::Effect;
 use channels::Item;
 use commit_sink::{TransactionFault, Transactions};
 use core_model::CoreFault;
 use job_graph::{Graph, Role};
-use job_state::{Attempt, Holding};
+use job_state::Attempt;
 use operators::Operator;
 
 /// The pending checkpoint, whose barrier stands at the head of an input, which is this channel, and
@@ -138,7 +137,7 @@ fn copy_sink<O: Operator, X: Transactions>(
     ensures told { result ≢ Err CoreFault.Device
         → X.fault_count transactions.new ≡ X.fault_count transactions.old }
 {
-    let Some(Holding::Sink(sink)) = attempt.holding(task) else {
+    let Some(sink) = attempt.sink(task) else {
         return Err(CoreFault::NotReady);
     };
     let open = sink.open();
@@ -212,10 +211,10 @@ pub fn inject<O: Operator>(
     let Some(checkpoint) = attempt.pending() else {
         return Err(CoreFault::NoCheckpoint);
     };
-    if attempt.copy(task).is_some() {
+    if attempt.has_copied(task) {
         return Err(CoreFault::NotReady);
     }
-    let Some(offset) = source_offset(attempt, task) else {
+    let Some(offset) = attempt.offset(task) else {
         return Err(CoreFault::NoSuchTask);
     };
     attempt.copy_source(graph, task, offset, checkpoint)?;

@@ -1,6 +1,6 @@
 //! Sources read records.
 
-ghost use Rattle.std.specs.Prelude.{◌≡◌, ◌≢◌, ◌<◌, ℕ, Err, Some, length, slice_get, OnOk, OnErr, IfSome, IfNone};
+ghost use Rattle.std.specs.Prelude.{◌≡◌, ◌≢◌, ◌<◌, ℕ, Err, Some, length, slice_get, OnOk, OnErr};
 ghost use Rattle.abs_codec.specs.Spelling.{Fits};
 ghost use Rattle.job_state.specs.declared.holding.Holding.TheVariants as Holding;
 ghost use Rattle.job_graph.specs.declared.role.Role.TheVariants as Role;
@@ -12,24 +12,9 @@ ghost use Rattle.source_log.specs.Partitions.{records_at};
 
 use core_model::CoreFault;
 use job_graph::{Graph, Role};
-use job_state::{Attempt, Holding};
+use job_state::Attempt;
 use operators::Operator;
 use source_log::{Partitions, SourceFault};
-
-/// The offset that a task holds, if it holds one.
-pub(crate) fn source_offset<O: Operator>(attempt: &Attempt<O>, task: u32) -> Option<u64>
-    ensures some { IfSome result (λ offset. slice_get attempt.now.tasks task
-        ≡ Some (Holding.Source offset)) }
-    ensures none { IfNone result ((offset : ℕ)
-        → slice_get attempt.now.tasks task ≡ Some (Holding.Source offset) → ⊥) }
-{
-    match attempt.holding(task) {
-        Some(Holding::Source(offset)) => Some(*offset),
-        Some(Holding::Operator(_)) => None,
-        Some(Holding::Sink(_)) => None,
-        None => None,
-    }
-}
 
 /// Source `task` sends its next record.
 pub fn read_next<O: Operator, P: Partitions<Record = O::Record>>(
@@ -59,7 +44,7 @@ pub fn read_next<O: Operator, P: Partitions<Record = O::Record>>(
     let Some(Role::Source(partition)) = graph.role(task) else {
         return Err(CoreFault::NoSuchTask);
     };
-    let Some(offset) = source_offset(attempt, task) else {
+    let Some(offset) = attempt.offset(task) else {
         return Err(CoreFault::NoSuchTask);
     };
     if log.len(partition).is_ok_and(|len| len <= offset) {

@@ -4,10 +4,10 @@ use Rattle.core_model.proofs.Numbers.{none_past}
 use Rattle.engine_moves.proofs.reads.read_next.Goals as goal
 
 -- a source holds an offset
-pub returns-in_default-source_offset-clause-ends : goal.returns-in_default-source_offset-clause-ends
-returns-in_default-source_offset-clause-ends g c =
+pub returns-in_default-offset-clause-ends : goal.returns-in_default-offset-clause-ends
+returns-in_default-offset-clause-ends g c =
     let held = c.requires.held c.args.task (Role.Source c.in-Some-Source.partition) (sym c.role.ensures ∙ (c.in-Some-Source.is ∙ ap Some c.in-Some-Source.field-0-is)) in
-    absurd (c.in_default-source_offset.ensures.none held.0 held.1)
+    absurd (c.in_default-offset.ensures.none held.0 held.1)
 
 -- nothing stands at the offset, so it is past the end
 pub returns-in-Ok-None-clause-ends : goal.returns-in-Ok-None-clause-ends
