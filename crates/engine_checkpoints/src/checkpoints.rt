@@ -1,6 +1,6 @@
 //! A checkpoint begins, its parts are put, it is complete, and its transactions are committed.
 
-ghost use Rattle.std.specs.Prelude.{◌≡◌, ◌≢◌, ◌<◌, ◌≤◌, ℕ, List, Ok, Err, Some, None, length, slice_get, false, IsSome, OnOk, IfOk, IfErr};
+ghost use Rattle.std.specs.Prelude.{◌≡◌, ◌≢◌, ◌<◌, ℕ, Ok, Err, Some, None, length, false, IsSome};
 ghost use Rattle.alignment.specs.declared.input.Phase.TheVariants.{AtRest};
 ghost use Rattle.coordinator.specs.Coordinator.{IsReady, has_acked, ack_refusal};
 ghost use Rattle.coordinator.specs.Coordinator as coordination;
@@ -90,7 +90,8 @@ fn put_part<O: Operator, S: SnapshotStore>(
     }
 }
 
-/// Puts the part of a task that has copied, and whose logs are closed.
+/// Puts the part of a task that has copied, and whose logs are closed. What is left of the copy is
+/// spelled first, and what was written since is merged.
 pub fn persist<O: Operator, S: SnapshotStore>(
     attempt: &mut Attempt<O>,
     graph: &Graph,
@@ -121,15 +122,19 @@ pub fn persist<O: Operator, S: SnapshotStore>(
     let Some(checkpoint) = attempt.pending() else {
         return Err(CoreFault::NoCheckpoint);
     };
-    if !attempt.has_copied(task) || !attempt.is_closed(task) || attempt.has_acked(task) {
+    if !attempt.has_copied(task) {
+        return Err(CoreFault::NotReady);
+    }
+    if !attempt.is_closed(task) || attempt.has_acked(task) {
         return Err(CoreFault::NotReady);
     }
     attempt.spell_all(task)?;
     put_part(attempt, graph, store, checkpoint, task)
 }
 
-/// Goes on with the part of a task that has copied, by at most `most` entries; where none are left,
-/// it is put, if its logs are closed.
+/// Goes on with the part of a task that has copied, by at most `most` entries: those of the copy
+/// are spelled, and then what was written since is merged. Where none are left, the part is put, if
+/// its logs are closed.
 pub fn persist_some<O: Operator, S: SnapshotStore>(
     attempt: &mut Attempt<O>,
     graph: &Graph,
