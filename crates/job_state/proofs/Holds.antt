@@ -1,17 +1,20 @@
 -- What an attempt holds after its calls.
-use Rattle.std.proofs.Common.{◌≡◌, ◌<◌, ◌+◌, ◌++◌, ℕ, Bool, true, List, [], ◌∷◌, length, map, slice_get, slice_set, unwrap_or, Option, Some, Result, Ok, Err, OnOk, OnErr, subst, sym, ap, ◌∙◌, arith, Ordering}
+use Rattle.std.proofs.Common.{◌≡◌, ◌<◌, ◌+◌, ◌++◌, ℕ, Bool, true, List, [], ◌∷◌, length, refl, None, replicate, false, map, slice_get, slice_set, unwrap_or, Option, Some, Result, Ok, Err, OnOk, OnErr, subst, sym, ap, ◌∙◌, arith, Ordering}
+use Rattle.std.specs.List.{range_with_len}
 use Rattle.std.proofs.lemmas.List.{length-set}
-use Rattle.alignment.specs.Table.{is_logged}
+use Rattle.alignment.specs.Table.{Alignment, is_logged}
 use Rattle.backedge_log.specs.Recorded.{without_last}
 use Rattle.channels.specs.declared.item.Item.{Item}
 use Rattle.channels.specs.declared.item.Item.TheVariants.{Record}
+use Rattle.coordinator.specs.Coordinator.{Coordination, at_first}
 use Rattle.dataflow_model.specs.Graph.{Meaning}
 use Rattle.dataflow_model.specs.Machine.{received}
 use Rattle.job_graph.specs.Expanded.{Expanded}
+use Rattle.task_part.specs.Spelling.{Logs}
 use Rattle.task_part.specs.declared.part.Part.{Part}
 use Rattle.task_part.specs.declared.part.Part.TheVariants as part
 use Rattle.job_state.specs.Sending.{Puts, items_at, barrier_into, without_head}
-use Rattle.job_state.specs.Held.{Held, Keeps, Reads, Operates, CopiesOperator, gate_at, logged_at, log_with, record_logged, barrier_taken}
+use Rattle.job_state.specs.Held.{Held, Keeps, Reads, Operates, CopiesSource, CopiesOperator, begun, opened, fresh_gate, gate_at, logged_at, log_with, record_logged, barrier_taken}
 use Rattle.job_state.specs.declared.holding.Holding.{Holding}
 use Rattle.job_state.specs.declared.holding.Holding.TheVariants as holds
 use Rattle.job_state.proofs.Logging.{logged_dropped}
@@ -59,6 +62,25 @@ module _ {R K S : Type 0} where
 
       back : slice_set seen.logs channel (without_last (logged_at seen channel)) ≡ before.logs
       back = ap (λ (h : Held R K S). slice_set h.logs channel (without_last (logged_at h channel))) whole ∙ logged_dropped before.logs channel row there
+
+  -- what an attempt holds that begins
+  pub begun_from : (graph : Expanded) (tasks held : List (Holding K S)) (openings : Logs R) (last_complete : Option ℕ) (count channel_count : ℕ) (channels : List (List (Item R))) (gates : List Alignment) (came : List Bool) (logs : List (List R)) (copies : List (Option (Part R K S))) (coordination : Coordination) →
+      held ≡ tasks → count ≡ length tasks → channel_count ≡ length graph.channels → channels ≡ map (λ number. map Record (opened openings number)) (range_with_len 0 channel_count) → gates ≡ map (fresh_gate graph) (range_with_len 0 count) →
+      came ≡ replicate channel_count false → logs ≡ replicate channel_count [] → copies ≡ replicate (length tasks) None → coordination ≡ record (at_first count) { last_complete = last_complete } →
+      ◌≡◌ {A = Held R K S} (record { tasks = held; channels = channels; gates = gates; came = came; logs = logs; copies = copies; coordination = coordination }) (begun graph tasks openings last_complete)
+  begun_from graph tasks held openings last_complete count channel_count channels gates came logs copies coordination a b c d e f g h i = rw (a, d, e, f, g, h, i, b, c) refl
+
+  pub copies_source_from : (graph : Expanded) (task offset checkpoint : ℕ) (seen old new : Held R K S) (tasks : List (Holding K S)) (copies : List (Option (Part R K S))) → seen ≡ old →
+      Puts (λ number. barrier_into checkpoint task (slice_get graph.channels number)) seen.channels new.channels →
+      tasks ≡ seen.tasks → copies ≡ slice_set seen.copies task (Some (part.Source offset)) →
+      new ≡ record seen { tasks = tasks; channels = new.channels; copies = copies } → CopiesSource graph task offset checkpoint old new
+  copies_source_from graph task offset checkpoint seen old new tasks copies same puts held copied ends = record {
+    sent = subst (λ (h : Held R K S). Puts (λ number. barrier_into checkpoint task (slice_get graph.channels number)) h.channels new.channels) same puts;
+    ends = ends
+        ∙ ap (λ l. record seen { tasks = l; channels = new.channels; copies = copies }) held
+        ∙ ap (λ l. record seen { channels = new.channels; copies = l }) copied
+        ∙ ap (λ (h : Held R K S). record h { channels = new.channels; copies = slice_set h.copies task (Some (part.Source offset)) }) same;
+  }
 
   pub copies_from : (graph : Expanded) (task input channel checkpoint : ℕ) (seen old new : Held R K S) (entries : List (K × S)) (tasks : List (Holding K S)) (copies : List (Option (Part R K S))) → seen ≡ old → slice_get old.tasks task ≡ Some (holds.Operator entries) →
       Puts (λ number. barrier_into checkpoint task (slice_get graph.channels number)) (without_head channel seen.channels) new.channels →
