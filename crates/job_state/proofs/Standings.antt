@@ -1,5 +1,5 @@
 -- The tasks as they are seen: what each holds, and each one's copy.
-use Rattle.std.proofs.Common.{◌≡◌, ◌<◌, ◌+◌, ℕ, suc, zero, List, [], ◌∷◌, length, take, replicate, get_or, Option, Some, slice_get, slice_set, refl, sym, ap, subst, ◌∙◌, arith}
+use Rattle.std.proofs.Common.{◌≡◌, ◌<◌, ◌+◌, ℕ, suc, zero, List, [], ◌∷◌, length, take, replicate, get_or, Option, Some, None, IsTrue, is_some, unwrap_or, slice_get, slice_set, refl, sym, ap, subst, ◌∙◌, arith, rules}
 use Rattle.std.specs.Option.{option_map}
 use Rattle.std.proofs.lemmas.List.{map-set, length-map}
 use Rattle.std.proofs.lemmas.Option.{slice_get-map, slice_get-get_or, slice_get_within, same_Some}
@@ -21,8 +21,13 @@ module _ {R K S : Type 0} (tasks : List (Standing R K S)) (n : ℕ) where
   pub holder_within : (holding : Holding K S) → slice_get (holdings_of tasks) n ≡ Some holding → n < length tasks
   holder_within holding is = omega (arith, slice_get_within (holdings_of tasks) n holding is, length-map tasks (λ t. t.holding))
 
-  pub copier_within : (copy : Option (Part R K S)) → slice_get (copies_of tasks) n ≡ Some copy → n < length tasks
-  copier_within copy is = omega (arith, slice_get_within (copies_of tasks) n copy is, length-map tasks (λ t. t.copy))
+  copied_in : (copy : Option (Option (Part R K S))) → slice_get (copies_of tasks) n ≡ copy → IsTrue (is_some (unwrap_or copy None)) → n < length tasks
+  copied_in (Some copy) at is = omega (arith, slice_get_within (copies_of tasks) n copy at, length-map tasks (λ t. t.copy))
+  copied_in None at is = absurd (search rules)
+
+  -- and so is one that has copied
+  pub copied_within : IsTrue (is_some (unwrap_or (slice_get (copies_of tasks) n) None)) → n < length tasks
+  copied_within is = copied_in (slice_get (copies_of tasks) n) refl is
 
   module _ (d : Standing R K S) (within : n < length tasks) where
     pub holding_here : slice_get (holdings_of tasks) n ≡ Some (get_or tasks n d).holding

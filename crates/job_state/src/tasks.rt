@@ -50,7 +50,8 @@ pub(crate) fn advance<R: Codec, K: Codec + Ord, S: Codec>(
     task: u32,
     offset: u64,
 )
-    requires { (before : ℕ) × (slice_get (holdings_of tasks.old) task
+    requires there { task < length tasks.old }
+    requires holds { (before : ℕ) × (slice_get (holdings_of tasks.old) task
         ≡ Some (Holding.Source before)) }
     ensures holdings { holdings_of tasks.new
         ≡ slice_set (holdings_of tasks.old) task (Holding.Source offset) }
@@ -66,7 +67,8 @@ pub(crate) fn copy_offset<R: Codec, K: Codec + Ord, S: Codec>(
     task: u32,
     offset: u64,
 )
-    requires { slice_get (holdings_of tasks.old) task ≡ Some (Holding.Source offset) }
+    requires there { task < length tasks.old }
+    requires holds { slice_get (holdings_of tasks.old) task ≡ Some (Holding.Source offset) }
     ensures holdings { holdings_of tasks.new ≡ holdings_of tasks.old }
     ensures copies { copies_of tasks.new
         ≡ slice_set (copies_of tasks.old) task (Some (Part.Source offset)) }
@@ -79,7 +81,8 @@ pub(crate) fn copy_states<R: Codec, K: Codec + Ord, S: Codec>(
     tasks: &mut [Task<R, K, S>],
     task: u32,
 ) -> Result<(), NoMemory>
-    requires { (entries : List (K × S)) × (slice_get (holdings_of tasks.old) task
+    requires there { task < length tasks.old }
+    requires holds { (entries : List (K × S)) × (slice_get (holdings_of tasks.old) task
         ≡ Some (Holding.Operator entries)) }
     ensures holdings { holdings_of tasks.new ≡ holdings_of tasks.old }
     ensures ok { OnOk result ((entries : List (K × S))
@@ -116,7 +119,8 @@ pub(crate) fn keep<O: Operator>(
     key: Option<O::Key>,
     state: O::State,
 ) -> Result<(), NoMemory>
-    requires { (entries : List (O.Key × O.State)) × (slice_get (holdings_of tasks.old) task
+    requires there { task < length tasks.old }
+    requires holds { (entries : List (O.Key × O.State)) × (slice_get (holdings_of tasks.old) task
         ≡ Some (Holding.Operator entries)) }
     ensures ok { OnOk result ((before after : Holding O.Key O.State)
         × (slice_get (holdings_of tasks.old) task ≡ Some before)

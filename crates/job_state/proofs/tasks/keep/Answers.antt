@@ -1,12 +1,17 @@
-use Rattle.std.proofs.Common.{refl}
-use Rattle.job_state.proofs.Standings.{holdings_set, copies_kept, holder_within, holding_here}
-use Rattle.job_state.proofs.Holds.{on_ok}
+use Rattle.std.proofs.Common.{refl, ap}
+use Rattle.job_state.specs.declared.holding.Holding.TheVariants as Holding
+use Rattle.job_state.proofs.Holds.{on_ok, on_refused}
+use Rattle.job_state.proofs.Standings.{holdings_set, holdings_kept, copies_kept, holding_here, held}
 use Rattle.job_state.proofs.tasks.keep.Goals as goal
 
+pub keep-requires : goal.keep-requires
+keep-requires g c = (c.requires.holds.0, held c.args.tasks.now c.args.task c.index-tasks-task.result c.requires.there (Holding.Operator c.requires.holds.0) c.requires.holds.1)
+
 pub returns-clause-ok : goal.returns-clause-ok
-returns-clause-ok g c =
-    let within = holder_within c.args.tasks.now c.args.task _ c.requires.1 in
-    on_ok c.keep.result (λ keeps. (_, _, holding_here c.args.tasks.now c.args.task c.index-tasks-task.result within, holdings_set c.args.tasks.now c.args.task c.keep.new.task _ refl, keeps)) c.keep.ensures.ok
+returns-clause-ok g c = on_ok c.keep.result (λ keeps. (_, _, holding_here c.args.tasks.now c.args.task c.index-tasks-task.result c.requires.there, holdings_set c.args.tasks.now c.args.task c.keep.new.task _ refl, keeps)) c.keep.ensures.ok
 
 pub returns-clause-copies : goal.returns-clause-copies
-returns-clause-copies g c = copies_kept c.args.tasks.now c.args.task c.index-tasks-task.result (holder_within c.args.tasks.now c.args.task _ c.requires.1) c.keep.new.task c.keep.ensures.copy
+returns-clause-copies g c = copies_kept c.args.tasks.now c.args.task c.index-tasks-task.result c.requires.there c.keep.new.task c.keep.ensures.copy
+
+pub returns-clause-err : goal.returns-clause-err
+returns-clause-err g c = on_refused c.keep.result (λ same. holdings_kept c.args.tasks.now c.args.task c.index-tasks-task.result c.requires.there c.keep.new.task (ap (λ t. t.holding) same)) c.keep.ensures.err

@@ -1,4 +1,4 @@
-use Rattle.std.proofs.Common.{[], Some, slice_get, slice_set, refl, sym, ap, ◌∙◌, arith}
+use Rattle.std.proofs.Common.{[], Some, length, slice_get, slice_set, refl, sym, ap, ◌∙◌, arith}
 use Rattle.std.proofs.lemmas.List.{with_items_is}
 use Rattle.std.specs.Vec.{with_items}
 use Rattle.alignment.specs.Inputs.{with_barrier}
@@ -6,9 +6,36 @@ use Rattle.alignment.specs.Table.{after, effect_of}
 use Rattle.task_part.specs.declared.part.Part.TheVariants as Part
 use Rattle.job_state.specs.Inside.{gate_in, holdings_of, copies_of}
 use Rattle.job_state.specs.Sending.{contents_items, without_head, put_into}
+use Rattle.job_state.proofs.Putting.{are_channels, has_room_at}
 use Rattle.job_state.proofs.Received.{barriers_put}
-use Rattle.job_state.proofs.Holds.{puts_at, copies_from}
+use Rattle.job_state.proofs.Holds.{on_err, held_kept, puts_at, copies_from}
+use Rattle.job_state.proofs.Standings.{holder_within}
 use Rattle.job_state.proofs.attempt.Attempt.copy_operator.Goals as goal
+
+-- the task holds states
+pub copy_states-requires : goal.copy_states-requires
+copy_states-requires g c =
+    let holds = ap (λ l. slice_get (holdings_of l) c.args.task) c.deref_mut-2.ensures.value ∙ (ap (λ h. slice_get h.tasks c.args.task) c.self.view_is ∙ c.requires.holds.1) in
+    record { there = holder_within c.deref_mut-2.result.now c.args.task _ holds; holds = (c.requires.holds.0, holds) }
+
+pub returns-in_err-copy_states-clause-err : goal.returns-in_err-copy_states-clause-err
+returns-in_err-copy_states-clause-err g c =
+    let items = with_items_is c.self.inside.channels c.reserve_barriers.new.channels (omega arith) in
+    let tasks = with_items_is c.self.inside.tasks c.copy_states.new.tasks (omega arith) in
+    let stands = c.deref_mut-2.ensures.value in
+    on_err c.from_residual-in_err-copy_states.result _
+    (held_kept _ c.args.self.now _ _ _ _ _ c.self.view_is
+    (ap (λ l. holdings_of l) tasks ∙ c.copy_states.ensures.holdings ∙ ap (λ l. holdings_of l) stands)
+    (ap (λ l. contents_items l) items ∙ c.in_ok-puts.ensures.same ∙ ap (λ l. contents_items l) c.deref_mut.ensures.value)
+    refl refl
+    (ap (λ l. copies_of l) tasks ∙ c.in_err-copy_states.ensures.err ∙ ap (λ l. copies_of l) stands))
+
+-- there is room for the barriers
+pub pass_on-requires : goal.pass_on-requires
+pass_on-requires g c =
+    let items = with_items_is c.self.inside.channels c.reserve_barriers.new.channels (omega arith) in
+    let stood = c.deref_mut-3.ensures.value ∙ items in
+    record { there = are_channels refl (omega (arith, ap (λ l. length l) stood)) c.in_ok-puts.ensures.there; room = has_room_at c.in_ok-puts.puts.items stood c.in_ok-puts.ensures.room }
 
 pub returns-clause-ok : goal.returns-clause-ok
 returns-clause-ok g c =

@@ -8,7 +8,14 @@ use Rattle.job_state.specs.Sending.{contents_items, items_at, without_head, put_
 use Rattle.job_state.proofs.Putting.{has_room_at}
 use Rattle.job_state.proofs.Received.{received_is_put}
 use Rattle.job_state.proofs.Holds.{on_err, held_kept, puts_at, operates_from}
+use Rattle.job_state.proofs.Standings.{holder_within}
 use Rattle.job_state.proofs.attempt.Attempt.operate.Goals as goal
+
+-- the task holds states
+pub keep-requires : goal.keep-requires
+keep-requires g c =
+    let holds = ap (λ l. slice_get (holdings_of l) c.args.task) c.deref_mut-2.ensures.value ∙ (ap (λ h. slice_get h.tasks c.args.task) c.self.view_is ∙ c.requires.holds.1) in
+    record { there = holder_within c.deref_mut-2.result.now c.args.task _ holds; holds = (c.requires.holds.0, holds) }
 
 pub returns-in_err-keep-clause-err : goal.returns-in_err-keep-clause-err
 returns-in_err-keep-clause-err g c =

@@ -1,15 +1,30 @@
-use Rattle.std.proofs.Common.{◌≡◌, Option, Some, None, unwrap_or, slice_get, refl, ap, subst, ◌∙◌, arith}
+use Rattle.std.proofs.Common.{◌≡◌, Option, Some, None, IsTrue, is_some, unwrap_or, length, slice_get, refl, sym, ap, subst, ◌∙◌, arith, rules}
 use Rattle.std.proofs.lemmas.List.{with_items_is}
 use Rattle.task_part.specs.Spelling.{logs_now, part_spelling, PartIsSpelled}
-use Rattle.job_state.specs.Held.{logs_of, with_logs}
+use Rattle.job_state.specs.Held.{copy_at, logs_of, with_logs}
 use Rattle.job_state.specs.Inside.{holdings_of, copies_of, part_in}
 use Rattle.job_state.proofs.Holds.{held_kept}
+use Rattle.job_state.proofs.Standings.{copied_within}
 use Rattle.job_state.proofs.attempt.Attempt.part.Goals as goal
 
 -- a copy that is there
 copied_at : {A : Type 0} (o : Option (Option A)) (p : A) → unwrap_or o None ≡ Some p → o ≡ Some (Some p)
 copied_at (Some copy) p is = ap Some is
 copied_at None p is = absurd cc
+
+-- a task that has copied is there
+pub part-requires : goal.part-requires
+part-requires g c =
+    let tasks = with_items_is c.self.inside.tasks c.spell_part.new.tasks (omega arith) in
+    let here = copied_within c.self.inside.tasks.items c.args.task (subst (λ h. IsTrue (is_some (copy_at h c.args.task))) (sym c.self.view_is) c.requires) in
+    omega (arith, here, ap (λ l. length l) (c.deref-2.ensures.value ∙ tasks), ap (λ l. length l) c.deref_mut.ensures.value)
+
+pub returns-in_err-spell_part : goal.returns-in_err-spell_part
+returns-in_err-spell_part g c =
+    let stands = c.deref_mut.ensures.value in
+    let tasks = with_items_is c.self.inside.tasks c.spell_part.new.tasks (omega arith) in
+    let stays = held_kept _ c.args.self.now _ _ _ _ _ c.self.view_is (ap (λ l. holdings_of l) tasks ∙ c.spell_part.ensures.holdings ∙ ap (λ l. holdings_of l) stands) refl refl refl (ap (λ l. copies_of l) tasks ∙ c.spell_part.ensures.copies ∙ ap (λ l. copies_of l) stands) in
+    ((refl, (λ n. tt), stays), record { stays = tt; spelled = search rules })
 
 pub returns : goal.returns
 returns g c =

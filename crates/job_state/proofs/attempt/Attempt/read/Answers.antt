@@ -4,11 +4,14 @@ use Rattle.job_state.specs.declared.holding.Holding.TheVariants as Holding
 use Rattle.job_state.specs.Inside.{holdings_of, copies_of}
 use Rattle.job_state.specs.Sending.{contents_items}
 use Rattle.job_state.proofs.Holds.{puts_at, reads_from}
+use Rattle.job_state.proofs.Standings.{holder_within}
 use Rattle.job_state.proofs.attempt.Attempt.read.Goals as goal
 
 -- the task holds the offset
 pub advance-requires : goal.advance-requires
-advance-requires g c = (c.args.offset, ap (λ l. slice_get (holdings_of l) c.args.task) c.deref_mut-2.ensures.value ∙ (ap (λ h. slice_get h.tasks c.args.task) c.self.view_is ∙ c.requires.holds))
+advance-requires g c =
+    let holds = ap (λ l. slice_get (holdings_of l) c.args.task) c.deref_mut-2.ensures.value ∙ (ap (λ h. slice_get h.tasks c.args.task) c.self.view_is ∙ c.requires.holds) in
+    record { there = holder_within c.deref_mut-2.result.now c.args.task _ holds; holds = (c.args.offset, holds) }
 
 pub returns-clause-ok : goal.returns-clause-ok
 returns-clause-ok g c =
