@@ -1,4 +1,3 @@
-use Rattle.std.proofs.Common.{◌≡◌, ℕ, List, ap, ◌∙◌, subst}
 use Rattle.job_state.specs.Held.{logs_of, with_logs}
 use Rattle.task_part.specs.Laws.{part_code}
 use Rattle.task_part.specs.Spelling.{part_spelling, part_at, PartIsSpelled}
