@@ -5,8 +5,8 @@ use Rattle.absflow_run.specs.declared.answer.Asked.{Asked}
 use Rattle.absflow_run.specs.declared.answer.Asked.TheVariants as asked
 use Rattle.claims.specs.Carried.{given_of}
 use Rattle.claims.specs.declared.parts.Made.{Made}
-use Rattle.core_model.specs.Language.{Language}
-use Rattle.core_model.specs.declared.fault.CoreFault.{CoreFault}
+use Rattle.engine_model.specs.Language.{Language}
+use Rattle.engine_model.specs.declared.fault.CoreFault.{CoreFault}
 use Rattle.dataflow_core.specs.Claims.{Refuses, Claims, EndsFinish}
 use Rattle.dataflow_core.specs.CoreState.{CoreState}
 use Rattle.dataflow_core.specs.Desks.{ClaimedJob, DeskJobs}

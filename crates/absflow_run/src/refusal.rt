@@ -4,7 +4,7 @@ ghost use Rattle.std.specs.Prelude.{◌≡◌, ◌≢◌, ◌≤◌};
 ghost use Rattle.absflow_run.specs.Telling.{TellsJob, TellsScript};
 ghost use Rattle.absflow_run.specs.declared.refusal.Refusal.TheVariants as Refusal;
 ghost use Rattle.abs_codec.specs.declared.fault.CodecFault.TheVariants as CodecFault;
-ghost use Rattle.core_model.specs.declared.fault.CoreFault.TheVariants as CoreFault;
+ghost use Rattle.engine_model.specs.declared.fault.CoreFault.TheVariants as CoreFault;
 ghost use Rattle.source_log.specs.declared.partitions.SourceFault.TheVariants as SourceFault;
 
 use abs_codec::{CodecFault, NoMemory};

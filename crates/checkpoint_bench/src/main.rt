@@ -149,12 +149,7 @@ fn work_on<
     X: Transactions + Drop,
     P: Partitions<Record = O::Record> + Drop,
     R: Clock,
->(
-    rt: &R,
-    core: Core<O, S, X, P>,
-    keys: u64,
-    checkpoints: u64,
-) -> Option<(Cost, usize)> {
+>(rt: &R, core: Core<O, S, X, P>, keys: u64, checkpoints: u64) -> Option<(Cost, usize)> {
     let mut core = core;
     let cost = work(rt, &mut core, keys, checkpoints)?;
     let (_, mut store, _) = core.into_durable();
@@ -164,12 +159,7 @@ fn work_on<
 }
 
 /// What so many checkpoints of so many keys cost.
-fn measure<R: Clock>(
-    rt: &R,
-    alloc: Global,
-    keys: u64,
-    checkpoints: u64,
-) -> Option<(Cost, usize)> {
+fn measure<R: Clock>(rt: &R, alloc: Global, keys: u64, checkpoints: u64) -> Option<(Cost, usize)> {
     let job = JobSpec::read(alloc, JOB.as_bytes()).ok()?;
     let graph = Graph::expand(alloc, &job).ok()?;
     let operators: Vec<RowOp> = job.operators(alloc).ok()?;

@@ -15,11 +15,11 @@ use Rattle.job_state.specs.Held.{Held, Operates, gate_at}
 use Rattle.job_state.specs.Sending.{items_at}
 use Rattle.job_state.specs.declared.holding.Holding.TheVariants as holds
 use Rattle.operators.specs.declared.operator.Outcome.{Outcome}
-use Rattle.core_model.specs.Calls.{input_at, state_of, IsRecordDue, OperatesNext}
-use Rattle.core_model.specs.Keeps.{GateFits}
-use Rattle.core_model.specs.Language.{Language}
-use Rattle.core_model.proofs.Gates.{within_gate}
-use Rattle.core_model.proofs.Numbers.{none_past, operator_within}
+use Rattle.engine_model.specs.Calls.{input_at, state_of, IsRecordDue, OperatesNext}
+use Rattle.engine_model.specs.Keeps.{GateFits}
+use Rattle.engine_model.specs.Language.{Language}
+use Rattle.engine_model.proofs.Shape.Gates.{within_gate}
+use Rattle.engine_model.proofs.Numbers.{none_past, operator_within}
 use Rattle.claims.specs.Carried.{state_worked, IsOperand, IsOutcome}
 use Rattle.claims.specs.Due.{IsOperandDue, EndsTaking}
 use Rattle.claims.specs.declared.parts.Operand.{Operand}

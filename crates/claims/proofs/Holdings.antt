@@ -5,8 +5,8 @@ use Rattle.commit_sink.specs.Ledger.{Ledger, Ends}
 use Rattle.commit_sink.specs.declared.transactions.TransactionFault.{TransactionFault}
 use Rattle.commit_sink.specs.declared.transactions.TransactionFault.TheVariants.{Memory}
 use Rattle.abs_codec.specs.Entries.{value_at}
-use Rattle.core_model.specs.Calls.{state_of}
-use Rattle.core_model.proofs.Lists.{set_length}
+use Rattle.engine_model.specs.Calls.{state_of}
+use Rattle.engine_model.proofs.Lists.{set_length}
 use Rattle.dataflow_model.specs.Graph.{Meaning}
 use Rattle.job_graph.specs.Expanded.{Expanded}
 use Rattle.job_state.specs.Held.{Held, Operates, log_with}

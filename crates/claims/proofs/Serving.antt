@@ -9,9 +9,9 @@ use Rattle.job_graph.specs.declared.role.Role.{Role}
 use Rattle.job_graph.specs.declared.role.Role.TheVariants as role
 use Rattle.job_state.specs.Held.{Held}
 use Rattle.job_state.specs.declared.holding.Holding.TheVariants as holds
-use Rattle.core_model.specs.Keeps.{GateFits}
-use Rattle.core_model.proofs.LedgerSinks.{open_not_refused}
-use Rattle.core_model.proofs.Numbers.{none_past, operator_within, sink_within}
+use Rattle.engine_model.specs.Keeps.{GateFits}
+use Rattle.engine_model.proofs.Ledger.Sinks.{open_not_refused}
+use Rattle.engine_model.proofs.Numbers.{none_past, operator_within, sink_within}
 use Rattle.claims.specs.Tasks.{Serves}
 
 module _ {R K S O : Type 0} (cmp : K → K → Ordering) (RecordFits : R → Type 0) (IsGood : O → S → Type 0) (graph : Expanded) (operators : List O) (ledger : Ledger) (h : Held R K S) (serves : Serves cmp RecordFits IsGood graph operators ledger h) (task : ℕ) where

@@ -5,9 +5,9 @@ use Rattle.job_graph.specs.Expanded.{Expanded}
 use Rattle.job_graph.specs.declared.role.Role.{Role}
 use Rattle.job_graph.specs.declared.role.Role.TheVariants as role
 use Rattle.job_state.specs.Held.{Held}
-use Rattle.core_model.specs.Calls.{EndsOperate, EndsPutOut, input_at}
-use Rattle.core_model.specs.Language.{Language}
-use Rattle.core_model.specs.declared.fault.CoreFault.{CoreFault}
+use Rattle.engine_model.specs.Calls.{EndsOperate, EndsPutOut, input_at}
+use Rattle.engine_model.specs.Language.{Language}
+use Rattle.engine_model.specs.declared.fault.CoreFault.{CoreFault}
 use Rattle.claims.specs.Tasks.{WorksAs, EndsWork}
 
 -- an operator's work is a task's

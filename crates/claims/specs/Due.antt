@@ -6,10 +6,10 @@ use Rattle.job_graph.specs.declared.role.Role.{Role}
 use Rattle.job_graph.specs.declared.role.Role.TheVariants as role
 use Rattle.job_state.specs.Held.{Held}
 use Rattle.job_state.specs.declared.holding.Holding.TheVariants as holds
-use Rattle.core_model.specs.Calls.{input_at, state_of, IsBlocked, NoRecord, IsRecordDue}
-use Rattle.core_model.specs.Language.{Language}
-use Rattle.core_model.specs.declared.fault.CoreFault.{CoreFault}
-use Rattle.core_model.specs.declared.fault.CoreFault.TheVariants.{NoSuchTask, NotReady, ChannelBlocked, WrongResult, Memory, Device}
+use Rattle.engine_model.specs.Calls.{input_at, state_of, IsBlocked, NoRecord, IsRecordDue}
+use Rattle.engine_model.specs.Language.{Language}
+use Rattle.engine_model.specs.declared.fault.CoreFault.{CoreFault}
+use Rattle.engine_model.specs.declared.fault.CoreFault.TheVariants.{NoSuchTask, NotReady, ChannelBlocked, WrongResult, Memory, Device}
 use Rattle.claims.specs.Tasks.{EndsWork}
 use Rattle.claims.specs.declared.parts.Operand.{Operand}
 use Rattle.claims.specs.declared.parts.Given.{Given}

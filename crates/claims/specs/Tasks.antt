@@ -10,11 +10,11 @@ use Rattle.job_graph.specs.declared.role.Role.{Role}
 use Rattle.job_graph.specs.declared.role.Role.TheVariants as role
 use Rattle.job_state.specs.Held.{Held}
 use Rattle.job_state.specs.declared.holding.Holding.TheVariants as holds
-use Rattle.core_model.specs.Calls.{input_at, IsBlocked, NoRecord, EndsOperate, EndsPutOut, EndsOperatorBarrier, EndsSinkBarrier}
-use Rattle.core_model.specs.Keeps.{Shape, SinkIn}
-use Rattle.core_model.specs.Language.{Language}
-use Rattle.core_model.specs.declared.fault.CoreFault.{CoreFault}
-use Rattle.core_model.specs.declared.fault.CoreFault.TheVariants.{NoSuchTask, NotReady, ChannelBlocked}
+use Rattle.engine_model.specs.Calls.{input_at, IsBlocked, NoRecord, EndsOperate, EndsPutOut, EndsOperatorBarrier, EndsSinkBarrier}
+use Rattle.engine_model.specs.Keeps.{Shape, SinkIn}
+use Rattle.engine_model.specs.Language.{Language}
+use Rattle.engine_model.specs.declared.fault.CoreFault.{CoreFault}
+use Rattle.engine_model.specs.declared.fault.CoreFault.TheVariants.{NoSuchTask, NotReady, ChannelBlocked}
 
 -- what a running job holds, by its graph, its operators and its transactions
 pub record Serves {R K S O : Type 0} (cmp : K → K → Ordering) (RecordFits : R → Type 0) (IsGood : O → S → Type 0) (graph : Expanded) (operators : List O) (ledger : Ledger) (held : Held R K S) : Type 0 where

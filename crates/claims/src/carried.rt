@@ -1,13 +1,13 @@
 //! Work, and what was made of it.
 
 ghost use Rattle.std.specs.Prelude.{◌≡◌, IfOk, IfErr};
-ghost use Rattle.core_model.specs.declared.fault.CoreFault.TheVariants as CoreFault;
+ghost use Rattle.engine_model.specs.declared.fault.CoreFault.TheVariants as CoreFault;
 ghost use Rattle.claims.specs.declared.parts.Given.TheVariants as Given;
 ghost use Rattle.claims.specs.Carried.{IsOperand, IsOutcome, given_of};
 
 use crate::parts::{Given, Made, Operand};
 use abs_codec::{Codec, NoMemory};
-use core_model::{CoreFault, Rules};
+use engine_model::{CoreFault, Rules};
 use operators::{Operator, Outcome};
 use std::alloc::Global;
 use std::marker::Model;

@@ -4,14 +4,14 @@ ghost use Rattle.std.specs.Prelude.{◌≡◌, ◌<◌, ◌↔◌, ℕ, List, So
 ghost use Rattle.std.specs.Option.{option_copied};
 ghost use Rattle.job_state.specs.Held.{gate_at};
 ghost use Rattle.job_state.specs.declared.holding.Holding.TheVariants as Holding;
-ghost use Rattle.core_model.specs.Calls.{state_of, IsRecordDue};
-ghost use Rattle.core_model.specs.Keeps.{GateFits, Shape};
+ghost use Rattle.engine_model.specs.Calls.{state_of, IsRecordDue};
+ghost use Rattle.engine_model.specs.Keeps.{GateFits, Shape};
 ghost use Rattle.claims.specs.Carried.{IsGiven};
 ghost use Rattle.claims.specs.Due.{WorksFrom, IsOperandDue, IsRowDue, IsDue};
 
 use crate::inputs::{first_record, input_of, state_at};
 use crate::parts::{Given, Operand};
-use core_model::Rules;
+use engine_model::Rules;
 use job_graph::{Graph, Role};
 use job_state::Attempt;
 use operators::Operator;

@@ -4,11 +4,11 @@ ghost use Rattle.std.specs.Prelude.{◌≡◌, ◌<◌, List, Some, length, slic
 ghost use Rattle.std.specs.Option.{option_copied};
 ghost use Rattle.job_state.specs.Held.{gate_at};
 ghost use Rattle.job_state.specs.declared.holding.Holding.TheVariants as Holding;
-ghost use Rattle.core_model.specs.Calls.{input_at, state_of, IsRecordDue};
+ghost use Rattle.engine_model.specs.Calls.{input_at, state_of, IsRecordDue};
 ghost use Rattle.claims.specs.Tasks.{RefusesRecord};
 
 use channels::Item;
-use core_model::CoreFault;
+use engine_model::CoreFault;
 use job_graph::Graph;
 use job_state::Attempt;
 use operators::Operator;

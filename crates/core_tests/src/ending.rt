@@ -2,7 +2,7 @@
 //! exactly once.
 
 ghost use Rattle.std.specs.Prelude.{IsTrue};
-ghost use Rattle.core_model.specs.ExactlyOnce.{IsExactlyOnce};
+ghost use Rattle.engine_model.specs.ExactlyOnce.{IsExactlyOnce};
 
 use commit_sink::Transactions;
 use dataflow_core::{Core, CoreFault, Drained, Rules};

@@ -7,7 +7,7 @@ use crate::lists::{almost_spent, store_of_lists};
 use crate::test_core::TestCore;
 use abs_codec::{Bytes, Map};
 use commit_sink::{MemoryTransactions, Progress};
-use core_model::Start;
+use engine_model::Start;
 use operators::RowOp;
 use recovery::Restored;
 use snapshot_store::MemoryStore;

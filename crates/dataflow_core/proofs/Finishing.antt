@@ -4,12 +4,12 @@ use Rattle.claims.specs.Due.{EndsAccept}
 use Rattle.claims.specs.declared.parts.Made.{Made}
 use Rattle.claims.specs.declared.parts.Made.TheVariants as made
 use Rattle.commit_sink.specs.Ledger.{Ledger}
-use Rattle.core_model.specs.Calls.{input_at}
-use Rattle.core_model.specs.Language.{Language}
-use Rattle.core_model.specs.State.{State}
-use Rattle.core_model.specs.declared.fault.CoreFault.{CoreFault}
-use Rattle.core_model.specs.declared.fault.CoreFault.TheVariants.{NotRunning}
-use Rattle.core_plain.specs.Plain.{StepsIfOk, Stays}
+use Rattle.engine_model.specs.Calls.{input_at}
+use Rattle.engine_model.specs.Language.{Language}
+use Rattle.engine_model.specs.State.{State}
+use Rattle.engine_model.specs.declared.fault.CoreFault.{CoreFault}
+use Rattle.engine_model.specs.declared.fault.CoreFault.TheVariants.{NotRunning}
+use Rattle.engine_plain.specs.Plain.{StepsIfOk, Stays}
 use Rattle.dataflow_model.specs.Machine as machine
 use Rattle.engine.specs.Running.{OnTransactions}
 use Rattle.job_graph.specs.Expanded.{Expanded}

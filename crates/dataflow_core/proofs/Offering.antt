@@ -4,9 +4,9 @@ use Rattle.job_state.specs.Held.{Held}
 use Rattle.claims.specs.Due.{IsWorker, IsDue, EndsOffer}
 use Rattle.claims.specs.declared.parts.Given.{Given}
 use Rattle.claims.specs.declared.parts.Given.TheVariants as given
-use Rattle.core_model.specs.Language.{Language}
-use Rattle.core_model.specs.declared.fault.CoreFault.{CoreFault}
-use Rattle.core_model.specs.declared.fault.CoreFault.TheVariants.{NotRunning, NoSuchTask, NotReady, ChannelBlocked, Busy, Stale, WrongResult, CheckpointPending, NoCheckpoint, NotAllAcked, Memory, Device, CommitFault, NumbersSpent, BadSnapshot}
+use Rattle.engine_model.specs.Language.{Language}
+use Rattle.engine_model.specs.declared.fault.CoreFault.{CoreFault}
+use Rattle.engine_model.specs.declared.fault.CoreFault.TheVariants.{NotRunning, NoSuchTask, NotReady, ChannelBlocked, Busy, Stale, WrongResult, CheckpointPending, NoCheckpoint, NotAllAcked, Memory, Device, CommitFault, NumbersSpent, BadSnapshot}
 use Rattle.dataflow_core.specs.Claims.{IsBusy, HasRecord, RefusesClaim, Refuses, MayClaim, spent_as}
 use Rattle.dataflow_core.specs.CoreState.{CoreState}
 

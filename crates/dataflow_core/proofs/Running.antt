@@ -1,7 +1,7 @@
 -- Lists of calls, one call longer.
 use Rattle.std.proofs.Common.{◌≡◌, ℕ, Option, Some, MatchOption, List, [], ◌∷◌, ◌++◌, refl, sym, subst}
 use Rattle.task_part.specs.declared.part.Part.{Part}
-use Rattle.core_model.specs.Language.{Language}
+use Rattle.engine_model.specs.Language.{Language}
 use Rattle.dataflow_core.specs.CoreState.{CoreState}
 use Rattle.dataflow_core.specs.Desks.{ClaimedJob, DeskJobs, job_at}
 use Rattle.dataflow_core.specs.Runs.{EndsJob, EndsNoJob, EndsFinishing, EndsStep, IsRun}

@@ -1,9 +1,9 @@
 -- Calls that make many steps, which want a job that runs, and no claim out.
 use Rattle.std.proofs.Common.{◌≡◌, ◌≢◌, ◌⊎◌, inl, inr, Option, Some, None, Result, Err, MatchOption, List, [], refl, ap, subst, sym}
-use Rattle.core_model.specs.Language.{Language}
-use Rattle.core_model.specs.State.{State}
-use Rattle.core_model.specs.declared.fault.CoreFault.{CoreFault}
-use Rattle.core_model.specs.declared.fault.CoreFault.TheVariants.{NotRunning, Busy}
+use Rattle.engine_model.specs.Language.{Language}
+use Rattle.engine_model.specs.State.{State}
+use Rattle.engine_model.specs.declared.fault.CoreFault.{CoreFault}
+use Rattle.engine_model.specs.declared.fault.CoreFault.TheVariants.{NotRunning, Busy}
 use Rattle.dataflow_model.specs.Machine.{Move}
 use Rattle.engine_rounds.specs.Works.{Works}
 use Rattle.engine_rounds.proofs.Many.{works_none}

@@ -1,14 +1,14 @@
 -- How each call ends, of the engine before and after.
 use Rattle.std.specs.Prelude.{◌≡◌, ◌≢◌, ℕ, None, Option, Result, Err, OnOk, IfErr, List}
 use Rattle.alignment.specs.declared.input.Effect.{Effect}
-use Rattle.core_model.specs.Calls.{EndsRead, EndsInject, EndsPersist, EndsPersistSome, EndsTrigger, EndsComplete}
-use Rattle.core_model.specs.Commits.{EndsCommit}
-use Rattle.core_model.specs.Language.{Language}
-use Rattle.core_model.specs.Restart.{EndsRestart}
-use Rattle.core_model.specs.State.{State}
-use Rattle.core_model.specs.declared.fault.CoreFault.{CoreFault}
-use Rattle.core_model.specs.declared.fault.CoreFault.TheVariants.{NotRunning}
-use Rattle.core_model.specs.declared.persisted.Persisted.{Persisted}
+use Rattle.engine_model.specs.Calls.{EndsRead, EndsInject, EndsPersist, EndsPersistSome, EndsTrigger, EndsComplete}
+use Rattle.engine_model.specs.Commits.{EndsCommit}
+use Rattle.engine_model.specs.Language.{Language}
+use Rattle.engine_model.specs.Restart.{EndsRestart}
+use Rattle.engine_model.specs.State.{State}
+use Rattle.engine_model.specs.declared.fault.CoreFault.{CoreFault}
+use Rattle.engine_model.specs.declared.fault.CoreFault.TheVariants.{NotRunning}
+use Rattle.engine_model.specs.declared.persisted.Persisted.{Persisted}
 use Rattle.engine.specs.Running.{OnAttempt, OnStore, OnTransactions, OnDown}
 use Rattle.claims.specs.Tasks.{EndsBarrier}
 use Rattle.source_log.specs.Partitions as partitions

@@ -5,11 +5,11 @@ use Rattle.alignment.specs.declared.input.Effect.{Effect}
 use Rattle.claims.specs.Due.{WorksFrom, IsDue, EndsAccept}
 use Rattle.claims.specs.declared.parts.Given.{Given}
 use Rattle.claims.specs.declared.parts.Made.{Made}
-use Rattle.core_model.specs.Calls.{input_at, IsBlocked, NoRecord, IsRecordDue}
-use Rattle.core_model.specs.Language.{Language}
-use Rattle.core_model.specs.declared.fault.CoreFault.{CoreFault}
-use Rattle.core_model.specs.declared.fault.CoreFault.TheVariants.{NotRunning, NoSuchTask, Busy, ChannelBlocked, NotReady, NumbersSpent, Memory, Stale, WrongResult}
-use Rattle.core_plain.specs.Plain.{StepsBy, Stays}
+use Rattle.engine_model.specs.Calls.{input_at, IsBlocked, NoRecord, IsRecordDue}
+use Rattle.engine_model.specs.Language.{Language}
+use Rattle.engine_model.specs.declared.fault.CoreFault.{CoreFault}
+use Rattle.engine_model.specs.declared.fault.CoreFault.TheVariants.{NotRunning, NoSuchTask, Busy, ChannelBlocked, NotReady, NumbersSpent, Memory, Stale, WrongResult}
+use Rattle.engine_plain.specs.Plain.{StepsBy, Stays}
 use Rattle.dataflow_model.specs.Machine as machine
 use Rattle.engine.specs.Running.{OnTransactions}
 use Rattle.job_state.specs.Held.{Held}

@@ -1,7 +1,7 @@
 -- What a core holds, as data.
 use Rattle.std.specs.Prelude.{ℕ, List, [], Result, Ok, Err}
-use Rattle.core_model.specs.State.{State}
-use Rattle.core_model.specs.declared.fault.CoreFault.{CoreFault}
+use Rattle.engine_model.specs.State.{State}
+use Rattle.engine_model.specs.declared.fault.CoreFault.{CoreFault}
 use Rattle.dataflow_core.specs.declared.held.Claim.{Claim}
 
 pub record CoreState (O R K S : Type 0) : Type 0 where

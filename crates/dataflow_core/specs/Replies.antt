@@ -2,9 +2,9 @@
 use Rattle.std.specs.Prelude.{ℕ, Option, Some, None, Result, Ok, Err}
 use Rattle.alignment.specs.declared.input.Effect.{Effect}
 use Rattle.source_log.specs.declared.partitions.SourceFault.{SourceFault}
-use Rattle.core_model.specs.declared.fault.CoreFault.{CoreFault}
-use Rattle.core_model.specs.declared.persisted.Persisted.{Persisted}
-use Rattle.core_model.specs.declared.persisted.Persisted.TheVariants as persisted
+use Rattle.engine_model.specs.declared.fault.CoreFault.{CoreFault}
+use Rattle.engine_model.specs.declared.persisted.Persisted.{Persisted}
+use Rattle.engine_model.specs.declared.persisted.Persisted.TheVariants as persisted
 use Rattle.dataflow_core.specs.declared.replies.Reply.{Reply}
 use Rattle.dataflow_core.specs.declared.replies.Reply.TheVariants.{Accepted, More, Number, Barrier, Drained, Refused, Source}
 use Rattle.engine_rounds.specs.declared.ending.Drained as ending

@@ -2,8 +2,8 @@
 use Rattle.std.specs.Prelude.{◌≡◌, ◌⊎◌, ◌++◌, ℕ, List, [], ◌∷◌, Some, None, Result, MatchOption, length, slice_set}
 use Rattle.claims.specs.Carried.{given_of}
 use Rattle.claims.specs.declared.parts.Made.{Made}
-use Rattle.core_model.specs.Language.{Language}
-use Rattle.core_model.specs.declared.fault.CoreFault.{CoreFault}
+use Rattle.engine_model.specs.Language.{Language}
+use Rattle.engine_model.specs.declared.fault.CoreFault.{CoreFault}
 use Rattle.engine.specs.Running.{IsCounted}
 use Rattle.source_log.specs.declared.partitions.SourceFault.TheVariants.{Memory}
 use Rattle.task_part.specs.declared.part.Part.{Part}

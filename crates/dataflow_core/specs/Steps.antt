@@ -3,13 +3,13 @@ use Rattle.std.specs.Prelude.{◌≡◌, ◌≢◌, ℕ, Option, Some, Result, E
 use Rattle.commit_sink.specs.Ledger.{committed_rows}
 use Rattle.dataflow_model.specs.Graph.{Begins}
 use Rattle.job_graph.specs.declared.role.Role.TheVariants as role
-use Rattle.core_model.specs.Goes.{Goes}
-use Rattle.core_model.specs.Language.{Language}
-use Rattle.core_model.specs.RestartLaws.{GoesOnFromCut}
-use Rattle.core_model.specs.Sound.{IsSound}
-use Rattle.core_model.specs.State.{State}
-use Rattle.core_model.specs.declared.fault.CoreFault.{CoreFault}
-use Rattle.core_model.specs.declared.fault.CoreFault.TheVariants.{BadSnapshot}
+use Rattle.engine_model.specs.Goes.{Goes}
+use Rattle.engine_model.specs.Language.{Language}
+use Rattle.engine_model.specs.RestartLaws.{GoesOnFromCut}
+use Rattle.engine_model.specs.Sound.{IsSound}
+use Rattle.engine_model.specs.State.{State}
+use Rattle.engine_model.specs.declared.fault.CoreFault.{CoreFault}
+use Rattle.engine_model.specs.declared.fault.CoreFault.TheVariants.{BadSnapshot}
 use Rattle.engine.specs.Running.{IsSameJob}
 
 module _ {R K S O : Type 0} (lang : Language R K S O) (RecordFits : R → Type 0) (old new : State O R K S) where

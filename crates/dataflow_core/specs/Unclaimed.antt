@@ -1,8 +1,8 @@
 -- How the calls end that make many steps, which want a job that runs, and no claim out.
 use Rattle.std.specs.Prelude.{◌≡◌, ◌≢◌, ◌⊎◌, ℕ, [], Result, Err, MatchOption}
-use Rattle.core_model.specs.Language.{Language}
-use Rattle.core_model.specs.declared.fault.CoreFault.{CoreFault}
-use Rattle.core_model.specs.declared.fault.CoreFault.TheVariants.{NotRunning, Busy}
+use Rattle.engine_model.specs.Language.{Language}
+use Rattle.engine_model.specs.declared.fault.CoreFault.{CoreFault}
+use Rattle.engine_model.specs.declared.fault.CoreFault.TheVariants.{NotRunning, Busy}
 use Rattle.engine_rounds.specs.declared.ending.Drained.{Drained}
 use Rattle.engine_settling.specs.Settled.{EndsSettle, EndsDrain}
 use Rattle.dataflow_core.specs.CoreState.{CoreState}

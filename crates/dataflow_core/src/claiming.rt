@@ -2,8 +2,8 @@
 
 ghost use Rattle.std.specs.Prelude.{◌≡◌, ◌≢◌, ◌⊎◌, ◌+◌, ◌↔◌, ◌≤◌, ◌<◌, ◌^◌, ℕ, None, length, IsTrue, IfOk, IfErr};
 ghost use Rattle.claims.specs.declared.parts.Given.{Given};
-ghost use Rattle.core_model.specs.declared.fault.CoreFault.TheVariants as CoreFault;
-ghost use Rattle.core_plain.specs.Plain.{Stays};
+ghost use Rattle.engine_model.specs.declared.fault.CoreFault.TheVariants as CoreFault;
+ghost use Rattle.engine_plain.specs.Plain.{Stays};
 ghost use Rattle.engine.specs.Running.{IsCounted};
 ghost use Rattle.dataflow_core.specs.Claims.{IsHeldAt, IsFreshTicket, IsHeldUp, Refuses, MayClaim, Claims, TakesBarrierUnclaimed, EndsFinish, FinishMoves, spent_as};
 ghost use Rattle.dataflow_core.specs.Steps.{IsStep};
@@ -14,8 +14,8 @@ use crate::jobs::{Done, Job};
 use alignment::Effect;
 use claims::Work;
 use commit_sink::Transactions;
-use core_model::Rules;
 use engine::CoreFault;
+use engine_model::Rules;
 use operators::Operator;
 use snapshot_store::SnapshotStore;
 use source_log::Partitions;

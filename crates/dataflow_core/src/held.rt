@@ -2,11 +2,11 @@
 
 ghost use Rattle.std.specs.Prelude.{◌≡◌, ◌<◌, ◌≤◌, ◌↔◌, ◌++◌, ◌∷◌, [], ℕ, List, length, IsTrue, OnOk, IfSome, IfNone, IfErr};
 ghost use Rattle.std.specs.List.{All};
-ghost use Rattle.core_model.specs.declared.fault.CoreFault.TheVariants as CoreFault;
+ghost use Rattle.engine_model.specs.declared.fault.CoreFault.TheVariants as CoreFault;
 ghost use Rattle.dataflow_core.specs.Claims.{IsBusy, IsClaimAt, claims_left};
 ghost use Rattle.dataflow_core.specs.CoreState.{claims_after};
 
-use core_model::CoreFault;
+use engine_model::CoreFault;
 
 /// A task's hold on the record at the head of an input.
 #[derive(Clone, Copy, Debug, PartialEq, Eq)]

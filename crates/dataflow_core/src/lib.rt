@@ -48,9 +48,9 @@ mod runs;
 mod settling;
 
 pub use calls::Core;
-pub use core_model::Rules;
 pub use desks::Desk;
 pub use engine::{CoreFault, DeviceCall, Persisted};
+pub use engine_model::Rules;
 pub use engine_settling::Drained;
 pub use held::Claim;
 pub use jobs::{Done, Job};

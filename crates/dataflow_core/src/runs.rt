@@ -2,9 +2,9 @@
 
 ghost use Rattle.std.specs.Prelude.{◌≡◌, [], IfOk, IfErr};
 ghost use Rattle.std.specs.List.{AllByRecursion};
-ghost use Rattle.core_model.specs.declared.fault.CoreFault.TheVariants as CoreFault;
-ghost use Rattle.core_model.specs.ExactlyOnce.{IsExactlyOnce};
-ghost use Rattle.core_model.specs.Sound.{IsSound};
+ghost use Rattle.engine_model.specs.declared.fault.CoreFault.TheVariants as CoreFault;
+ghost use Rattle.engine_model.specs.ExactlyOnce.{IsExactlyOnce};
+ghost use Rattle.engine_model.specs.Sound.{IsSound};
 ghost use Rattle.dataflow_core.specs.Claims.{Refuses};
 ghost use Rattle.dataflow_core.specs.Runs.{StepFits, EndsClaim, EndsFinishing, EndsAppend, EndsStep, IsRun};
 ghost use Rattle.dataflow_core.specs.Steps.{Preserves};
@@ -14,8 +14,8 @@ use crate::desks::Desk;
 use crate::replies::{Reply, accepted, appended, copied, drained, numbered, persisted, restarted};
 use abs_codec::Codec;
 use commit_sink::Transactions;
-use core_model::Rules;
 use engine::CoreFault;
+use engine_model::Rules;
 use operators::Operator;
 use snapshot_store::SnapshotStore;
 use source_log::{Partitions, SourceFault};

@@ -7,8 +7,8 @@ ghost use Rattle.dataflow_core.specs.Unclaimed.{Settles, Drains};
 
 use crate::calls::Core;
 use commit_sink::Transactions;
-use core_model::Rules;
 use engine::CoreFault;
+use engine_model::Rules;
 use engine_settling::{Drained, drain, settle};
 use operators::Operator;
 use snapshot_store::SnapshotStore;

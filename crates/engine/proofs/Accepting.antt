@@ -4,17 +4,17 @@ use Rattle.commit_sink.specs.Ledger.{Ledger, IsOrdered}
 use Rattle.dataflow_model.specs.Machine.{Work}
 use Rattle.job_graph.specs.Expanded.{Expanded}
 use Rattle.job_state.specs.Held.{Held}
-use Rattle.core_model.specs.Calls.{input_at, left_by}
-use Rattle.core_model.specs.Keeps.{Keeps}
-use Rattle.core_model.specs.Language.{Language}
-use Rattle.core_model.specs.State.{State}
-use Rattle.core_model.specs.declared.fault.CoreFault.{CoreFault}
-use Rattle.core_model.specs.declared.fault.CoreFault.TheVariants.{WrongResult, Memory, Device}
-use Rattle.core_model.proofs.CallGoes.{KeepsAndGoes}
-use Rattle.core_model.proofs.CallOperates.{GoesOn}
-use Rattle.core_model.proofs.CallSteps.{keeps_still}
-use Rattle.core_plain.specs.Plain.{StepsIfOk, Stays}
-use Rattle.core_plain.proofs.Stands.{stays_same}
+use Rattle.engine_model.specs.Calls.{input_at, left_by}
+use Rattle.engine_model.specs.Keeps.{Keeps}
+use Rattle.engine_model.specs.Language.{Language}
+use Rattle.engine_model.specs.State.{State}
+use Rattle.engine_model.specs.declared.fault.CoreFault.{CoreFault}
+use Rattle.engine_model.specs.declared.fault.CoreFault.TheVariants.{WrongResult, Memory, Device}
+use Rattle.engine_model.proofs.Calls.Goes.{KeepsAndGoes}
+use Rattle.engine_model.proofs.Calls.Operates.{GoesOn}
+use Rattle.engine_model.proofs.Calls.Steps.{keeps_still}
+use Rattle.engine_plain.specs.Plain.{StepsIfOk, Stays}
+use Rattle.engine_plain.proofs.Stands.{stays_same}
 use Rattle.claims.specs.Due.{EndsTaking, EndsRefused, EndsAccept}
 use Rattle.claims.specs.Tasks.{EndsWork}
 use Rattle.claims.specs.declared.parts.Given.{Given}

@@ -8,13 +8,13 @@ use Rattle.job_graph.specs.declared.role.Role.TheVariants as role
 use Rattle.job_state.specs.Held.{Held}
 use Rattle.snapshot_store.specs.Store.{Stored}
 use Rattle.task_part.specs.declared.part.Part.{Part}
-use Rattle.core_model.specs.Calls.{input_at, EndsRead, EndsInject, EndsTrigger, EndsPersist, EndsPersistSome, EndsComplete}
-use Rattle.core_model.specs.Commits.{EndsCommit}
-use Rattle.core_model.specs.Language.{Language}
-use Rattle.core_model.specs.Restart.{EndsRestart}
-use Rattle.core_model.specs.declared.fault.CoreFault.{CoreFault}
-use Rattle.core_model.specs.declared.fault.CoreFault.TheVariants.{NotRunning, NoSuchTask, NotReady, ChannelBlocked, Busy, Stale, WrongResult, CheckpointPending, NoCheckpoint, NotAllAcked, Memory, Device, CommitFault, NumbersSpent, BadSnapshot}
-use Rattle.core_model.specs.declared.persisted.Persisted.{Persisted}
+use Rattle.engine_model.specs.Calls.{input_at, EndsRead, EndsInject, EndsTrigger, EndsPersist, EndsPersistSome, EndsComplete}
+use Rattle.engine_model.specs.Commits.{EndsCommit}
+use Rattle.engine_model.specs.Language.{Language}
+use Rattle.engine_model.specs.Restart.{EndsRestart}
+use Rattle.engine_model.specs.declared.fault.CoreFault.{CoreFault}
+use Rattle.engine_model.specs.declared.fault.CoreFault.TheVariants.{NotRunning, NoSuchTask, NotReady, ChannelBlocked, Busy, Stale, WrongResult, CheckpointPending, NoCheckpoint, NotAllAcked, Memory, Device, CommitFault, NumbersSpent, BadSnapshot}
+use Rattle.engine_model.specs.declared.persisted.Persisted.{Persisted}
 use Rattle.engine.specs.Running.{IsCounted, number_of}
 use Rattle.claims.specs.Tasks.{NoSuchInput, WorksAs, TakesAs, EndsWork, EndsBarrier}
 

@@ -7,18 +7,18 @@ use Rattle.job_graph.specs.declared.role.Role.TheVariants as role
 use Rattle.job_state.specs.Held.{Held}
 use Rattle.snapshot_store.specs.Store.{Stored}
 use Rattle.task_part.specs.declared.part.Part.{Part}
-use Rattle.core_model.specs.Calls.{EndsRead, EndsTrigger, EndsPersist, EndsPersistSome, EndsComplete, left_by}
-use Rattle.core_model.specs.Goes.{Goes}
-use Rattle.core_model.specs.Keeps.{Keeps}
-use Rattle.core_model.specs.Language.{Language}
-use Rattle.core_model.specs.State.{State}
-use Rattle.core_model.specs.declared.fault.CoreFault.{CoreFault}
-use Rattle.core_model.specs.declared.persisted.Persisted.{Persisted}
-use Rattle.core_model.proofs.CallExact.{goes_withdraws}
-use Rattle.core_plain.specs.Plain.{StepsIfOk, Stays}
-use Rattle.core_plain.proofs.PlainReads.{plain_read}
-use Rattle.core_plain.proofs.Stands.{stays_alone}
-use Rattle.core_plain.proofs.PlainCheckpoints.{plain_trigger, plain_persist, plain_persist_some, plain_complete}
+use Rattle.engine_model.specs.Calls.{EndsRead, EndsTrigger, EndsPersist, EndsPersistSome, EndsComplete, left_by}
+use Rattle.engine_model.specs.Goes.{Goes}
+use Rattle.engine_model.specs.Keeps.{Keeps}
+use Rattle.engine_model.specs.Language.{Language}
+use Rattle.engine_model.specs.State.{State}
+use Rattle.engine_model.specs.declared.fault.CoreFault.{CoreFault}
+use Rattle.engine_model.specs.declared.persisted.Persisted.{Persisted}
+use Rattle.engine_model.proofs.Calls.Exact.{goes_withdraws}
+use Rattle.engine_plain.specs.Plain.{StepsIfOk, Stays}
+use Rattle.engine_plain.proofs.PlainReads.{plain_read}
+use Rattle.engine_plain.proofs.Stands.{stays_alone}
+use Rattle.engine_plain.proofs.PlainCheckpoints.{plain_trigger, plain_persist, plain_persist_some, plain_complete}
 
 module _ {R K S O : Type 0} (lang : Language R K S O) (RecordFits : R → Type 0) (IsGood : O → S → Type 0) (s : State O R K S) (keeps : Keeps lang RecordFits IsGood s) (h k : Held R K S) (was : s.held ≡ Some h) where
   pub read_is_plain : (n task : ℕ) (result : Result Unit CoreFault) → EndsRead s.graph task h k lang s.partitions result → StepsIfOk result lang (Read task) s (record s { held = left_by result (Some k); faults = n })

@@ -2,23 +2,23 @@
 use Rattle.std.proofs.Common.{ap, ◌≡◌, ◌≢◌, IfOk, MatchOption, Option, Some, None, is_some, Result, Ok, Err, slice_get, ℕ, false, refl}
 use Rattle.job_state.specs.Held.{Held}
 use Rattle.commit_sink.specs.Ledger.{Ledger}
-use Rattle.core_model.specs.ExactlyOnce.{IsExactlyOnce}
-use Rattle.core_model.specs.Keeps.{Keeps}
-use Rattle.core_model.specs.Language.{Language}
-use Rattle.core_model.specs.Restart.{EndsRestart}
-use Rattle.core_model.specs.RestartLaws.{held_by, restarted, GoesOnFromCut, OperatorsAreLawful}
-use Rattle.core_model.specs.Sound.{IsSound, AreLegal}
-use Rattle.core_model.proofs.CallExact.{keeps_rows_exact}
-use Rattle.core_model.specs.State.{State}
-use Rattle.core_model.specs.declared.fault.CoreFault.{CoreFault}
-use Rattle.core_model.specs.declared.fault.CoreFault.TheVariants.{BadSnapshot}
-use Rattle.core_model.specs.Goes.{Goes}
-use Rattle.core_model.proofs.CallFails.{keeps_fail}
-use Rattle.core_model.proofs.CallRestarts.{keeps_restart}
-use Rattle.core_model.proofs.RestartCut.{gives_cut}
-use Rattle.core_model.proofs.RestartParts.{never_bad}
-use Rattle.core_model.proofs.RestartSteps.{restart_goes}
-use Rattle.core_model.proofs.Sounds.{as_fresh, keeps_as_fresh, sound_as_fresh, sound_is_legal, keeps_counted}
+use Rattle.engine_model.specs.ExactlyOnce.{IsExactlyOnce}
+use Rattle.engine_model.specs.Keeps.{Keeps}
+use Rattle.engine_model.specs.Language.{Language}
+use Rattle.engine_model.specs.Restart.{EndsRestart}
+use Rattle.engine_model.specs.RestartLaws.{held_by, restarted, GoesOnFromCut, OperatorsAreLawful}
+use Rattle.engine_model.specs.Sound.{IsSound, AreLegal}
+use Rattle.engine_model.proofs.Calls.Exact.{keeps_rows_exact}
+use Rattle.engine_model.specs.State.{State}
+use Rattle.engine_model.specs.declared.fault.CoreFault.{CoreFault}
+use Rattle.engine_model.specs.declared.fault.CoreFault.TheVariants.{BadSnapshot}
+use Rattle.engine_model.specs.Goes.{Goes}
+use Rattle.engine_model.proofs.Calls.Fails.{keeps_fail}
+use Rattle.engine_model.proofs.Calls.Restarts.{keeps_restart}
+use Rattle.engine_model.proofs.Restart.Cut.{gives_cut}
+use Rattle.engine_model.proofs.Restart.Parts.{never_bad}
+use Rattle.engine_model.proofs.Restart.Steps.{restart_goes}
+use Rattle.engine_model.proofs.Sounds.{as_fresh, keeps_as_fresh, sound_as_fresh, sound_is_legal, keeps_counted}
 use Rattle.operators.specs.Operator.{IsGoodState}
 use Rattle.source_log.specs.Partitions.{records_at}
 use Rattle.engine.specs.Running.{number_of, raised}

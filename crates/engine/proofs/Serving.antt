@@ -5,20 +5,20 @@ use Rattle.coordinator.specs.Coordinator.{IsReady}
 use Rattle.job_graph.specs.declared.role.Role.TheVariants as role
 use Rattle.job_state.specs.Held.{Held}
 use Rattle.snapshot_store.specs.Store.{Stored, complete_refusal, has_all_parts}
-use Rattle.core_model.proofs.Numbers.{source_within}
-use Rattle.core_model.specs.Calls.{EndsComplete}
-use Rattle.core_model.specs.Commits.{EndsCommit}
-use Rattle.core_model.specs.Keeps.{Keeps}
-use Rattle.core_model.specs.LastCommitted.{committed_of, complete_numbers}
-use Rattle.core_model.specs.declared.fault.CoreFault.{CoreFault}
-use Rattle.core_model.specs.Language.{Language}
-use Rattle.core_model.specs.Sound.{IsSound}
-use Rattle.core_model.specs.State.{State}
-use Rattle.core_model.proofs.CallLasts.{commits_reach}
-use Rattle.core_model.proofs.CallGoes.{shape_of, runs_of}
-use Rattle.core_model.proofs.Sounds.{as_fresh, keeps_as_fresh}
-use Rattle.core_model.proofs.StoreComplete.{may_complete, ready_parts}
-use Rattle.core_model.proofs.StoreRuns.{runs_pending}
+use Rattle.engine_model.proofs.Numbers.{source_within}
+use Rattle.engine_model.specs.Calls.{EndsComplete}
+use Rattle.engine_model.specs.Commits.{EndsCommit}
+use Rattle.engine_model.specs.Keeps.{Keeps}
+use Rattle.engine_model.specs.LastCommitted.{committed_of, complete_numbers}
+use Rattle.engine_model.specs.declared.fault.CoreFault.{CoreFault}
+use Rattle.engine_model.specs.Language.{Language}
+use Rattle.engine_model.specs.Sound.{IsSound}
+use Rattle.engine_model.specs.State.{State}
+use Rattle.engine_model.proofs.Calls.Lasts.{commits_reach}
+use Rattle.engine_model.proofs.Calls.Goes.{shape_of, runs_of}
+use Rattle.engine_model.proofs.Sounds.{as_fresh, keeps_as_fresh}
+use Rattle.engine_model.proofs.Store.Complete.{may_complete, ready_parts}
+use Rattle.engine_model.proofs.Store.Runs.{runs_pending}
 use Rattle.claims.specs.Tasks.{Serves}
 
 module _ {R K S O : Type 0} (lang : Language R K S O) (RecordFits : R → Type 0) (IsGood : O → S → Type 0) (s : State O R K S) (keeps : Keeps lang RecordFits IsGood s) (h : Held R K S) (is : s.held ≡ Some h) where

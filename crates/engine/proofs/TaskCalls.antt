@@ -6,23 +6,23 @@ use Rattle.dataflow_model.specs.Machine.{Work}
 use Rattle.job_graph.specs.declared.role.Role.{Role}
 use Rattle.job_graph.specs.declared.role.Role.TheVariants as role
 use Rattle.job_state.specs.Held.{Held}
-use Rattle.core_model.proofs.Numbers.{operator_within}
-use Rattle.core_model.specs.Calls.{input_at, left_by}
-use Rattle.core_model.specs.Keeps.{Keeps}
-use Rattle.core_model.specs.Language.{Language}
-use Rattle.core_model.specs.State.{State}
-use Rattle.core_model.specs.declared.fault.CoreFault.{CoreFault}
-use Rattle.core_model.proofs.CallBarriers.{keeps_operator_barrier}
-use Rattle.core_model.proofs.CallOperates.{GoesOn, keeps_operate}
-use Rattle.core_model.proofs.CallPersists.{found}
-use Rattle.core_model.proofs.CallPutsOut.{keeps_put_out}
-use Rattle.core_model.proofs.CallSinkCopies.{keeps_sink_barrier}
-use Rattle.core_model.proofs.CallGoes.{KeepsAndGoes}
-use Rattle.core_model.proofs.CallSteps.{keeps_still}
-use Rattle.core_plain.specs.Plain.{StepsIfOk, Stays}
-use Rattle.core_plain.proofs.PlainCopies.{plain_operator_barrier, plain_sink_barrier}
-use Rattle.core_plain.proofs.PlainWorks.{plain_operate, plain_put_out}
-use Rattle.core_plain.proofs.Stands.{stays_same}
+use Rattle.engine_model.proofs.Numbers.{operator_within}
+use Rattle.engine_model.specs.Calls.{input_at, left_by}
+use Rattle.engine_model.specs.Keeps.{Keeps}
+use Rattle.engine_model.specs.Language.{Language}
+use Rattle.engine_model.specs.State.{State}
+use Rattle.engine_model.specs.declared.fault.CoreFault.{CoreFault}
+use Rattle.engine_model.proofs.Calls.Barriers.{keeps_operator_barrier}
+use Rattle.engine_model.proofs.Calls.Operates.{GoesOn, keeps_operate}
+use Rattle.engine_model.proofs.Calls.Persists.{found}
+use Rattle.engine_model.proofs.Calls.PutsOut.{keeps_put_out}
+use Rattle.engine_model.proofs.Calls.SinkCopies.{keeps_sink_barrier}
+use Rattle.engine_model.proofs.Calls.Goes.{KeepsAndGoes}
+use Rattle.engine_model.proofs.Calls.Steps.{keeps_still}
+use Rattle.engine_plain.specs.Plain.{StepsIfOk, Stays}
+use Rattle.engine_plain.proofs.PlainCopies.{plain_operator_barrier, plain_sink_barrier}
+use Rattle.engine_plain.proofs.PlainWorks.{plain_operate, plain_put_out}
+use Rattle.engine_plain.proofs.Stands.{stays_same}
 use Rattle.claims.specs.Tasks.{NoSuchInput, WorksAs, TakesAs, EndsWork, EndsBarrier}
 
 module _ {R K S O : Type 0} (lang : Language R K S O) (RecordFits : R → Type 0) (IsGood : O → S → Type 0) (s : State O R K S) (keeps : Keeps lang RecordFits IsGood s) (h k : Held R K S) (was : s.held ≡ Some h) (ledger : Ledger) where

@@ -3,7 +3,7 @@ use Rattle.std.specs.Prelude.{ℕ, ◌-◌, ◌^◌, List}
 use Rattle.std.specs.Cmp.Lexicographic.{slice_cmp}
 use Rattle.std.specs.Ordering.{nat_cmp}
 use Rattle.abs_codec.specs.Reading.{text_within}
-use Rattle.core_model.specs.Language.{Language, language}
+use Rattle.engine_model.specs.Language.{Language, language}
 use Rattle.operators.specs.RowMeaning.{row_meaning}
 use Rattle.operators.specs.RowSpelling.{row_spelling, row_at, state_at}
 use Rattle.operators.specs.declared.row.Row.{Row}

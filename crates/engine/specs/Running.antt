@@ -1,11 +1,11 @@
 -- How a call ends that wants a running job: `Ends` says it of what the job holds before and after. A failed device takes the job down.
 use Rattle.std.specs.Prelude.{◌≡◌, ◌⊎◌, ◌+◌, ◌^◌, ◌<◌, ◌≤◌, ℕ, Option, Some, Result, Ok, Err, MatchOption}
 use Rattle.job_state.specs.Held.{Held}
-use Rattle.core_model.specs.Calls.{left_by}
-use Rattle.core_model.specs.RestartLaws.{held_by}
-use Rattle.core_model.specs.State.{State}
-use Rattle.core_model.specs.declared.fault.CoreFault.{CoreFault}
-use Rattle.core_model.specs.declared.fault.CoreFault.TheVariants.{NotRunning, NotReady, Device, CommitFault, NumbersSpent}
+use Rattle.engine_model.specs.Calls.{left_by}
+use Rattle.engine_model.specs.RestartLaws.{held_by}
+use Rattle.engine_model.specs.State.{State}
+use Rattle.engine_model.specs.declared.fault.CoreFault.{CoreFault}
+use Rattle.engine_model.specs.declared.fault.CoreFault.TheVariants.{NotRunning, NotReady, Device, CommitFault, NumbersSpent}
 
 -- how often the devices have failed, before a fault is told and after it: more often where it is a device's, or a commit's, and else as often
 abbrev pub CountsFault : ℕ → ℕ → CoreFault → Type 0

@@ -7,7 +7,7 @@
 //! exactly its output at the moment of its own last committed checkpoint (`exact`).
 //!
 //! An [`Engine`] holds a job's graph and operators, its partitions, the snapshot store and the
-//! transactions, and, while the job runs, the attempt. What every core keeps is core_model's
+//! transactions, and, while the job runs, the attempt. What every core keeps is engine_model's
 //! `Keeps`: that its data are one state of the checkpoint model's engine, and, of a core that was
 //! opened over new devices, that this engine is sound.
 #![tactic(auto)]
@@ -20,5 +20,5 @@ mod rows;
 mod tasks;
 
 pub use calls::Engine;
-pub use core_model::{CoreFault, Persisted};
+pub use engine_model::{CoreFault, Persisted};
 pub use faults::DeviceCall;

@@ -1,7 +1,7 @@
 //! What can be asked of a job without changing it.
 
 ghost use Rattle.std.specs.Prelude.{◌≡◌, ◌↔◌, IsTrue, MatchOption};
-ghost use Rattle.core_model.specs.Calls.{HasNext};
+ghost use Rattle.engine_model.specs.Calls.{HasNext};
 ghost use Rattle.engine.specs.Readers.{pending_in, came_in, HasHead};
 
 use crate::calls::Engine;

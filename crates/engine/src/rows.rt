@@ -2,8 +2,8 @@
 
 ghost use Rattle.std.specs.Prelude.{◌≡◌, ℤ, Some, slice_get, true, map};
 ghost use Rattle.operators.specs.declared.row_op.RowOp.TheVariants as RowOp;
-ghost use Rattle.line_core.specs.Laws.{added};
-ghost use Rattle.line_core.specs.Lines.{IsLine, CommitsABeginning};
+ghost use Rattle.engine_lines.specs.Laws.{added};
+ghost use Rattle.engine_lines.specs.Lines.{IsLine, CommitsABeginning};
 ghost use Rattle.engine.specs.Rows.{row_language};
 
 use crate::calls::Engine;

@@ -1,13 +1,13 @@
 //! A task takes a barrier as what it is: an operator or a sink.
 
 ghost use Rattle.std.specs.Prelude.{◌≡◌, ◌≢◌, ◌<◌, Err, Some};
-ghost use Rattle.core_model.specs.declared.fault.CoreFault.TheVariants as CoreFault;
+ghost use Rattle.engine_model.specs.declared.fault.CoreFault.TheVariants as CoreFault;
 ghost use Rattle.claims.specs.Tasks.{Serves, EndsBarrier};
 
 use alignment::Effect;
 use claims::input_of;
 use commit_sink::Transactions;
-use core_model::{CoreFault, Rules};
+use engine_model::{CoreFault, Rules};
 use engine_moves::{operator_barrier, sink_barrier};
 use job_graph::{Graph, Role};
 use job_state::Attempt;

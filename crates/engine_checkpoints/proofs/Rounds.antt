@@ -11,13 +11,13 @@ use Rattle.job_graph.specs.declared.role.Role.TheVariants as role
 use Rattle.job_state.specs.Held.{Held}
 use Rattle.job_state.specs.declared.holding.Holding.{Holding}
 use Rattle.job_state.specs.declared.holding.Holding.TheVariants as holds
-use Rattle.core_model.specs.Commits.{CommitsOne, CommitsEach, EndsCommit}
-use Rattle.core_model.specs.Keeps.{SinkIn}
-use Rattle.core_model.specs.declared.fault.CoreFault.{CoreFault}
-use Rattle.core_model.specs.declared.fault.CoreFault.TheVariants.{CommitFault}
+use Rattle.engine_model.specs.Commits.{CommitsOne, CommitsEach, EndsCommit}
+use Rattle.engine_model.specs.Keeps.{SinkIn}
+use Rattle.engine_model.specs.declared.fault.CoreFault.{CoreFault}
+use Rattle.engine_model.specs.declared.fault.CoreFault.TheVariants.{CommitFault}
 use Rattle.engine_checkpoints.specs.Rounds.{EndsRound}
-use Rattle.core_model.proofs.LedgerCommit.{commit_in}
-use Rattle.core_model.proofs.Lists.{get_set_same}
+use Rattle.engine_model.proofs.Ledger.Commit.{commit_in}
+use Rattle.engine_model.proofs.Lists.{get_set_same}
 
 module _ {K S : Type 0} where
   -- a sink that a holding says

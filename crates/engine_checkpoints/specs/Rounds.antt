@@ -2,9 +2,9 @@
 use Rattle.std.specs.Prelude.{◌≡◌, ℕ, Bool, true, false, Result, Ok, Err}
 use Rattle.commit_sink.specs.Ledger.{Ledger}
 use Rattle.job_state.specs.Held.{Held}
-use Rattle.core_model.specs.Commits.{CommitsOne, FailsToCommit, NoneIsNext}
-use Rattle.core_model.specs.declared.fault.CoreFault.{CoreFault}
-use Rattle.core_model.specs.declared.fault.CoreFault.TheVariants.{CommitFault}
+use Rattle.engine_model.specs.Commits.{CommitsOne, FailsToCommit, NoneIsNext}
+use Rattle.engine_model.specs.declared.fault.CoreFault.{CoreFault}
+use Rattle.engine_model.specs.declared.fault.CoreFault.TheVariants.{CommitFault}
 
 -- a transaction was committed, or there was none to commit, or the device failed
 abbrev pub EndsRound : {R K S : Type 0} → ℕ → Held R K S → Held R K S → Ledger → Ledger → Result Bool CoreFault → Type 0

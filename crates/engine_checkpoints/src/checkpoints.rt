@@ -9,11 +9,11 @@ ghost use Rattle.abs_codec.specs.Reading.{whole_of};
 ghost use Rattle.job_state.specs.Held.{copy_at, gate_at, logs_of, with_logs};
 ghost use Rattle.task_part.specs.declared.part.Part.{Part};
 ghost use Rattle.task_part.specs.Spelling.{part_spelling, part_at};
-ghost use Rattle.core_model.specs.declared.fault.CoreFault.TheVariants as CoreFault;
-ghost use Rattle.core_model.specs.Calls.{IsTask, EndsTrigger, EndsPersist, EndsPersistSome, EndsComplete, WhereReached, WherePut};
+ghost use Rattle.engine_model.specs.declared.fault.CoreFault.TheVariants as CoreFault;
+ghost use Rattle.engine_model.specs.Calls.{IsTask, EndsTrigger, EndsPersist, EndsPersistSome, EndsComplete, WhereReached, WherePut};
 
 use commit_sink::Transactions;
-use core_model::{CoreFault, Persisted};
+use engine_model::{CoreFault, Persisted};
 use job_graph::Graph;
 use job_state::Attempt;
 use operators::Operator;

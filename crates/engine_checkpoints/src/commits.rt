@@ -7,13 +7,13 @@ ghost use Rattle.commit_sink.specs.declared.sink.Pending.{Pending};
 ghost use Rattle.job_state.specs.declared.holding.Holding.TheVariants as Holding;
 ghost use Rattle.job_graph.specs.declared.role.Role.TheVariants as Role;
 ghost use Rattle.job_graph.specs.Expanded.{IsExpanded};
-ghost use Rattle.core_model.specs.declared.fault.CoreFault.TheVariants as CoreFault;
-ghost use Rattle.core_model.specs.Commits.{IsNext, NoneIsNext, EndsCommit};
-ghost use Rattle.core_model.specs.Keeps.{SinkIn};
+ghost use Rattle.engine_model.specs.declared.fault.CoreFault.TheVariants as CoreFault;
+ghost use Rattle.engine_model.specs.Commits.{IsNext, NoneIsNext, EndsCommit};
+ghost use Rattle.engine_model.specs.Keeps.{SinkIn};
 ghost use Rattle.engine_checkpoints.specs.Rounds.{EndsRound};
 
 use commit_sink::{Pending, Transactions};
-use core_model::CoreFault;
+use engine_model::CoreFault;
 use job_graph::Graph;
 use job_state::Attempt;
 use operators::Operator;

@@ -5,10 +5,10 @@ use Rattle.alignment.specs.Table.{Alignment}
 use Rattle.alignment.specs.declared.input.Phase.TheVariants.{AtRest}
 use Rattle.job_graph.specs.Expanded.{Expanded}
 use Rattle.job_state.specs.Held.{Held}
-use Rattle.core_model.specs.Calls.{input_at, IsBarrierNext}
-use Rattle.core_model.specs.Keeps.{GateFits}
-use Rattle.core_model.proofs.Gates.{within_gate, awaits, is_for}
-use Rattle.core_model.proofs.Numbers.{channel_in}
+use Rattle.engine_model.specs.Calls.{input_at, IsBarrierNext}
+use Rattle.engine_model.specs.Keeps.{GateFits}
+use Rattle.engine_model.proofs.Shape.Gates.{within_gate, awaits, is_for}
+use Rattle.engine_model.proofs.Numbers.{channel_in}
 use Rattle.engine_moves.specs.Taking.{GateAwaits}
 
 -- a task whose gate has inputs has a gate

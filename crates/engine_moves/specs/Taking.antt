@@ -4,9 +4,9 @@ use Rattle.alignment.specs.Inputs as gates
 use Rattle.alignment.specs.Table.{IsFor, effect_of}
 use Rattle.commit_sink.specs.Ledger.{Ledger, begun, pre_committed}
 use Rattle.job_state.specs.Held.{Held, gate_at}
-use Rattle.core_model.specs.Calls.{IsBlocked, IsBarrierNext, CopiesSink, FailsToCopySink}
-use Rattle.core_model.specs.declared.fault.CoreFault.{CoreFault}
-use Rattle.core_model.specs.declared.fault.CoreFault.TheVariants.{NotReady, ChannelBlocked, Memory, Device}
+use Rattle.engine_model.specs.Calls.{IsBlocked, IsBarrierNext, CopiesSink, FailsToCopySink}
+use Rattle.engine_model.specs.declared.fault.CoreFault.{CoreFault}
+use Rattle.engine_model.specs.declared.fault.CoreFault.TheVariants.{NotReady, ChannelBlocked, Memory, Device}
 
 module _ {R K S : Type 0} (task input channel : ℕ) (h : Held R K S) where
   -- the input is blocked, or the pending checkpoint's barrier does not stand first

@@ -3,12 +3,12 @@
 ghost use Rattle.std.specs.Prelude.{◌≡◌, ◌≢◌, ◌<◌, ℕ, Err, Some, length, slice_get, OnOk, OnErr};
 ghost use Rattle.job_state.specs.declared.holding.Holding.TheVariants as Holding;
 ghost use Rattle.job_graph.specs.declared.role.Role.TheVariants as Role;
-ghost use Rattle.core_model.specs.declared.fault.CoreFault.TheVariants as CoreFault;
-ghost use Rattle.core_model.specs.Calls.{EndsRead};
-ghost use Rattle.core_model.specs.Keeps.{AreHeld};
+ghost use Rattle.engine_model.specs.declared.fault.CoreFault.TheVariants as CoreFault;
+ghost use Rattle.engine_model.specs.Calls.{EndsRead};
+ghost use Rattle.engine_model.specs.Keeps.{AreHeld};
 ghost use Rattle.source_log.specs.Partitions.{records_at};
 
-use core_model::{CoreFault, Rules};
+use engine_model::{CoreFault, Rules};
 use job_graph::{Graph, Role};
 use job_state::Attempt;
 use operators::Operator;

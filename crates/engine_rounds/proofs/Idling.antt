@@ -19,13 +19,13 @@ use Rattle.job_state.specs.Held.{Held}
 use Rattle.job_state.specs.Sending.{items_at}
 use Rattle.job_state.specs.declared.holding.Holding.{Holding}
 use Rattle.source_log.specs.Partitions.{records_at}
-use Rattle.core_model.specs.Calls.{HasNext, IsBlocked, NoRecord}
-use Rattle.core_model.specs.Language.{Language}
-use Rattle.core_model.specs.State.{State}
-use Rattle.core_model.specs.View.{job_of, held_state, plain_item}
-use Rattle.core_model.proofs.CallTasks.{LeadsTo, input_leads}
-use Rattle.core_plain.specs.Plain.{StandsFor}
-use Rattle.core_plain.proofs.Stands.{HoldsFor, stands_at}
+use Rattle.engine_model.specs.Calls.{HasNext, IsBlocked, NoRecord}
+use Rattle.engine_model.specs.Language.{Language}
+use Rattle.engine_model.specs.State.{State}
+use Rattle.engine_model.specs.View.{job_of, held_state, plain_item}
+use Rattle.engine_model.proofs.Calls.Tasks.{LeadsTo, input_leads}
+use Rattle.engine_plain.specs.Plain.{StandsFor}
+use Rattle.engine_plain.proofs.Stands.{HoldsFor, stands_at}
 use Rattle.engine.specs.Readers.{HasHead}
 use Rattle.engine_rounds.specs.Idle.{IsIdle, HasNothing, HasNothingIn, HasInput, HasStep, HasStepIn, IsIdleIn}
 use Rattle.engine_rounds.specs.Works.{CanMove}

@@ -7,14 +7,14 @@ use Rattle.dataflow_model.specs.Machine.{Configuration, Move, Reaches}
 use Rattle.dataflow_model.proofs.Runs.{join}
 use Rattle.job_state.specs.Held.{Held}
 use Rattle.snapshot_store.specs.Store.{Stored}
-use Rattle.core_model.specs.Language.{Language}
-use Rattle.core_model.specs.State.{State}
-use Rattle.core_model.specs.View.{job_of}
-use Rattle.core_model.specs.declared.fault.CoreFault.{CoreFault}
-use Rattle.core_model.specs.declared.fault.CoreFault.TheVariants.{NotRunning}
-use Rattle.core_model.proofs.CallGoes.{after, goes_on}
-use Rattle.core_plain.specs.Plain.{StandsFor, StepsBy, Stays}
-use Rattle.core_plain.proofs.Stands.{stays_same}
+use Rattle.engine_model.specs.Language.{Language}
+use Rattle.engine_model.specs.State.{State}
+use Rattle.engine_model.specs.View.{job_of}
+use Rattle.engine_model.specs.declared.fault.CoreFault.{CoreFault}
+use Rattle.engine_model.specs.declared.fault.CoreFault.TheVariants.{NotRunning}
+use Rattle.engine_model.proofs.Calls.Goes.{after, goes_on}
+use Rattle.engine_plain.specs.Plain.{StandsFor, StepsBy, Stays}
+use Rattle.engine_plain.proofs.Stands.{stays_same}
 use Rattle.engine.specs.Running.{WhileRunning}
 use Rattle.engine_rounds.specs.Works.{MovesBy, Works}
 

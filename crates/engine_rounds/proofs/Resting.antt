@@ -24,16 +24,16 @@ use Rattle.job_state.specs.Held.{Held, gate_at}
 use Rattle.job_state.specs.Sending.{items_at}
 use Rattle.job_state.specs.declared.holding.Holding.{Holding}
 use Rattle.source_log.specs.Partitions.{records_at}
-use Rattle.core_model.specs.Calls.{IsBlocked}
-use Rattle.core_model.specs.Keeps.{Keeps, Shape, StandsAs}
-use Rattle.core_model.specs.Language.{Language}
-use Rattle.core_model.specs.Sound.{IsSound}
-use Rattle.core_model.specs.State.{State}
-use Rattle.core_model.specs.View.{job_of, is_logged_in, devices_of, run_of, running_of, held_state, plain_item}
-use Rattle.core_model.proofs.CallGoes.{shape_of}
-use Rattle.core_model.proofs.Gates.{input_of_channel}
-use Rattle.core_plain.specs.Plain.{StandsFor}
-use Rattle.core_plain.proofs.Stands.{HoldsFor, stands_at}
+use Rattle.engine_model.specs.Calls.{IsBlocked}
+use Rattle.engine_model.specs.Keeps.{Keeps, Shape, StandsAs}
+use Rattle.engine_model.specs.Language.{Language}
+use Rattle.engine_model.specs.Sound.{IsSound}
+use Rattle.engine_model.specs.State.{State}
+use Rattle.engine_model.specs.View.{job_of, is_logged_in, devices_of, run_of, running_of, held_state, plain_item}
+use Rattle.engine_model.proofs.Calls.Goes.{shape_of}
+use Rattle.engine_model.proofs.Shape.Gates.{input_of_channel}
+use Rattle.engine_plain.specs.Plain.{StandsFor}
+use Rattle.engine_plain.proofs.Stands.{HoldsFor, stands_at}
 use Rattle.engine.specs.Readers.{pending_in}
 use Rattle.engine_rounds.specs.Idle.{IsIdle, AreIdle}
 use Rattle.engine_rounds.specs.Works.{IsResting}

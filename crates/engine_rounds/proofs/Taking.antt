@@ -2,10 +2,10 @@
 use Rattle.std.proofs.Common.{◌≡◌, ◌≢◌, ◌⊎◌, inl, inr, ◌≤◌, ◌<◌, ◌+◌, Bool, true, false, Result, Ok, Err, ℕ, List, [], ◌++◌, None, length, refl, sym, subst, ◌∙◌, arith, length-append}
 use Rattle.std.proofs.Math.Nat.{eq-or-lt_of_le}
 use Rattle.dataflow_model.specs.Machine.{Move}
-use Rattle.core_model.specs.Language.{Language}
-use Rattle.core_model.specs.State.{State}
-use Rattle.core_model.specs.declared.fault.CoreFault.{CoreFault}
-use Rattle.core_model.specs.declared.fault.CoreFault.TheVariants.{NotRunning, Memory, Device}
+use Rattle.engine_model.specs.Language.{Language}
+use Rattle.engine_model.specs.State.{State}
+use Rattle.engine_model.specs.declared.fault.CoreFault.{CoreFault}
+use Rattle.engine_model.specs.declared.fault.CoreFault.TheVariants.{NotRunning, Memory, Device}
 use Rattle.engine_rounds.specs.Idle.{IsIdleIn}
 use Rattle.engine_rounds.specs.Turns.{Stops, Made, EndsTurn, EndsWorkAt, EndsRound}
 use Rattle.engine_rounds.specs.Works.{Works}

@@ -17,15 +17,15 @@ use Rattle.snapshot_store.specs.Store.{Stored}
 use Rattle.job_state.specs.declared.holding.Holding.{Holding}
 use Rattle.job_state.specs.declared.holding.Holding.TheVariants as holds
 use Rattle.source_log.specs.Partitions.{records_at}
-use Rattle.core_model.specs.Calls.{EndsRead, IsSource, input_at, left_by}
-use Rattle.core_model.specs.Goes.{Goes}
-use Rattle.core_model.specs.Language.{Language}
-use Rattle.core_model.specs.Sound.{IsSound}
-use Rattle.core_model.specs.State.{State}
-use Rattle.core_model.specs.declared.fault.CoreFault.{CoreFault}
-use Rattle.core_model.specs.declared.fault.CoreFault.TheVariants.{NoSuchTask, NotRunning, NotReady, ChannelBlocked, Memory, Device, WrongResult}
-use Rattle.core_model.proofs.CallGoes.{after}
-use Rattle.core_plain.specs.Plain.{Stays, StepsBy, StepsIfOk}
+use Rattle.engine_model.specs.Calls.{EndsRead, IsSource, input_at, left_by}
+use Rattle.engine_model.specs.Goes.{Goes}
+use Rattle.engine_model.specs.Language.{Language}
+use Rattle.engine_model.specs.Sound.{IsSound}
+use Rattle.engine_model.specs.State.{State}
+use Rattle.engine_model.specs.declared.fault.CoreFault.{CoreFault}
+use Rattle.engine_model.specs.declared.fault.CoreFault.TheVariants.{NoSuchTask, NotRunning, NotReady, ChannelBlocked, Memory, Device, WrongResult}
+use Rattle.engine_model.proofs.Calls.Goes.{after}
+use Rattle.engine_plain.specs.Plain.{Stays, StepsBy, StepsIfOk}
 use Rattle.engine.specs.Running.{IsCounted, OnAttempt, OnTransactions}
 use Rattle.engine_rounds.specs.Idle.{IsIdle, HasNothing, HasNothingIn}
 use Rattle.engine_rounds.specs.Turns.{turned_as, EndsTurn, EndsWorkAt}

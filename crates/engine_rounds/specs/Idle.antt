@@ -6,8 +6,8 @@ use Rattle.job_state.specs.Held.{Held}
 use Rattle.job_state.specs.declared.holding.Holding.TheVariants as holds
 use Rattle.source_log.specs.Partitions.{records_at}
 use Rattle.claims.specs.Due.{WorksFrom}
-use Rattle.core_model.specs.Calls.{IsBlocked, NoRecord, HasNext}
-use Rattle.core_model.specs.State.{State}
+use Rattle.engine_model.specs.Calls.{IsBlocked, NoRecord, HasNext}
+use Rattle.engine_model.specs.State.{State}
 use Rattle.engine.specs.Readers.{HasHead}
 
 module _ {R K S : Type 0} (graph : Expanded) (h : Held R K S) where

@@ -1,10 +1,10 @@
 -- How turns of tasks end, one and many.
 use Rattle.std.specs.Prelude.{◌≡◌, ◌≢◌, ◌≤◌, ◌+◌, ◌<◌, ℕ, Bool, true, false, List, [], ◌∷◌, None, Result, Ok, Err, length}
 use Rattle.dataflow_model.specs.Machine.{Move, mover}
-use Rattle.core_model.specs.Language.{Language}
-use Rattle.core_model.specs.State.{State}
-use Rattle.core_model.specs.declared.fault.CoreFault.{CoreFault}
-use Rattle.core_model.specs.declared.fault.CoreFault.TheVariants.{NotRunning, ChannelBlocked, NotReady, Memory, Device}
+use Rattle.engine_model.specs.Language.{Language}
+use Rattle.engine_model.specs.State.{State}
+use Rattle.engine_model.specs.declared.fault.CoreFault.{CoreFault}
+use Rattle.engine_model.specs.declared.fault.CoreFault.TheVariants.{NotRunning, ChannelBlocked, NotReady, Memory, Device}
 use Rattle.engine_rounds.specs.Idle.{HasNothingIn, IsIdleIn, AreIdle}
 use Rattle.engine_rounds.specs.Works.{Works, CanMove}
 use Rattle.engine_rounds.specs.declared.ending.Drained.{Drained}

@@ -4,12 +4,12 @@ use Rattle.commit_sink.specs.Ledger.{committed_rows}
 use Rattle.dataflow_model.specs.Graph.{Begins}
 use Rattle.dataflow_model.specs.Machine.{Configuration, Move, Reaches, IsPossible, IsAtRest}
 use Rattle.job_graph.specs.declared.role.Role.TheVariants as role
-use Rattle.core_model.specs.Goes.{Goes}
-use Rattle.core_model.specs.Language.{Language}
-use Rattle.core_model.specs.Sound.{IsSound}
-use Rattle.core_model.specs.State.{State}
-use Rattle.core_model.specs.View.{job_of}
-use Rattle.core_plain.specs.Plain.{StandsFor}
+use Rattle.engine_model.specs.Goes.{Goes}
+use Rattle.engine_model.specs.Language.{Language}
+use Rattle.engine_model.specs.Sound.{IsSound}
+use Rattle.engine_model.specs.State.{State}
+use Rattle.engine_model.specs.View.{job_of}
+use Rattle.engine_plain.specs.Plain.{StandsFor}
 
 module _ {R K S O : Type 0} (lang : Language R K S O) where
   -- These plain steps, one after another, lead from what the old data stand for to what the new data stand for, if the job still runs.

@@ -1,7 +1,7 @@
 //! Rounds of turns, until no task has a step left to make.
 
 ghost use Rattle.std.specs.Prelude.{◌≡◌, ◌≢◌, ◌<◌, None, false, IsTrue, OnOk};
-ghost use Rattle.core_model.specs.Sound.{IsSound};
+ghost use Rattle.engine_model.specs.Sound.{IsSound};
 ghost use Rattle.engine.specs.Readers.{pending_in};
 ghost use Rattle.engine.specs.Running.{IsCounted};
 ghost use Rattle.engine_rounds.specs.Idle.{AreIdle};
@@ -11,8 +11,8 @@ ghost use Rattle.engine_rounds.specs.Works.{CanMove, IsResting};
 use crate::ending::Drained;
 use crate::turns::{has_step, turn};
 use commit_sink::Transactions;
-use core_model::Rules;
 use engine::{CoreFault, Engine};
+use engine_model::Rules;
 use operators::Operator;
 use snapshot_store::SnapshotStore;
 use source_log::Partitions;

@@ -2,15 +2,15 @@
 
 ghost use Rattle.std.specs.Prelude.{◌≡◌, ◌≢◌, ◌↔◌, ℕ, None, false, IsTrue, OnOk, MatchOption, slice_get};
 ghost use Rattle.claims.specs.Due.{IsWorker, WorksFrom};
-ghost use Rattle.core_model.specs.Calls.{IsSource};
+ghost use Rattle.engine_model.specs.Calls.{IsSource};
 ghost use Rattle.engine.specs.Readers.{pending_in};
 ghost use Rattle.engine.specs.Running.{IsCounted};
 ghost use Rattle.engine_rounds.specs.Idle.{HasInput, HasStepIn, IsIdleIn};
 ghost use Rattle.engine_rounds.specs.Turns.{turned_as, EndsTurn, EndsWorkAt};
 
 use commit_sink::Transactions;
-use core_model::Rules;
 use engine::{CoreFault, Engine};
+use engine_model::Rules;
 use job_graph::Role;
 use operators::Operator;
 use snapshot_store::SnapshotStore;

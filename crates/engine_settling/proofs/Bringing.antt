@@ -4,12 +4,12 @@ use Rattle.std.proofs.lemmas.Option.{none-some, same_Some, MatchOption-at_some}
 use Rattle.dataflow_model.specs.Machine.{Move}
 use Rattle.job_graph.specs.Expanded.{Expanded}
 use Rattle.job_state.specs.Held.{Held}
-use Rattle.core_model.specs.Keeps.{Keeps, Shape, RunsIn}
-use Rattle.core_model.specs.Language.{Language}
-use Rattle.core_model.specs.State.{State}
-use Rattle.core_model.specs.declared.fault.CoreFault.{CoreFault}
-use Rattle.core_model.specs.declared.fault.CoreFault.TheVariants.{NotReady, Memory, Device}
-use Rattle.core_plain.specs.Plain.{Stays}
+use Rattle.engine_model.specs.Keeps.{Keeps, Shape, RunsIn}
+use Rattle.engine_model.specs.Language.{Language}
+use Rattle.engine_model.specs.State.{State}
+use Rattle.engine_model.specs.declared.fault.CoreFault.{CoreFault}
+use Rattle.engine_model.specs.declared.fault.CoreFault.TheVariants.{NotReady, Memory, Device}
+use Rattle.engine_plain.specs.Plain.{Stays}
 use Rattle.engine.specs.Running.{IsCounted, WhileRunning}
 use Rattle.engine_rounds.specs.Works.{Works}
 use Rattle.engine_rounds.proofs.Many.{IsLike, like, stays_down, moves_none, works_none, works_both}

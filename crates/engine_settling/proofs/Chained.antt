@@ -12,16 +12,16 @@ use Rattle.job_state.specs.Held.{Held}
 use Rattle.job_state.specs.declared.holding.Holding.TheVariants as holds
 use Rattle.snapshot_store.specs.Store.{Stored, IsNumbered, is_complete}
 use Rattle.source_log.specs.Partitions.{records_at}
-use Rattle.core_model.specs.Calls.{EndsTrigger, IsBlocked, NoRecord, left_by, tidied}
-use Rattle.core_model.specs.Commits.{EndsCommit}
-use Rattle.core_model.specs.Keeps.{Keeps}
-use Rattle.core_model.specs.Language.{Language}
-use Rattle.core_model.specs.LastCommitted.{committed_of, complete_numbers}
-use Rattle.core_model.specs.Sound.{IsSound}
-use Rattle.core_model.specs.State.{State}
-use Rattle.core_model.specs.declared.fault.CoreFault.{CoreFault}
-use Rattle.core_model.specs.declared.fault.CoreFault.TheVariants.{NotRunning, NoCheckpoint, CheckpointPending, Memory, Device, CommitFault, NumbersSpent}
-use Rattle.core_plain.specs.Plain.{Stays}
+use Rattle.engine_model.specs.Calls.{EndsTrigger, IsBlocked, NoRecord, left_by, tidied}
+use Rattle.engine_model.specs.Commits.{EndsCommit}
+use Rattle.engine_model.specs.Keeps.{Keeps}
+use Rattle.engine_model.specs.Language.{Language}
+use Rattle.engine_model.specs.LastCommitted.{committed_of, complete_numbers}
+use Rattle.engine_model.specs.Sound.{IsSound}
+use Rattle.engine_model.specs.State.{State}
+use Rattle.engine_model.specs.declared.fault.CoreFault.{CoreFault}
+use Rattle.engine_model.specs.declared.fault.CoreFault.TheVariants.{NotRunning, NoCheckpoint, CheckpointPending, Memory, Device, CommitFault, NumbersSpent}
+use Rattle.engine_plain.specs.Plain.{Stays}
 use Rattle.engine.specs.Readers.{pending_in}
 use Rattle.engine.specs.Running.{OnStore, OnTransactions}
 use Rattle.engine.proofs.Raising.{sound_exact}

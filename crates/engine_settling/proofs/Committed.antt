@@ -7,23 +7,23 @@ use Rattle.job_graph.specs.Expanded.{Expanded}
 use Rattle.job_graph.specs.declared.role.Role.TheVariants as role
 use Rattle.job_state.specs.Held.{Held}
 use Rattle.snapshot_store.specs.Store.{Stored, IsNumbered, is_complete}
-use Rattle.core_model.specs.Calls.{EndsComplete}
-use Rattle.core_model.specs.Commits.{CommitsOne, CommitsEach, EndsCommit}
-use Rattle.core_model.specs.Keeps.{Keeps, PendingIn, RunsIn, SinkIn}
-use Rattle.core_model.specs.Language.{Language}
-use Rattle.core_model.specs.LastCommitted.{committed_of, complete_numbers, last_of_first, last_committed}
-use Rattle.core_model.specs.Sound.{IsSound}
-use Rattle.core_model.specs.State.{State}
-use Rattle.core_model.proofs.CallCommits.{keeps_round}
-use Rattle.core_model.proofs.CallGoes.{after, runs_of}
-use Rattle.core_model.proofs.CallLasts.{commits_reach}
-use Rattle.core_model.proofs.LedgerCalls.{committed_one, with_committed, commit_now, commit_stays}
-use Rattle.core_model.proofs.LedgerPlaces.{Writes, writes}
-use Rattle.core_model.proofs.LedgerSinks.{first_pending}
-use Rattle.core_model.proofs.Sounds.{keeps_as_fresh}
-use Rattle.core_model.proofs.StoreComplete.{completed_last, numbered_pending_completed}
-use Rattle.core_model.proofs.StoreRuns.{runs_pending}
-use Rattle.core_model.proofs.StoreView.{last_of_line}
+use Rattle.engine_model.specs.Calls.{EndsComplete}
+use Rattle.engine_model.specs.Commits.{CommitsOne, CommitsEach, EndsCommit}
+use Rattle.engine_model.specs.Keeps.{Keeps, PendingIn, RunsIn, SinkIn}
+use Rattle.engine_model.specs.Language.{Language}
+use Rattle.engine_model.specs.LastCommitted.{committed_of, complete_numbers, last_of_first, last_committed}
+use Rattle.engine_model.specs.Sound.{IsSound}
+use Rattle.engine_model.specs.State.{State}
+use Rattle.engine_model.proofs.Calls.Commits.{keeps_round}
+use Rattle.engine_model.proofs.Calls.Goes.{after, runs_of}
+use Rattle.engine_model.proofs.Calls.Lasts.{commits_reach}
+use Rattle.engine_model.proofs.Ledger.Calls.{committed_one, with_committed, commit_now, commit_stays}
+use Rattle.engine_model.proofs.Ledger.Places.{Writes, writes}
+use Rattle.engine_model.proofs.Ledger.Sinks.{first_pending}
+use Rattle.engine_model.proofs.Sounds.{keeps_as_fresh}
+use Rattle.engine_model.proofs.Store.Complete.{completed_last, numbered_pending_completed}
+use Rattle.engine_model.proofs.Store.Runs.{runs_pending}
+use Rattle.engine_model.proofs.Store.View.{last_of_line}
 
 -- ---- the last complete checkpoint
 

@@ -6,17 +6,17 @@ use Rattle.job_graph.specs.Expanded.{Expanded}
 use Rattle.job_graph.specs.declared.role.Role.TheVariants as role
 use Rattle.job_state.specs.Held.{Held}
 use Rattle.snapshot_store.specs.Store.{Stored}
-use Rattle.core_model.specs.Calls.{EndsComplete, left_by}
-use Rattle.core_model.specs.Commits.{EndsCommit}
-use Rattle.core_model.specs.CompleteCut.{HasTheCut}
-use Rattle.core_model.specs.Keeps.{Keeps}
-use Rattle.core_model.specs.Language.{Language}
-use Rattle.core_model.specs.LastCommitted.{committed_of, complete_numbers}
-use Rattle.core_model.specs.Sound.{IsSound}
-use Rattle.core_model.specs.State.{State}
-use Rattle.core_model.specs.declared.fault.CoreFault.{CoreFault}
-use Rattle.core_model.specs.declared.fault.CoreFault.TheVariants.{NoSuchTask, NoCheckpoint, NotAllAcked, Device, CommitFault}
-use Rattle.core_plain.specs.Plain.{Stays}
+use Rattle.engine_model.specs.Calls.{EndsComplete, left_by}
+use Rattle.engine_model.specs.Commits.{EndsCommit}
+use Rattle.engine_model.specs.CompleteCut.{HasTheCut}
+use Rattle.engine_model.specs.Keeps.{Keeps}
+use Rattle.engine_model.specs.Language.{Language}
+use Rattle.engine_model.specs.LastCommitted.{committed_of, complete_numbers}
+use Rattle.engine_model.specs.Sound.{IsSound}
+use Rattle.engine_model.specs.State.{State}
+use Rattle.engine_model.specs.declared.fault.CoreFault.{CoreFault}
+use Rattle.engine_model.specs.declared.fault.CoreFault.TheVariants.{NoSuchTask, NoCheckpoint, NotAllAcked, Device, CommitFault}
+use Rattle.engine_plain.specs.Plain.{Stays}
 use Rattle.engine.specs.Readers.{pending_in}
 use Rattle.engine.specs.Running.{OnStore, OnTransactions}
 use Rattle.engine_rounds.specs.Works.{Works}

@@ -19,10 +19,10 @@ use Rattle.job_graph.specs.declared.role.Role.{Role}
 use Rattle.job_graph.specs.declared.role.Role.TheVariants.{Source, Operator, Sink}
 use Rattle.job_state.specs.Held.{Held, copy_at, came_at, gate_at}
 use Rattle.job_state.specs.Sending.{items_at}
-use Rattle.core_model.specs.Calls.{IsBlocked, NoRecord, IsBarrierDue}
-use Rattle.core_model.specs.Keeps.{Shape, GateFits, StandsAs, NotesBarriers, barriers_in, barriers_due}
-use Rattle.core_model.proofs.CallTasks.{LeadsTo, input_leads}
-use Rattle.core_model.proofs.Gates.{input_of_channel, some_copy}
+use Rattle.engine_model.specs.Calls.{IsBlocked, NoRecord, IsBarrierDue}
+use Rattle.engine_model.specs.Keeps.{Shape, GateFits, StandsAs, NotesBarriers, barriers_in, barriers_due}
+use Rattle.engine_model.proofs.Calls.Tasks.{LeadsTo, input_leads}
+use Rattle.engine_model.proofs.Shape.Gates.{input_of_channel, some_copy}
 use Rattle.engine_settling.specs.Advancing.{IsPending, HaveCopied, HaveCome, HaveAllCome}
 
 -- ---- tasks and their inputs

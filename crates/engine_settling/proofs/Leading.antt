@@ -6,7 +6,7 @@ use Rattle.std.proofs.lemmas.Option.{none-some}
 use Rattle.channels.specs.declared.item.Item.{Item}
 use Rattle.channels.specs.declared.item.Item.TheVariants.{Record, Barrier}
 use Rattle.coordinator.specs.Coordinator.{Coordination, IsReady, has_acked}
-use Rattle.core_model.specs.Keeps.{barriers_in}
+use Rattle.engine_model.specs.Keeps.{barriers_in}
 use Rattle.engine_settling.specs.Awaiting.{leading}
 
 -- what is put in behind a barrier changes nothing before it

@@ -12,9 +12,9 @@ use Rattle.job_graph.specs.Expanded.{Expanded, IsExpanded, inputs_of, meets, is_
 use Rattle.job_graph.specs.declared.role.Role.{Role}
 use Rattle.job_graph.specs.declared.role.Role.TheVariants as role
 use Rattle.job_state.specs.Held.{Held, copy_at, came_at}
-use Rattle.core_model.specs.Keeps.{Keeps}
-use Rattle.core_model.specs.Language.{Language}
-use Rattle.core_model.specs.State.{State}
+use Rattle.engine_model.specs.Keeps.{Keeps}
+use Rattle.engine_model.specs.Language.{Language}
+use Rattle.engine_model.specs.State.{State}
 use Rattle.engine_settling.specs.Advancing.{Advances, IsPending, HaveSourcesCopied, HaveCopiedBefore, HaveCopied, HaveSendersCopied, HaveCome, HaveComeBefore, HaveAllCome, HaveAckedBefore, HaveAcked, HaveEnded}
 use Rattle.engine_settling.specs.Awaiting.{IsAwaited, HasCome}
 use Rattle.engine_settling.specs.Bringing.{Holds, Brings}

@@ -8,7 +8,7 @@ use Rattle.std.proofs.lemmas.List.Sorted.{length_permutation, All-permutation, C
 use Rattle.std.proofs.lemmas.Option.{same_Some, slice_get_within, slice_get-get_or, get_or_from_slice_get}
 use Rattle.job_graph.specs.Expanded.{Expanded, IsExpanded, StandsBefore}
 use Rattle.job_state.specs.Held.{Held, copy_at}
-use Rattle.core_model.specs.Keeps.{Shape}
+use Rattle.engine_model.specs.Keeps.{Shape}
 use Rattle.engine_settling.specs.Advancing.{Advances, HaveSourcesCopied, HaveCopiedBefore, HaveCopied, HaveSendersCopied, HaveCome, HaveComeBefore, HaveAllCome, HaveAckedBefore}
 use Rattle.engine_settling.proofs.Gating.{unmarked_came}
 

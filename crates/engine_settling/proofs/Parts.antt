@@ -15,13 +15,13 @@ use Rattle.job_graph.specs.declared.role.Role.{Role}
 use Rattle.job_graph.specs.declared.role.Role.TheVariants as role
 use Rattle.job_state.specs.Held.{Held, copy_at, came_at}
 use Rattle.task_part.specs.declared.part.Part.{Part}
-use Rattle.core_model.specs.Calls.{EndsInject, EndsPersist, EndsOperatorBarrier, EndsSinkBarrier, IsSource, IsBarrierDue, NoRecord, input_at, left_by}
-use Rattle.core_model.specs.Keeps.{Keeps}
-use Rattle.core_model.specs.Language.{Language}
-use Rattle.core_model.specs.State.{State}
-use Rattle.core_model.specs.declared.fault.CoreFault.{CoreFault}
-use Rattle.core_model.specs.declared.fault.CoreFault.TheVariants.{NoSuchTask, NotReady, ChannelBlocked, NoCheckpoint, WrongResult, Memory, Device}
-use Rattle.core_plain.specs.Plain.{Stays}
+use Rattle.engine_model.specs.Calls.{EndsInject, EndsPersist, EndsOperatorBarrier, EndsSinkBarrier, IsSource, IsBarrierDue, NoRecord, input_at, left_by}
+use Rattle.engine_model.specs.Keeps.{Keeps}
+use Rattle.engine_model.specs.Language.{Language}
+use Rattle.engine_model.specs.State.{State}
+use Rattle.engine_model.specs.declared.fault.CoreFault.{CoreFault}
+use Rattle.engine_model.specs.declared.fault.CoreFault.TheVariants.{NoSuchTask, NotReady, ChannelBlocked, NoCheckpoint, WrongResult, Memory, Device}
+use Rattle.engine_plain.specs.Plain.{Stays}
 use Rattle.engine.specs.Running.{OnAttempt, OnStore, OnTransactions}
 use Rattle.engine_rounds.specs.Works.{Works}
 use Rattle.engine_rounds.proofs.Many.{ran}

@@ -4,8 +4,8 @@ use Rattle.std.specs.declared.cmp.Ord as ord
 use Rattle.operators.specs.Operator.{IsGoodState}
 use Rattle.operators.specs.declared.operator.Operator as operator
 use Rattle.task_part.specs.Spelling.{part_spelling}
-use Rattle.core_model.specs.Language.{language}
-use Rattle.core_model.specs.declared.rules.Rules as rules
+use Rattle.engine_model.specs.Language.{language}
+use Rattle.engine_model.specs.declared.rules.Rules as rules
 
 -- what an operator brings, as a contract's quote of `Rules` has it
 abbrev pub rules_of : {O R K S : Type 0} → operator.Ghosts O R K S → ord.Ghosts K → codec.Ghosts R → codec.Ghosts K → codec.Ghosts S → rules.Ghosts O R K S

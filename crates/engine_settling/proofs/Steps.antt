@@ -24,13 +24,13 @@ use Rattle.snapshot_store.specs.Store.{Stored}
 use Rattle.source_log.specs.Partitions.{records_at}
 use Rattle.task_part.specs.declared.part.Part.{Part}
 use Rattle.task_part.specs.declared.part.Part.TheVariants as part
-use Rattle.core_model.specs.Calls.{input_at, EndsInject, EndsPersist, EndsRead, EndsTrigger, EndsComplete, NotesBarrier, CopiesMap, CopiesSink, OperatesNext, PutsOut}
-use Rattle.core_model.specs.Commits.{CommitsOne, CommitsEach, EndsCommit}
-use Rattle.core_model.specs.Keeps.{Shape}
-use Rattle.core_model.specs.Language.{Language}
-use Rattle.core_model.specs.declared.fault.CoreFault.{CoreFault}
-use Rattle.core_model.specs.declared.fault.CoreFault.TheVariants.{NotReady, NoSuchTask, CommitFault}
-use Rattle.core_model.proofs.CallTasks.{LeadsTo, input_leads}
+use Rattle.engine_model.specs.Calls.{input_at, EndsInject, EndsPersist, EndsRead, EndsTrigger, EndsComplete, NotesBarrier, CopiesMap, CopiesSink, OperatesNext, PutsOut}
+use Rattle.engine_model.specs.Commits.{CommitsOne, CommitsEach, EndsCommit}
+use Rattle.engine_model.specs.Keeps.{Shape}
+use Rattle.engine_model.specs.Language.{Language}
+use Rattle.engine_model.specs.declared.fault.CoreFault.{CoreFault}
+use Rattle.engine_model.specs.declared.fault.CoreFault.TheVariants.{NotReady, NoSuchTask, CommitFault}
+use Rattle.engine_model.proofs.Calls.Tasks.{LeadsTo, input_leads}
 use Rattle.claims.specs.Due.{EndsAccept}
 use Rattle.claims.specs.Tasks.{TakesAs, EndsBarrier, WorksAs, EndsWork}
 use Rattle.claims.specs.declared.parts.Made.{Made}

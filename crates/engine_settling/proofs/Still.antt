@@ -26,16 +26,16 @@ use Rattle.snapshot_store.specs.Store.{Stored}
 use Rattle.source_log.specs.Partitions.{records_at}
 use Rattle.task_part.specs.declared.part.Part.{Part}
 use Rattle.task_part.specs.declared.part.Part.TheVariants as part
-use Rattle.core_model.specs.Calls.{IsBlocked, NoRecord}
-use Rattle.core_model.specs.CompleteCut.{HasTheCut}
-use Rattle.core_model.specs.Keeps.{Shape, CopyAs, barriers_in}
-use Rattle.core_model.specs.Language.{Language}
-use Rattle.core_model.specs.State.{State}
-use Rattle.core_model.specs.View.{job_of, attempt_of, held_state, copied_state, plain_item}
-use Rattle.core_model.proofs.BarriersKept.{none_unpending}
-use Rattle.core_model.proofs.Gates.{input_of_channel}
-use Rattle.core_model.proofs.GatesKept.{rests_unpending}
-use Rattle.core_model.proofs.Shapes.{replicate_at}
+use Rattle.engine_model.specs.Calls.{IsBlocked, NoRecord}
+use Rattle.engine_model.specs.CompleteCut.{HasTheCut}
+use Rattle.engine_model.specs.Keeps.{Shape, CopyAs, barriers_in}
+use Rattle.engine_model.specs.Language.{Language}
+use Rattle.engine_model.specs.State.{State}
+use Rattle.engine_model.specs.View.{job_of, attempt_of, held_state, copied_state, plain_item}
+use Rattle.engine_model.proofs.Shape.BarriersKept.{none_unpending}
+use Rattle.engine_model.proofs.Shape.Gates.{input_of_channel}
+use Rattle.engine_model.proofs.Shape.GatesKept.{rests_unpending}
+use Rattle.engine_model.proofs.Shape.Shapes.{replicate_at}
 use Rattle.engine_settling.specs.Resting.{IsStill, CutRests}
 
 -- ---- queues

@@ -8,12 +8,12 @@ use Rattle.dataflow_model.specs.Graph.{Task, Job}
 use Rattle.dataflow_model.specs.Machine.{Configuration, Move, Read, Work, start, mover, handled, after, Takes, Reaches, IsAtRest}
 use Rattle.dataflow_model.proofs.Runs.{ends}
 use Rattle.snapshot_store.specs.Store.{IsNumbered}
-use Rattle.core_model.specs.ExactlyOnce.{IsExactlyOnce}
-use Rattle.core_model.specs.Language.{Language}
-use Rattle.core_model.specs.LastCommitted.{complete_numbers}
-use Rattle.core_model.specs.State.{State}
-use Rattle.core_model.specs.View.{job_of, store_of}
-use Rattle.core_model.proofs.StoreView.{last_of_line}
+use Rattle.engine_model.specs.ExactlyOnce.{IsExactlyOnce}
+use Rattle.engine_model.specs.Language.{Language}
+use Rattle.engine_model.specs.LastCommitted.{complete_numbers}
+use Rattle.engine_model.specs.State.{State}
+use Rattle.engine_model.specs.View.{job_of, store_of}
+use Rattle.engine_model.proofs.Store.View.{last_of_line}
 use Rattle.engine_settling.specs.Resting.{CutRests}
 use Rattle.engine_settling.specs.Settled.{IsCompleted, IsCommitted}
 use Rattle.engine_settling.specs.Whole.{IsWhole}

@@ -11,13 +11,13 @@ use Rattle.dataflow_model.specs.Machine.{Work}
 use Rattle.job_graph.specs.Expanded.{Expanded}
 use Rattle.job_state.specs.Held.{Held}
 use Rattle.job_state.specs.Sending.{items_at}
-use Rattle.core_model.specs.Calls.{IsBlocked, NoRecord, input_at, left_by}
-use Rattle.core_model.specs.Keeps.{Keeps}
-use Rattle.core_model.specs.Language.{Language}
-use Rattle.core_model.specs.State.{State}
-use Rattle.core_model.specs.declared.fault.CoreFault.{CoreFault}
-use Rattle.core_model.specs.declared.fault.CoreFault.TheVariants.{NotRunning, NoSuchTask, NotReady, ChannelBlocked, Memory, Device}
-use Rattle.core_plain.specs.Plain.{Stays, StepsIfOk}
+use Rattle.engine_model.specs.Calls.{IsBlocked, NoRecord, input_at, left_by}
+use Rattle.engine_model.specs.Keeps.{Keeps}
+use Rattle.engine_model.specs.Language.{Language}
+use Rattle.engine_model.specs.State.{State}
+use Rattle.engine_model.specs.declared.fault.CoreFault.{CoreFault}
+use Rattle.engine_model.specs.declared.fault.CoreFault.TheVariants.{NotRunning, NoSuchTask, NotReady, ChannelBlocked, Memory, Device}
+use Rattle.engine_plain.specs.Plain.{Stays, StepsIfOk}
 use Rattle.engine.specs.Readers.{HasHead}
 use Rattle.engine.specs.Running.{OnTransactions}
 use Rattle.engine_rounds.specs.Turns.{EndsWorkAt, turned_as}

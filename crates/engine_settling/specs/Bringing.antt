@@ -3,10 +3,10 @@ use Rattle.std.specs.Prelude.{◌≡◌, List, Some, None, Result, Ok, Err, Matc
 use Rattle.dataflow_model.specs.Machine.{Move}
 use Rattle.job_graph.specs.Expanded.{Expanded}
 use Rattle.job_state.specs.Held.{Held}
-use Rattle.core_model.specs.Language.{Language}
-use Rattle.core_model.specs.State.{State}
-use Rattle.core_model.specs.declared.fault.CoreFault.{CoreFault}
-use Rattle.core_model.specs.declared.fault.CoreFault.TheVariants.{NotReady, Memory, Device}
+use Rattle.engine_model.specs.Language.{Language}
+use Rattle.engine_model.specs.State.{State}
+use Rattle.engine_model.specs.declared.fault.CoreFault.{CoreFault}
+use Rattle.engine_model.specs.declared.fault.CoreFault.TheVariants.{NotReady, Memory, Device}
 use Rattle.engine_rounds.specs.Works.{Works}
 use Rattle.engine_settling.specs.Advancing.{Advances}
 use Rattle.engine_settling.specs.Resting.{IsStill}

@@ -10,9 +10,9 @@ use Rattle.job_state.specs.Sending.{items_at}
 use Rattle.job_state.specs.declared.holding.Holding.TheVariants as holds
 use Rattle.source_log.specs.Partitions.{records_at}
 use Rattle.task_part.specs.declared.part.Part.TheVariants as part
-use Rattle.core_model.specs.Language.{Language}
-use Rattle.core_model.specs.State.{State}
-use Rattle.core_model.specs.View.{job_of, store_of}
+use Rattle.engine_model.specs.Language.{Language}
+use Rattle.engine_model.specs.State.{State}
+use Rattle.engine_model.specs.View.{job_of, store_of}
 
 -- No record stands in a channel or in a log, and each source has read its partition to the end, and had when it copied, if it has.
 pub record IsStill {R K S : Type 0} (graph : Expanded) (partitions : List (List R)) (h : Held R K S) : Type 0 where

@@ -3,12 +3,12 @@ use Rattle.std.specs.Prelude.{◌≡◌, ◌≤◌, ◌<◌, ◌+◌, ◌^◌, �
 use Rattle.dataflow_model.specs.Machine.{Move}
 use Rattle.job_graph.specs.declared.role.Role.TheVariants as role
 use Rattle.snapshot_store.specs.Store.{is_complete}
-use Rattle.core_model.specs.Language.{Language}
-use Rattle.core_model.specs.LastCommitted.{committed_of, complete_numbers, last_committed}
-use Rattle.core_model.specs.Sound.{IsSound}
-use Rattle.core_model.specs.State.{State}
-use Rattle.core_model.specs.declared.fault.CoreFault.{CoreFault}
-use Rattle.core_model.specs.declared.fault.CoreFault.TheVariants.{NoCheckpoint, Memory, Device, CommitFault, NumbersSpent}
+use Rattle.engine_model.specs.Language.{Language}
+use Rattle.engine_model.specs.LastCommitted.{committed_of, complete_numbers, last_committed}
+use Rattle.engine_model.specs.Sound.{IsSound}
+use Rattle.engine_model.specs.State.{State}
+use Rattle.engine_model.specs.declared.fault.CoreFault.{CoreFault}
+use Rattle.engine_model.specs.declared.fault.CoreFault.TheVariants.{NoCheckpoint, Memory, Device, CommitFault, NumbersSpent}
 use Rattle.engine.specs.Readers.{pending_in}
 use Rattle.engine_rounds.specs.Turns.{Made}
 use Rattle.engine_rounds.specs.Works.{CanMove}

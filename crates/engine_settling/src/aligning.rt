@@ -7,8 +7,8 @@ ghost use Rattle.engine_settling.specs.Bringing.{Holds, EndsPart};
 
 use crate::taking::take_inputs;
 use commit_sink::Transactions;
-use core_model::Rules;
 use engine::{CoreFault, Engine};
+use engine_model::Rules;
 use job_graph::Graph;
 use operators::Operator;
 use snapshot_store::SnapshotStore;

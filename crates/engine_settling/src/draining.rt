@@ -9,8 +9,8 @@ ghost use Rattle.engine_settling.specs.Settled.{EndsStart, EndsAtRest, EndsDrain
 use crate::putting::commit_sinks;
 use crate::settling::settle;
 use commit_sink::Transactions;
-use core_model::Rules;
 use engine::{CoreFault, Engine};
+use engine_model::Rules;
 use engine_rounds::{Drained, rounds};
 use operators::Operator;
 use snapshot_store::SnapshotStore;

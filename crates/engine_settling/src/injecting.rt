@@ -1,7 +1,7 @@
 //! Sources copy, and send the barrier.
 
 ghost use Rattle.std.specs.Prelude.{◌≢◌, ◌↔◌, None, IsTrue};
-ghost use Rattle.core_model.specs.Calls.{IsSource};
+ghost use Rattle.engine_model.specs.Calls.{IsSource};
 ghost use Rattle.engine.specs.Running.{IsCounted};
 ghost use Rattle.job_state.specs.Held.{copy_at};
 ghost use Rattle.engine_settling.specs.Advancing.{IsPending, HaveSourcesCopied};
@@ -9,8 +9,8 @@ ghost use Rattle.engine_settling.specs.Bringing.{Holds, EndsPart};
 
 use crate::outcomes::done;
 use commit_sink::Transactions;
-use core_model::Rules;
 use engine::{CoreFault, Engine};
+use engine_model::Rules;
 use job_graph::Graph;
 use operators::Operator;
 use snapshot_store::SnapshotStore;

@@ -9,8 +9,8 @@ ghost use Rattle.engine_settling.specs.Settled.{EndsCompletion, EndsCommitAt, En
 
 use crate::outcomes::done;
 use commit_sink::Transactions;
-use core_model::Rules;
 use engine::{CoreFault, Engine};
+use engine_model::Rules;
 use job_graph::Role;
 use operators::Operator;
 use snapshot_store::SnapshotStore;

@@ -10,8 +10,8 @@ ghost use Rattle.engine_settling.specs.Bringing.{Holds, EndsPart};
 
 use claims::channel_of;
 use commit_sink::Transactions;
-use core_model::Rules;
 use engine::{CoreFault, Engine};
+use engine_model::Rules;
 use operators::Operator;
 use snapshot_store::SnapshotStore;
 use source_log::Partitions;

@@ -10,7 +10,7 @@ ghost use Rattle.job_state.specs.Held.{with_logs};
 use crate::task::{Kind, Task};
 use abs_codec::{Codec, NoMemory};
 use operator_state::OperatorState;
-use task_part::{write_with_logs, Part};
+use task_part::{Part, write_with_logs};
 
 /// The spelling of the part that a copy is with these logs, in place of what the vector held. What
 /// has no spelling counts as want of memory.

@@ -201,10 +201,7 @@ pub(crate) fn spell_part<R: Codec, K: Codec + Ord, S: Codec>(
 }
 
 /// A task's part, as far as it is spelled.
-pub(crate) fn part<R: Codec, K: Codec + Ord, S: Codec>(
-    tasks: &[Task<R, K, S>],
-    task: u32,
-) -> &[u8]
+pub(crate) fn part<R: Codec, K: Codec + Ord, S: Codec>(tasks: &[Task<R, K, S>], task: u32) -> &[u8]
     requires { task < length tasks.now }
     ensures { result.now ≡ part_in tasks.now task }
 {

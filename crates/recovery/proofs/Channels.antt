@@ -6,7 +6,7 @@ use Rattle.std.proofs.lemmas.Bool.{false≢true}
 use Rattle.std.proofs.lemmas.Iterator.Search.{true_from_All}
 use Rattle.std.proofs.lemmas.List.Elements.{filter-append, All-from_all_within}
 use Rattle.task_part.specs.Spelling.{Logs}
-use Rattle.core_model.proofs.Turns.{take_one_more, next_of_rest, take_and_drop}
+use Rattle.engine_model.proofs.Turns.{take_one_more, next_of_rest, take_and_drop}
 
 -- each log has a channel
 pub as_many : {R : Type 0} (logs : Logs R) → length (map (λ log. log.0) logs) ≡ length logs

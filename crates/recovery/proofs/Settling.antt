@@ -4,9 +4,9 @@ use Rattle.std.proofs.lemmas.Option.{none-some}
 use Rattle.commit_sink.specs.Ledger.{Ledger, IsOrdered, Ends, after_commit, commit_refusal, aborted, abort_refusal, begun, unsettled_of}
 use Rattle.commit_sink.specs.declared.transactions.TransactionFault.{TransactionFault}
 use Rattle.commit_sink.specs.declared.transactions.TransactionFault.TheVariants as fault
-use Rattle.core_model.specs.Restart.{InTurn, UpTo, CommitsNext, AbortsNext, SettlesPartly, NamesOther}
-use Rattle.core_model.proofs.Turns.{turn_next, up_to_here, up_to_next, next_of_rest, take_and_drop, up_to_end}
-use Rattle.core_model.proofs.LedgerSettle.{abort_first, abort_not_refused, all_named, named_none}
+use Rattle.engine_model.specs.Restart.{InTurn, UpTo, CommitsNext, AbortsNext, SettlesPartly, NamesOther}
+use Rattle.engine_model.proofs.Turns.{turn_next, up_to_here, up_to_next, next_of_rest, take_and_drop, up_to_end}
+use Rattle.engine_model.proofs.Ledger.Settle.{abort_first, abort_not_refused, all_named, named_none}
 use Rattle.recovery.specs.Ends.{commit_fault, call_fault, EndsCommits, EndsAborts, EndsSettle}
 
 -- ---- commits

@@ -1,15 +1,15 @@
 -- The starts that parts say.
 use Rattle.std.proofs.Common.{◌≡◌, ◌<◌, inl, inr, All, Option, Some, None, Ok, Err, slice_get, get_or, length, List, [], ◌∷◌, ◌++◌, ℕ, refl, sym, ap, subst, ◌∙◌}
 use Rattle.std.proofs.lemmas.Option.{same_Some, slice_get-get_or}
-use Rattle.core_model.specs.Language.{Language}
+use Rattle.engine_model.specs.Language.{Language}
 use Rattle.commit_sink.specs.Ledger.{Ledger}
-use Rattle.core_model.specs.Restart.{IsStart, AreStarts, Takes, before_tasks, EndsRestart}
-use Rattle.core_model.specs.declared.fault.CoreFault.TheVariants as core
-use Rattle.core_model.proofs.Turns.{up_to_end}
+use Rattle.engine_model.specs.Restart.{IsStart, AreStarts, Takes, before_tasks, EndsRestart}
+use Rattle.engine_model.specs.declared.fault.CoreFault.TheVariants as core
+use Rattle.engine_model.proofs.Turns.{up_to_end}
 use Rattle.job_state.specs.declared.holding.Holding.{Holding}
-use Rattle.core_model.specs.declared.start.Start.{Start}
-use Rattle.core_model.specs.declared.start.Start.TheVariants as start
-use Rattle.core_model.proofs.Starts.{sink_at}
+use Rattle.engine_model.specs.declared.start.Start.{Start}
+use Rattle.engine_model.specs.declared.start.Start.TheVariants as start
+use Rattle.engine_model.proofs.Restart.Starts.{sink_at}
 use Rattle.job_graph.proofs.LinkLemmas.{slice_get_push}
 use Rattle.job_graph.specs.Expanded.{Expanded}
 use Rattle.job_graph.specs.declared.role.Role.{Role}

@@ -3,9 +3,9 @@ use Rattle.std.proofs.Common.{◌≡◌, ◌<◌, ◌+◌, ℕ, inl, inr, Ok, Er
 use Rattle.std.proofs.lemmas.List.Concat.{flat_map-append}
 use Rattle.std.proofs.lemmas.Option.{slice_get_read}
 use Rattle.commit_sink.specs.Ledger.{Ledger}
-use Rattle.core_model.specs.Restart.{InTurn, Takes, before_tasks, logs_in, openings_of}
-use Rattle.core_model.specs.declared.start.Start.{Start}
-use Rattle.core_model.proofs.Turns.{turn_more, next_of_rest, take_and_drop}
+use Rattle.engine_model.specs.Restart.{InTurn, Takes, before_tasks, logs_in, openings_of}
+use Rattle.engine_model.specs.declared.start.Start.{Start}
+use Rattle.engine_model.proofs.Turns.{turn_more, next_of_rest, take_and_drop}
 use Rattle.job_state.specs.declared.holding.Holding.{Holding}
 use Rattle.task_part.specs.Spelling.{Logs}
 use Rattle.recovery.specs.declared.fault.RecoveryFault.{RecoveryFault}

@@ -6,12 +6,12 @@ use Rattle.abs_codec.specs.declared.fault.CodecFault.TheVariants.{BadTag}
 use Rattle.commit_sink.specs.Ledger.{Ledger}
 use Rattle.commit_sink.specs.declared.transactions.TransactionFault.{TransactionFault}
 use Rattle.commit_sink.specs.declared.transactions.TransactionFault.TheVariants as transactions
-use Rattle.core_model.specs.Language.{Language}
-use Rattle.core_model.specs.Restart.{InTurn, UpTo, AreStarts, IsInPart, CommitsNext, AbortsNext, Settles, SettlesPartly, NamesOther, Suits, Takes, first_start, part_for, logs_in, openings_of, TakeSome, TakeUntilRefused, before_tasks}
-use Rattle.core_model.specs.declared.fault.CoreFault.{CoreFault}
-use Rattle.core_model.specs.declared.fault.CoreFault.TheVariants as core
-use Rattle.core_model.specs.declared.start.Start.{Start}
-use Rattle.core_model.specs.declared.start.Start.TheVariants as start
+use Rattle.engine_model.specs.Language.{Language}
+use Rattle.engine_model.specs.Restart.{InTurn, UpTo, AreStarts, IsInPart, CommitsNext, AbortsNext, Settles, SettlesPartly, NamesOther, Suits, Takes, first_start, part_for, logs_in, openings_of, TakeSome, TakeUntilRefused, before_tasks}
+use Rattle.engine_model.specs.declared.fault.CoreFault.{CoreFault}
+use Rattle.engine_model.specs.declared.fault.CoreFault.TheVariants as core
+use Rattle.engine_model.specs.declared.start.Start.{Start}
+use Rattle.engine_model.specs.declared.start.Start.TheVariants as start
 use Rattle.job_graph.specs.Expanded.{Expanded}
 use Rattle.job_graph.specs.declared.role.Role.{Role}
 use Rattle.job_state.specs.declared.holding.Holding.{Holding}

@@ -1,7 +1,7 @@
 //! Why a restart is refused.
 
 use abs_codec::{CodecFault, NoMemory};
-use core_model::CoreFault;
+use engine_model::CoreFault;
 use std::alloc::{AllocError, AllocFailed};
 use thiserror::Error;
 

@@ -3,7 +3,7 @@
 ghost use Rattle.std.specs.Prelude.{◌≡◌, ◌↔◌, IsTrue, All, Some, map, slice_get};
 ghost use Rattle.abs_codec.specs.Spelling.{Fits};
 ghost use Rattle.job_state.specs.Held.{marked_inputs};
-ghost use Rattle.core_model.specs.Keeps.{LogsSuit};
+ghost use Rattle.engine_model.specs.Keeps.{LogsSuit};
 
 use abs_codec::{Codec, Items};
 use job_graph::Graph;

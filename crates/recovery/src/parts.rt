@@ -5,14 +5,14 @@ ghost use Rattle.abs_codec.specs.declared.fault.CodecFault.TheVariants.{Memory};
 ghost use Rattle.abs_codec.specs.Reading.{whole_of};
 ghost use Rattle.job_graph.specs.declared.role.Role.{Role};
 ghost use Rattle.snapshot_store.specs.Store.{IsLatest, is_complete};
-ghost use Rattle.core_model.specs.Restart.{AreStarts};
+ghost use Rattle.engine_model.specs.Restart.{AreStarts};
 ghost use Rattle.recovery.specs.declared.fault.RecoveryFault.TheVariants as RecoveryFault;
 ghost use Rattle.recovery.specs.Ends.{EndsReading, EndsTask, CannotRestore, EndsRestore};
 
 use crate::fault::RecoveryFault;
 use crate::starts::{first_start, start_by};
 use abs_codec::{Codec, CodecFault, decode_all};
-use core_model::{Rules, Start};
+use engine_model::{Rules, Start};
 use job_graph::Graph;
 use operators::Operator;
 use snapshot_store::{SnapshotStore, StoreFault};
@@ -31,7 +31,7 @@ pub struct Restored<O: Operator> {
 
 impl<O: Operator> Model for Restored<O> {
     ghost use Rattle.std.specs.Prelude.{ℕ, List, Option};
-    ghost use Rattle.core_model.specs.declared.start.Start.{Start};
+    ghost use Rattle.engine_model.specs.declared.start.Start.{Start};
 
     ghost Value = { Option ℕ × List (Start O.Record O.Key O.State) };
 

@@ -2,13 +2,13 @@
 
 ghost use Rattle.std.specs.Prelude.{◌≡◌, ◌≢◌, ◌<◌, ◌≤◌, ◌+◌, ℕ, Err, Some, slice_get};
 ghost use Rattle.job_graph.specs.declared.role.Role.TheVariants as Role;
-ghost use Rattle.core_model.specs.declared.fault.CoreFault.TheVariants as CoreFault;
-ghost use Rattle.core_model.specs.Restart.{EndsRestart};
+ghost use Rattle.engine_model.specs.declared.fault.CoreFault.TheVariants as CoreFault;
+ghost use Rattle.engine_model.specs.Restart.{EndsRestart};
 
 use crate::parts::restore;
 use crate::settle::settle_transactions;
 use commit_sink::Transactions;
-use core_model::{CoreFault, Rules};
+use engine_model::{CoreFault, Rules};
 use job_graph::Graph;
 use job_state::Attempt;
 use operators::Operator;

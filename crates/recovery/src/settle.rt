@@ -10,7 +10,7 @@ use crate::fault::RecoveryFault;
 use crate::parts::Restored;
 use abs_codec::{CodecFault, Items};
 use commit_sink::{Sink, TransactionFault, Transactions};
-use core_model::Start;
+use engine_model::Start;
 use job_state::Holding;
 use operators::Operator;
 use std::alloc::Global;

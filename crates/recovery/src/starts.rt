@@ -3,15 +3,15 @@
 ghost use Rattle.std.specs.Prelude.{◌≡◌, ◌<◌, ◌≤◌, ◌↔◌, ℕ, length, Some, List, IfSome, IfNone, IsTrue};
 ghost use Rattle.abs_codec.specs.Entries.{value_at};
 ghost use Rattle.source_log.specs.Partitions.{records_at};
-ghost use Rattle.core_model.specs.Restart as restart;
-ghost use Rattle.core_model.specs.Restart.{Suits, part_for};
-ghost use Rattle.core_model.specs.declared.start.Start.{Start};
-ghost use Rattle.core_model.specs.declared.start.Start.TheVariants as Start;
+ghost use Rattle.engine_model.specs.Restart as restart;
+ghost use Rattle.engine_model.specs.Restart.{Suits, part_for};
+ghost use Rattle.engine_model.specs.declared.start.Start.{Start};
+ghost use Rattle.engine_model.specs.declared.start.Start.TheVariants as Start;
 ghost use Rattle.task_part.specs.declared.part.Part.TheVariants as Part;
 
 use crate::logs::logs_suit;
 use abs_codec::{Codec, Items, Map};
-use core_model::{Rules, Start};
+use engine_model::{Rules, Start};
 use job_graph::{Graph, Role};
 use operators::Operator;
 use source_log::Partitions;

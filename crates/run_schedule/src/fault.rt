@@ -1,6 +1,6 @@
 //! Why a run is refused.
 
-use core_model::CoreFault;
+use engine_model::CoreFault;
 use thiserror::Error;
 
 /// Why a run is refused.

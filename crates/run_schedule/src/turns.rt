@@ -4,7 +4,7 @@ use crate::fault::RunFault;
 use crate::inputs::Place;
 use crate::schedule::{Schedule, Step};
 use alignment::Effect;
-use core_model::{CoreFault, Persisted};
+use engine_model::{CoreFault, Persisted};
 
 /// The turns of the present run.
 #[derive(Drop)]

@@ -1,7 +1,7 @@
 -- What readers are shown of what is committed.
 use Rattle.std.specs.Prelude.{◌≡◌, ℕ, List, Option, Some, MatchOption, length, count_by, slice_get}
 use Rattle.commit_sink.specs.Ledger.{committed_rows}
-use Rattle.core_model.specs.State.{State}
+use Rattle.engine_model.specs.State.{State}
 use Rattle.dataflow_model.specs.Graph.{Begins}
 use Rattle.job_graph.specs.Expanded.{is_sink}
 use Rattle.job_graph.specs.declared.role.Role.TheVariants as role

@@ -1,8 +1,8 @@
 -- What a station keeps.
 use Rattle.std.specs.Prelude.{◌≡◌, ℕ, ◌+◌, ◌≤◌, Option, Result, MatchResult, length}
-use Rattle.core_model.specs.Language.{Language}
-use Rattle.core_model.specs.declared.fault.CoreFault.{CoreFault}
-use Rattle.core_plain.specs.Plain.{Stays}
+use Rattle.engine_model.specs.Language.{Language}
+use Rattle.engine_model.specs.declared.fault.CoreFault.{CoreFault}
+use Rattle.engine_plain.specs.Plain.{Stays}
 use Rattle.dataflow_core.specs.CoreState.{CoreState}
 use Rattle.dataflow_core.specs.Steps.{IsStep}
 use Rattle.engine.specs.Running.{IsCounted}

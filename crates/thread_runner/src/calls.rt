@@ -5,11 +5,11 @@ ghost use Rattle.std.specs.Prelude.{◌≡◌, ◌⊎◌, ◌≤◌, ◌<◌, Is
 ghost use Rattle.std.specs.Option.{option_map};
 ghost use Rattle.abs_codec.specs.Spelling.{Fits};
 ghost use Rattle.commit_sink.specs.Ledger.{committed_rows};
-ghost use Rattle.core_model.specs.ExactlyOnce.{IsExactlyOnce};
-ghost use Rattle.core_model.specs.LastCommitted.{committed_of, complete_numbers};
-ghost use Rattle.core_model.specs.Sound.{IsSound};
-ghost use Rattle.core_model.specs.declared.fault.CoreFault.TheVariants as CoreFault;
-ghost use Rattle.core_plain.specs.Plain.{StepsIfOk};
+ghost use Rattle.engine_model.specs.ExactlyOnce.{IsExactlyOnce};
+ghost use Rattle.engine_model.specs.LastCommitted.{committed_of, complete_numbers};
+ghost use Rattle.engine_model.specs.Sound.{IsSound};
+ghost use Rattle.engine_model.specs.declared.fault.CoreFault.TheVariants as CoreFault;
+ghost use Rattle.engine_plain.specs.Plain.{StepsIfOk};
 ghost use Rattle.dataflow_core.specs.Calls.{Fails, Restarts, Reads, Injects, Triggers, Persists, PersistsSome, Completes, Commits, Appends};
 ghost use Rattle.dataflow_core.specs.Claims.{Refuses, Claims, TakesBarrierUnclaimed};
 ghost use Rattle.dataflow_core.specs.CoreState.{claims_after};

@@ -1,7 +1,7 @@
 use Rattle.std.proofs.Common.{refl}
 use Rattle.job_graph.specs.declared.role.Role.TheVariants as role
-use Rattle.core_model.proofs.Numbers.{channel_in}
-use Rattle.core_model.specs.Language.{language}
+use Rattle.engine_model.proofs.Numbers.{channel_in}
+use Rattle.engine_model.specs.Language.{language}
 use Rattle.claims.proofs.Dues.{within_gates, takes_outcome}
 use Rattle.claims.proofs.accepts.accept_outcome.Goals as goal
 

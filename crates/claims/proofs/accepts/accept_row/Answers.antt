@@ -1,6 +1,6 @@
 use Rattle.std.proofs.Common.{refl}
 use Rattle.job_graph.specs.declared.role.Role.TheVariants as role
-use Rattle.core_model.proofs.Numbers.{channel_in}
+use Rattle.engine_model.proofs.Numbers.{channel_in}
 use Rattle.claims.proofs.Dues.{within_gates}
 use Rattle.claims.proofs.Serving.{holds_sink}
 use Rattle.claims.proofs.accepts.accept_row.Goals as goal

@@ -1,6 +1,6 @@
 use Rattle.std.proofs.Common.{Some, sym, ap, ◌∙◌}
 use Rattle.job_graph.specs.declared.role.Role.TheVariants as role
-use Rattle.core_model.specs.Calls.{state_of}
+use Rattle.engine_model.specs.Calls.{state_of}
 use Rattle.claims.proofs.due.operand_channel.Goals as goal
 
 pub returns-then-has_state-clause-some : goal.returns-then-has_state-clause-some

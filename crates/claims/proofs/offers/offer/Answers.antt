@@ -3,8 +3,8 @@ use Rattle.std.specs.Option.{option_copied}
 use Rattle.abs_codec.specs.Spelling.{Fits}
 use Rattle.channels.specs.declared.item.Item.TheVariants as Item
 use Rattle.job_graph.specs.declared.role.Role.TheVariants as role
-use Rattle.core_model.specs.Keeps.{IfRecord}
-use Rattle.core_model.specs.Language.{language}
+use Rattle.engine_model.specs.Keeps.{IfRecord}
+use Rattle.engine_model.specs.Language.{language}
 use Rattle.claims.proofs.Dues.{operator_found, within_gates, copied_due}
 use Rattle.claims.proofs.Holdings.{head_is}
 use Rattle.claims.proofs.offers.offer.Goals as goal

@@ -24,4 +24,3 @@ returns-in-Err-clause-readable g c = λ p is.
     whole_again (PartIsSpelled r.HasSpelling cmp k.HasSpelling s.HasSpelling) (part_spelling r.spelling k.spelling s.spelling) (part_at r.reading cmp k.reading s.reading)
     (part_code r.HasSpelling r.spelling r.reading g.met.O.Record.Codec.code cmp g.met.O.Key.Ord.total k.HasSpelling k.spelling k.reading g.met.O.Key.Codec.code s.HasSpelling s.spelling s.reading g.met.O.State.Codec.code)
     (with_logs (logs_of c.args.graph.now c.args.attempt.now c.args.task) p) (c.in_ok-bytes.ensures.spelled p is).0
-

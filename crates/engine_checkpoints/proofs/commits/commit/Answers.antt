@@ -1,6 +1,6 @@
 use Rattle.std.proofs.Common.{[], ◌∷◌, ◌++◌, refl, rules, arith}
-use Rattle.core_model.proofs.LedgerSinks.{commit_not_refused}
-use Rattle.core_model.proofs.Numbers.{sink_within}
+use Rattle.engine_model.proofs.Ledger.Sinks.{commit_not_refused}
+use Rattle.engine_model.proofs.Numbers.{sink_within}
 use Rattle.engine_checkpoints.proofs.Rounds.{one_round, each_more, sinks_kept, fewer, ends_failed}
 use Rattle.engine_checkpoints.proofs.commits.commit.Goals as goal
 

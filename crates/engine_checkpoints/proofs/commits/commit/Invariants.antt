@@ -3,8 +3,8 @@ use Rattle.commit_sink.specs.Ledger.{Ledger}
 use Rattle.commit_sink.specs.Sink.{Sinking}
 use Rattle.job_state.specs.Held.{Held}
 use Rattle.job_state.specs.declared.holding.Holding.TheVariants as Holding
-use Rattle.core_model.specs.Commits.{CommitsEach}
-use Rattle.core_model.specs.Keeps.{SinkIn}
+use Rattle.engine_model.specs.Commits.{CommitsEach}
+use Rattle.engine_model.specs.Keeps.{SinkIn}
 use Rattle.engine_checkpoints.proofs.Rounds.{pending_in}
 use Rattle.engine_checkpoints.proofs.commits.commit.Given as goal
 

@@ -1,4 +1,4 @@
-use Rattle.core_model.specs.Language.{language}
+use Rattle.engine_model.specs.Language.{language}
 use Rattle.engine_rounds.proofs.Idling.{can_move}
 use Rattle.engine_rounds.proofs.rounding.can_move.Goals as goal
 

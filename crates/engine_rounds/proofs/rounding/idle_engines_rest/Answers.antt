@@ -1,5 +1,5 @@
 use Rattle.abs_codec.specs.Spelling.{Fits}
-use Rattle.core_model.specs.Language.{language}
+use Rattle.engine_model.specs.Language.{language}
 use Rattle.operators.specs.Operator.{IsGoodState}
 use Rattle.engine_rounds.proofs.Resting.{rests}
 use Rattle.engine_rounds.proofs.rounding.idle_engines_rest.Goals as goal

@@ -1,6 +1,6 @@
 use Rattle.std.proofs.Common.{[], ◌∙◌, refl, arith}
 use Rattle.abs_codec.specs.Spelling.{Fits}
-use Rattle.core_model.specs.Language.{language}
+use Rattle.engine_model.specs.Language.{language}
 use Rattle.engine_rounds.proofs.Taking.{took_none, took_on, idle_on, stopped_on}
 use Rattle.engine_rounds.proofs.rounding.round.Goals as goal
 

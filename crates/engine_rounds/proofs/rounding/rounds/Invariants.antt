@@ -1,6 +1,6 @@
 use Rattle.std.proofs.Common.{◌≡◌, ◌+◌, List, length}
 use Rattle.abs_codec.specs.Spelling.{Fits}
-use Rattle.core_model.specs.Language.{language}
+use Rattle.engine_model.specs.Language.{language}
 use Rattle.engine.specs.Readers.{pending_in}
 use Rattle.dataflow_model.specs.Machine.{Move}
 use Rattle.engine_rounds.specs.Turns.{Made}

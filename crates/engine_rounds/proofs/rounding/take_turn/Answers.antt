@@ -1,5 +1,5 @@
 use Rattle.abs_codec.specs.Spelling.{Fits}
-use Rattle.core_model.specs.Language.{language}
+use Rattle.engine_model.specs.Language.{language}
 use Rattle.engine_rounds.proofs.Taking.{idle_turn}
 use Rattle.engine_rounds.proofs.rounding.take_turn.Goals as goal
 

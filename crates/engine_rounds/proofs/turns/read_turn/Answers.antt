@@ -1,7 +1,7 @@
 use Rattle.std.proofs.Common.{ap}
 use Rattle.abs_codec.specs.Spelling.{Fits}
 use Rattle.commit_sink.specs.Ledger.{Ledger, committed_rows}
-use Rattle.core_model.specs.Language.{language}
+use Rattle.engine_model.specs.Language.{language}
 use Rattle.engine_rounds.proofs.Many.{begins_same}
 use Rattle.engine_rounds.proofs.Turning.{read_turns}
 use Rattle.engine_rounds.proofs.Waiting.{read_turn_waits}

@@ -1,5 +1,5 @@
 use Rattle.abs_codec.specs.Spelling.{Fits}
-use Rattle.core_model.specs.Language.{language}
+use Rattle.engine_model.specs.Language.{language}
 use Rattle.engine_rounds.proofs.Turning.{offered_due, accept_turns}
 use Rattle.engine_rounds.proofs.Waiting.{work_turn_waits}
 use Rattle.engine_rounds.proofs.turns.work_at.Goals as goal

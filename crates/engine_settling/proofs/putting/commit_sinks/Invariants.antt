@@ -1,7 +1,7 @@
 use Rattle.std.proofs.Common.{◌≡◌}
 use Rattle.abs_codec.specs.Spelling.{Fits}
-use Rattle.core_model.specs.Language.{language}
-use Rattle.core_model.specs.Sound.{IsSound}
+use Rattle.engine_model.specs.Language.{language}
+use Rattle.engine_model.specs.Sound.{IsSound}
 use Rattle.engine_settling.specs.Settled.{Commits, HaveCommittedBefore}
 use Rattle.engine_settling.proofs.putting.commit_sinks.Given as goal
 

@@ -4,7 +4,7 @@ use Rattle.std.proofs.lemmas.Option.{slice_get-get_or}
 use Rattle.abs_codec.specs.Spelling.{Fits}
 use Rattle.job_graph.specs.declared.role.Role.TheVariants.{Source}
 use Rattle.operators.specs.Operator.{IsGoodState}
-use Rattle.core_model.specs.Language.{language}
+use Rattle.engine_model.specs.Language.{language}
 use Rattle.recovery.proofs.Starting.{task_stops, starts_more}
 use Rattle.recovery.proofs.parts.starts_at.Goals as goal
 

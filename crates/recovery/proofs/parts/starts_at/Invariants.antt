@@ -1,9 +1,9 @@
 use Rattle.std.proofs.Common.{◌≡◌, ℕ, Some, slice_get, length}
 use Rattle.abs_codec.specs.Spelling.{Fits}
 use Rattle.operators.specs.Operator.{IsGoodState}
-use Rattle.core_model.specs.Language.{language}
-use Rattle.core_model.specs.Restart.{IsStart}
-use Rattle.core_model.specs.declared.start.Start.{Start}
+use Rattle.engine_model.specs.Language.{language}
+use Rattle.engine_model.specs.Restart.{IsStart}
+use Rattle.engine_model.specs.declared.start.Start.{Start}
 use Rattle.job_graph.specs.declared.role.Role.{Role}
 use Rattle.recovery.proofs.parts.starts_at.Given as goal
 

@@ -1,9 +1,9 @@
 use Rattle.std.proofs.Common.{rules, arith}
 use Rattle.abs_codec.specs.Spelling.{Fits}
 use Rattle.operators.specs.Operator.{IsGoodState}
-use Rattle.core_model.specs.Language.{language}
-use Rattle.core_model.specs.Restart.{AreStarts, before_tasks}
-use Rattle.core_model.proofs.Starts.{takes_length}
+use Rattle.engine_model.specs.Language.{language}
+use Rattle.engine_model.specs.Restart.{AreStarts, before_tasks}
+use Rattle.engine_model.proofs.Restart.Starts.{takes_length}
 use Rattle.recovery.proofs.Starting.{starts_below, restart_full}
 use Rattle.recovery.proofs.restart.restarted.Goals as goal
 

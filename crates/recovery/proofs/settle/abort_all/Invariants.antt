@@ -1,6 +1,6 @@
 use Rattle.std.proofs.Common.{◌≡◌, take, drop}
 use Rattle.commit_sink.specs.Ledger.{unsettled_of}
-use Rattle.core_model.specs.Restart.{InTurn, AbortsNext}
+use Rattle.engine_model.specs.Restart.{InTurn, AbortsNext}
 use Rattle.recovery.proofs.settle.abort_all.Given as goal
 
 -- those met so far are aborted, and the others are all that is left

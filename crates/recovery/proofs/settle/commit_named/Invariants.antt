@@ -1,5 +1,5 @@
 use Rattle.std.proofs.Common.{◌≡◌, take}
-use Rattle.core_model.specs.Restart.{InTurn, CommitsNext}
+use Rattle.engine_model.specs.Restart.{InTurn, CommitsNext}
 use Rattle.recovery.proofs.settle.commit_named.Given as goal
 
 -- those met so far are committed

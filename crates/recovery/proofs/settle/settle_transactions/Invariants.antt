@@ -1,5 +1,5 @@
 use Rattle.std.proofs.Common.{◌≡◌, length}
-use Rattle.core_model.specs.Restart.{InTurn, Takes, before_tasks, openings_of}
+use Rattle.engine_model.specs.Restart.{InTurn, Takes, before_tasks, openings_of}
 use Rattle.recovery.proofs.settle.settle_transactions.Given as goal
 
 -- the tasks met so far have taken what they start from

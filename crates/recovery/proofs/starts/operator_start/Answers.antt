@@ -4,7 +4,7 @@ use Rattle.abs_codec.specs.Spelling.{Fits}
 use Rattle.operators.specs.Operator.{IsGoodState}
 use Rattle.std.proofs.lemmas.Bool.{false≢true}
 use Rattle.std.proofs.lemmas.Option.{slice_get_read}
-use Rattle.core_model.specs.Keeps.{LogsSuit}
+use Rattle.engine_model.specs.Keeps.{LogsSuit}
 use Rattle.recovery.proofs.Starting.{one_operator}
 use Rattle.recovery.proofs.starts.operator_start.Goals.{else-are_good-via-then-are_good+else-logs_suit, else-are_good-via-else-are_good}
 use Rattle.recovery.proofs.starts.operator_start.Goals as goal

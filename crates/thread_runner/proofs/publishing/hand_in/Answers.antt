@@ -1,5 +1,5 @@
 use Rattle.std.proofs.Common.{◌≡◌, ◌<◌, ◌≤◌, ℕ, count_by, arith, rules}
-use Rattle.core_model.proofs.Numbers.{sink_within}
+use Rattle.engine_model.proofs.Numbers.{sink_within}
 use Rattle.job_graph.specs.Expanded.{is_sink}
 use Rattle.thread_runner.proofs.publishing.hand_in.Goals as goal
 

@@ -1,6 +1,6 @@
 use Rattle.std.proofs.Common.{◌≡◌, ◌+◌, ◌<◌, ◌≤◌, ℕ, Some, length, slice_get, count_by, arith, rules, subst, sym, ap, ◌∙◌}
 use Rattle.commit_sink.specs.Ledger.{committed_rows}
-use Rattle.core_model.specs.State.{State}
+use Rattle.engine_model.specs.State.{State}
 use Rattle.job_graph.specs.Expanded.{is_sink}
 use Rattle.output_readers.specs.Rows.{rows_of, with_row}
 use Rattle.thread_runner.specs.Showing.{BeginCommitted}

@@ -1,5 +1,5 @@
 use Rattle.abs_codec.specs.Spelling.{Fits}
-use Rattle.core_model.specs.Language.{language}
+use Rattle.engine_model.specs.Language.{language}
 use Rattle.engine_settling.proofs.Chained.{drain_works}
 use Rattle.dataflow_core.proofs.Unclaiming.{step_works}
 use Rattle.dataflow_core.proofs.calls.Core.drain.Goals as goal

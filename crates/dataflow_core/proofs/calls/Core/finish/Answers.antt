@@ -1,4 +1,4 @@
-use Rattle.core_model.specs.Language.{language}
+use Rattle.engine_model.specs.Language.{language}
 use Rattle.dataflow_core.specs.CoreState.{CoreState}
 use Rattle.dataflow_core.proofs.Finishing.{finishes, moves}
 use Rattle.dataflow_core.proofs.calls.Core.finish.Goals as goal

@@ -1,7 +1,7 @@
 use Rattle.std.proofs.Common.{◌≡◌, ◌≤◌, length, take, vec_len}
 use Rattle.std.specs.Prelude.{vec_capacity}
 use Rattle.abs_codec.specs.Spelling.{Fits}
-use Rattle.core_model.specs.Language.{language}
+use Rattle.engine_model.specs.Language.{language}
 use Rattle.operators.specs.Operator.{IsGoodState}
 use Rattle.task_part.specs.Spelling.{part_spelling}
 use Rattle.dataflow_core.specs.Runs.{IsRun}

@@ -1,9 +1,9 @@
 use Rattle.std.proofs.Common.{◌+◌, arith}
-use Rattle.core_model.proofs.CallOperates.{goes_on_of}
-use Rattle.core_model.specs.Language.{language}
+use Rattle.engine_model.proofs.Calls.Operates.{goes_on_of}
+use Rattle.engine_model.specs.Language.{language}
 use Rattle.engine.proofs.Accepting.{accept_kept, accept_is_plain, accept_counted}
 use Rattle.engine.proofs.Plain.{withdraws}
-use Rattle.core_model.proofs.Sounds.{keeps_as_fresh, sound_as_fresh}
+use Rattle.engine_model.proofs.Sounds.{keeps_as_fresh, sound_as_fresh}
 use Rattle.engine.proofs.calls.Engine.accept.Goals as goal
 
 pub invariant_of-self-2 : goal.invariant_of-self-2

@@ -1,7 +1,7 @@
-use Rattle.core_model.proofs.CallFails.{keeps_appended}
+use Rattle.engine_model.proofs.Calls.Fails.{keeps_appended}
 use Rattle.engine.proofs.Appending.{appends_or_not}
 use Rattle.engine.proofs.Plain.{append_stays}
-use Rattle.core_model.proofs.Sounds.{keeps_as_fresh, sound_as_fresh}
+use Rattle.engine_model.proofs.Sounds.{keeps_as_fresh, sound_as_fresh}
 use Rattle.engine.proofs.calls.Engine.append.Goals as goal
 
 pub invariant_of-self : goal.invariant_of-self

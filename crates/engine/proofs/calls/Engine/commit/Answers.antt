@@ -1,9 +1,9 @@
 use Rattle.std.proofs.Common.{◌+◌, arith}
-use Rattle.core_model.proofs.CallCommits.{keeps_commit}
+use Rattle.engine_model.proofs.Calls.Commits.{keeps_commit}
 use Rattle.engine.proofs.Serving.{reaches}
-use Rattle.core_plain.proofs.PlainCommits.{plain_commit}
+use Rattle.engine_plain.proofs.PlainCommits.{plain_commit}
 use Rattle.engine.proofs.Plain.{withdraws}
-use Rattle.core_model.proofs.Sounds.{keeps_as_fresh, sound_as_fresh}
+use Rattle.engine_model.proofs.Sounds.{keeps_as_fresh, sound_as_fresh}
 use Rattle.engine.proofs.Counting.{commit_counts}
 use Rattle.engine.proofs.calls.Engine.commit.Goals as goal
 

@@ -1,11 +1,11 @@
 use Rattle.std.proofs.Common.{◌+◌, arith, refl}
-use Rattle.core_model.proofs.CallCompletes.{keeps_complete}
-use Rattle.core_model.proofs.CompleteCuts.{cut_if_ok}
-use Rattle.core_model.proofs.CompleteReached.{reached_if_ok}
-use Rattle.core_model.proofs.StoreComplete.{coordinator_completes}
+use Rattle.engine_model.proofs.Calls.Completes.{keeps_complete}
+use Rattle.engine_model.proofs.Complete.Cuts.{cut_if_ok}
+use Rattle.engine_model.proofs.Complete.Reached.{reached_if_ok}
+use Rattle.engine_model.proofs.Store.Complete.{coordinator_completes}
 use Rattle.engine.proofs.Plain.{complete_stays}
 use Rattle.engine.proofs.Serving.{completes, whole}
-use Rattle.core_model.proofs.Sounds.{keeps_as_fresh, sound_as_fresh}
+use Rattle.engine_model.proofs.Sounds.{keeps_as_fresh, sound_as_fresh}
 use Rattle.engine.proofs.Counting.{complete_counted}
 use Rattle.engine.proofs.calls.Engine.complete.Goals as goal
 

@@ -1,5 +1,5 @@
-use Rattle.core_model.proofs.CallFails.{keeps_fail}
-use Rattle.core_model.proofs.Sounds.{keeps_as_fresh, sound_as_fresh}
+use Rattle.engine_model.proofs.Calls.Fails.{keeps_fail}
+use Rattle.engine_model.proofs.Sounds.{keeps_as_fresh, sound_as_fresh}
 use Rattle.engine.proofs.calls.Engine.fail.Goals as goal
 
 pub returns-clause-goes : goal.returns-clause-goes

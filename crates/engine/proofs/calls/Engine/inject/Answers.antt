@@ -1,7 +1,7 @@
 use Rattle.std.proofs.Common.{refl}
-use Rattle.core_model.proofs.CallInjects.{keeps_inject}
-use Rattle.core_plain.proofs.PlainCopies.{plain_inject}
-use Rattle.core_model.proofs.Sounds.{keeps_as_fresh, sound_as_fresh}
+use Rattle.engine_model.proofs.Calls.Injects.{keeps_inject}
+use Rattle.engine_plain.proofs.PlainCopies.{plain_inject}
+use Rattle.engine_model.proofs.Sounds.{keeps_as_fresh, sound_as_fresh}
 use Rattle.engine.proofs.Counting.{inject_counted}
 use Rattle.engine.proofs.calls.Engine.inject.Goals as goal
 

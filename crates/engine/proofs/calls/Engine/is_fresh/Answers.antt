@@ -1,6 +1,6 @@
-use Rattle.core_model.proofs.CallExact.{keeps_rows_exact}
-use Rattle.line_core.proofs.Lines.{commits_made}
-use Rattle.core_model.proofs.Sounds.{fresh_is_sound}
+use Rattle.engine_model.proofs.Calls.Exact.{keeps_rows_exact}
+use Rattle.engine_lines.proofs.Lines.{commits_made}
+use Rattle.engine_model.proofs.Sounds.{fresh_is_sound}
 use Rattle.engine.proofs.calls.Engine.is_fresh.Goals as goal
 
 pub returns-clause-exact : goal.returns-clause-exact

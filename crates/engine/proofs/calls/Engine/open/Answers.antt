@@ -1,8 +1,8 @@
 use Rattle.std.proofs.Common.{refl, ap, ◌∙◌}
 use Rattle.commit_sink.specs.Ledger as ledgers
 use Rattle.snapshot_store.specs.Store as stores
-use Rattle.core_model.proofs.CallOpens.{keeps_open}
-use Rattle.core_model.proofs.Sounds.{down_is_sound, grown_is_legal}
+use Rattle.engine_model.proofs.Calls.Opens.{keeps_open}
+use Rattle.engine_model.proofs.Sounds.{down_is_sound, grown_is_legal}
 use Rattle.engine.proofs.calls.Engine.open.Goals as goal
 
 pub invariant_of-result : goal.invariant_of-result

@@ -1,8 +1,8 @@
 use Rattle.std.proofs.Common.{refl, ◌+◌, arith}
 use Rattle.task_part.specs.Spelling.{part_spelling}
-use Rattle.core_model.proofs.CallPersists.{keeps_persist}
+use Rattle.engine_model.proofs.Calls.Persists.{keeps_persist}
 use Rattle.engine.proofs.Plain.{persist_stays}
-use Rattle.core_model.proofs.Sounds.{keeps_as_fresh, sound_as_fresh}
+use Rattle.engine_model.proofs.Sounds.{keeps_as_fresh, sound_as_fresh}
 use Rattle.engine.proofs.Counting.{persist_counted}
 use Rattle.engine.proofs.calls.Engine.persist.Goals as goal
 

@@ -1,9 +1,9 @@
 use Rattle.std.proofs.Common.{refl, ◌+◌, arith}
-use Rattle.core_model.proofs.CallReads.{keeps_read}
-use Rattle.core_model.specs.Language.{language}
+use Rattle.engine_model.proofs.Calls.Reads.{keeps_read}
+use Rattle.engine_model.specs.Language.{language}
 use Rattle.engine.proofs.Plain.{read_is_plain}
 use Rattle.engine.proofs.Serving.{partitions_there}
-use Rattle.core_model.proofs.Sounds.{keeps_as_fresh, sound_as_fresh}
+use Rattle.engine_model.proofs.Sounds.{keeps_as_fresh, sound_as_fresh}
 use Rattle.engine.proofs.Counting.{read_counted}
 use Rattle.engine.proofs.calls.Engine.read.Goals as goal
 

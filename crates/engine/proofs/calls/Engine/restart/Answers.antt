@@ -1,9 +1,9 @@
 use Rattle.std.proofs.Common.{◌<◌, ◌+◌, arith, sym, subst, ◌∙◌}
 use Rattle.abs_codec.specs.Spelling.{Fits}
-use Rattle.core_model.proofs.Numbers.{sink_within}
-use Rattle.core_model.proofs.CallRestarts.{restart_withdraws}
-use Rattle.core_model.specs.Language.{language}
-use Rattle.core_model.specs.RestartLaws.{OperatorsAreLawful}
+use Rattle.engine_model.proofs.Numbers.{sink_within}
+use Rattle.engine_model.proofs.Calls.Restarts.{restart_withdraws}
+use Rattle.engine_model.specs.Language.{language}
+use Rattle.engine_model.specs.RestartLaws.{OperatorsAreLawful}
 use Rattle.operators.specs.Operator.{IsGoodState}
 use Rattle.engine.proofs.Raising.{none_is, raised_by, number_bad, restart_kept, restart_sound, restart_goes_on, cut_by, not_bad}
 use Rattle.engine.proofs.Counting.{restart_counted}

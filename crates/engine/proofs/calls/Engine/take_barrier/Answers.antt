@@ -1,5 +1,5 @@
 use Rattle.std.proofs.Common.{◌+◌, arith}
-use Rattle.core_model.proofs.Sounds.{keeps_as_fresh, sound_as_fresh}
+use Rattle.engine_model.proofs.Sounds.{keeps_as_fresh, sound_as_fresh}
 use Rattle.engine.proofs.TaskCalls.{barrier_kept, barrier_stays}
 use Rattle.engine.proofs.Plain.{withdraws}
 use Rattle.engine.proofs.Counting.{barrier_counted}

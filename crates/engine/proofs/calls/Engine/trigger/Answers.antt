@@ -1,7 +1,7 @@
 use Rattle.std.proofs.Common.{◌+◌, arith}
-use Rattle.core_model.proofs.CallTriggers.{keeps_trigger}
+use Rattle.engine_model.proofs.Calls.Triggers.{keeps_trigger}
 use Rattle.engine.proofs.Plain.{trigger_stays}
-use Rattle.core_model.proofs.Sounds.{keeps_as_fresh, sound_as_fresh}
+use Rattle.engine_model.proofs.Sounds.{keeps_as_fresh, sound_as_fresh}
 use Rattle.engine.proofs.Counting.{trigger_counted}
 use Rattle.engine.proofs.calls.Engine.trigger.Goals as goal
 

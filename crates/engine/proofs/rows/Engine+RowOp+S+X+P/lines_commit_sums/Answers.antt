@@ -1,5 +1,5 @@
 use Rattle.std.proofs.Common.{refl}
-use Rattle.line_core.proofs.Lines.{commits_sums}
+use Rattle.engine_lines.proofs.Lines.{commits_sums}
 use Rattle.engine.proofs.rows.Engine+RowOp+S+X+P.lines_commit_sums.Goals as goal
 
 pub returns : goal.returns

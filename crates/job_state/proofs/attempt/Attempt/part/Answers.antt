@@ -36,9 +36,14 @@ returns g c =
     let stands = c.deref_mut.ensures.value in
     let tasks = with_items_is c.self.inside.tasks c.spell_part.new.tasks (omega arith) in
     let same : logs_now c.deref.result.now ≡ logs_of c.args.graph.now c.args.self.now task = ap logs_now c.deref.ensures.value ∙ c.in_ok-logs.ensures ∙ ap (λ h. logs_of c.args.graph.now h task) c.self.view_is in
-    let stays = held_kept _ c.args.self.now _ _ _ _ _ c.self.view_is (ap (λ l. holdings_of l) tasks ∙ c.spell_part.ensures.holdings ∙ ap (λ l. holdings_of l) stands) refl refl refl (ap (λ l. copies_of l) tasks ∙ c.spell_part.ensures.copies ∙ ap (λ l. copies_of l) stands) in
-    ((refl, (λ n. tt), stays), record { stays = tt; spelled = λ p at.
-      let copied = ap (λ l. slice_get (copies_of l) task) stands ∙ (ap (λ h. slice_get h.copies task) c.self.view_is ∙ copied_at (slice_get c.args.self.now.copies task) p at) in
-      let spelled = c.in_ok-spell_part.ensures.spelled p copied in
-      subst (λ logs. PartIsSpelled r.HasSpelling cmp k.HasSpelling s.HasSpelling (with_logs logs p) × (c.part.result.now ≡ part_spelling r.spelling k.spelling s.spelling (with_logs logs p))) same
-      (spelled.0, c.part.ensures ∙ ap (λ l. part_in l task) (c.deref-2.ensures.value ∙ tasks) ∙ spelled.1) })
+    let stays = held_kept _ c.args.self.now _ _ _ _ _ c.self.view_is (ap (λ l. holdings_of l) tasks ∙ c.spell_part.ensures.holdings ∙ ap (λ l. holdings_of l) stands) refl refl refl (ap (λ l. copies_of l) tasks ∙ c.spell_part.ensures.copies ∙ ap (λ l. copies_of l) stands) in (
+      (refl, (λ n. tt), stays),
+      record {
+        stays = tt;
+        spelled = λ p at.
+            let copied = ap (λ l. slice_get (copies_of l) task) stands ∙ (ap (λ h. slice_get h.copies task) c.self.view_is ∙ copied_at (slice_get c.args.self.now.copies task) p at) in
+            let spelled = c.in_ok-spell_part.ensures.spelled p copied in
+            subst (λ logs. PartIsSpelled r.HasSpelling cmp k.HasSpelling s.HasSpelling (with_logs logs p) × (c.part.result.now ≡ part_spelling r.spelling k.spelling s.spelling (with_logs logs p))) same
+            (spelled.0, c.part.ensures ∙ ap (λ l. part_in l task) (c.deref-2.ensures.value ∙ tasks) ∙ spelled.1);
+      },
+    )

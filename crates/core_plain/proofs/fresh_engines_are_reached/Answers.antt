@@ -1,6 +1,0 @@
-use Rattle.core_model.specs.ByTests.{Passes, IsGoodBy}
-use Rattle.core_plain.proofs.PlainReached.{plain_reached}
-use Rattle.core_plain.proofs.fresh_engines_are_reached.Goals as goal
-
-pub returns : goal.returns
-returns g c = λ lang fits state_fits suits s h runs fresh. plain_reached lang (Passes fits) (IsGoodBy state_fits suits) s h runs.keeps runs.holds fresh

@@ -1,0 +1,4 @@
+pub mod Line
+pub mod PlainLaws
+pub mod Lines
+pub mod Laws

@@ -1,0 +1,21 @@
+-- What each call of an engine keeps, and which steps of the model it is.
+pub mod Steps
+pub mod Runs
+pub mod Reads
+pub mod Tasks
+pub mod Operates
+pub mod Injects
+pub mod Barriers
+pub mod Sinks
+pub mod PutsOut
+pub mod SinkCopies
+pub mod Goes
+pub mod Persists
+pub mod Completes
+pub mod Triggers
+pub mod Commits
+pub mod Opens
+pub mod Lasts
+pub mod Fails
+pub mod Exact
+pub mod Restarts

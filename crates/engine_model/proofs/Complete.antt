@@ -1,0 +1,3 @@
+-- Why a checkpoint that completes is the cut that its attempt has made.
+pub mod Cuts
+pub mod Reached

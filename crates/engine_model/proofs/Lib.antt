@@ -1,0 +1,15 @@
+pub mod Lists
+pub mod Shape
+pub mod Items
+pub mod Moves
+pub mod Copies
+pub mod Runs
+pub mod Ledger
+pub mod Store
+pub mod Calls
+pub mod Numbers
+pub mod Complete
+pub mod Turns
+pub mod Restart
+pub mod PlainGood
+pub mod Sounds

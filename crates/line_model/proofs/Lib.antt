@@ -1,3 +1,0 @@
-pub mod Along
-pub mod LineRuns
-pub mod LineCommits

@@ -1,5 +1,0 @@
-use Rattle.line_model.proofs.LineCommits.{lines_commit}
-use Rattle.line_model.proofs.lines_commit_beginnings.Goals as goal
-
-pub returns : goal.returns
-returns g c = λ job spell. lines_commit job spell

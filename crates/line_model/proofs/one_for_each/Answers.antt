@@ -1,5 +1,0 @@
-use Rattle.line_model.proofs.Along.{one_for_each}
-use Rattle.line_model.proofs.one_for_each.Goals as goal
-
-pub returns : goal.returns
-returns g c = λ meaning. one_for_each meaning

@@ -1,2 +1,0 @@
-pub mod Line
-pub mod Laws
