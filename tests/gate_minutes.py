@@ -1,5 +1,5 @@
 #!/usr/bin/env python3
-"""tests/gate_minutes.py: runs `rt ci` and then prints, for each crate, the processor minutes of its proof, of its edits and of its tests.
+"""tests/gate_minutes.py [NAME..]: runs `rt ci` (with these names) and then prints, for each crate, the processor minutes of its proof, of its edits and of its tests.
 
 It is `rt ci`, with each call of the prover timed by a small script in the prover's place. The table of docs/GATE.md is its output.
 """
@@ -51,7 +51,7 @@ def main():
             it.write(TIMED.format(prover=rt.rtlib.RATTLE, room=room))
         os.chmod(timed, os.stat(timed).st_mode | stat.S_IXUSR)
         rt.rtlib.RATTLE = timed
-        status = rt.main(["ci"])
+        status = rt.main(["ci", *sys.argv[1:]])
         for name in (it for it in os.listdir(room) if it.endswith(".seconds")):
             with open(f"{room}/{name}", encoding="utf-8", errors="replace") as it:
                 _, _, user, system, *words = it.read().split()
