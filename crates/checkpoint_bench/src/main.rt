@@ -25,6 +25,9 @@ const JOB: &str =
 /// So many entries are worked in one call, as a worker does.
 const ENTRIES: u32 = 64;
 
+/// So many bytes are more than a processor's caches hold.
+const COOL: usize = 67_108_864;
+
 /// A part takes fewer calls.
 const MOST_CALLS: u64 = 1_000_000_000;
 
@@ -100,6 +103,14 @@ fn persist<
     None
 }
 
+/// Writes to more memory than a processor's caches hold, so that what comes next finds nothing in
+/// them, however few keys there are.
+fn cool(memory: &mut [u8]) {
+    for byte in memory {
+        *byte ^= 1;
+    }
+}
+
 /// One checkpoint.
 fn take<
     O: Operator,
@@ -107,17 +118,19 @@ fn take<
     X: Transactions,
     P: Partitions<Record = O::Record>,
     R: Clock,
->(rt: &R, core: &mut Core<O, S, X, P>) -> Option<Cost> {
+>(rt: &R, core: &mut Core<O, S, X, P>, memory: &mut [u8]) -> Option<Cost> {
     let start = Instant::now(rt).ok()?;
     core.trigger().ok()?;
     core.inject(0).ok()?;
     core.persist(0).ok()?;
+    let begun = since(rt, start)?;
+    cool(memory);
     let before = Instant::now(rt).ok()?;
     core.take_barrier(1, 0).ok()?;
     let barrier = since(rt, before)?;
     let longest = persist(rt, core)?;
     core.complete().ok()?;
-    let whole = since(rt, start)?;
+    let whole = begun.saturating_add(since(rt, before)?);
     Some(Cost {
         barrier,
         whole,
@@ -132,12 +145,13 @@ fn work<
     X: Transactions,
     P: Partitions<Record = O::Record>,
     R: Clock,
->(rt: &R, core: &mut Core<O, S, X, P>, keys: u64, checkpoints: u64) -> Option<Cost> {
+>(rt: &R, alloc: Global, core: &mut Core<O, S, X, P>, keys: u64, checkpoints: u64) -> Option<Cost> {
     core.restart().ok()?;
     count(core, keys)?;
-    let mut least = take(rt, core)?;
+    let mut memory: Vec<u8> = vec![in alloc; 0; COOL].ok()?;
+    let mut least = take(rt, core, &mut memory)?;
     for _ in 1..checkpoints {
-        least = take(rt, core)?.least(least);
+        least = take(rt, core, &mut memory)?.least(least);
     }
     Some(least)
 }
@@ -149,9 +163,15 @@ fn work_on<
     X: Transactions + Drop,
     P: Partitions<Record = O::Record> + Drop,
     R: Clock,
->(rt: &R, core: Core<O, S, X, P>, keys: u64, checkpoints: u64) -> Option<(Cost, usize)> {
+>(
+    rt: &R,
+    alloc: Global,
+    core: Core<O, S, X, P>,
+    keys: u64,
+    checkpoints: u64,
+) -> Option<(Cost, usize)> {
     let mut core = core;
-    let cost = work(rt, &mut core, keys, checkpoints)?;
+    let cost = work(rt, alloc, &mut core, keys, checkpoints)?;
     let (_, mut store, _) = core.into_durable();
     let number = store.latest().ok()??;
     let part = store.get(number, 1).ok()?;
@@ -174,7 +194,7 @@ fn measure<R: Clock>(rt: &R, alloc: Global, keys: u64, checkpoints: u64) -> Opti
     let store = MemoryStore::new(alloc, graph.tasks());
     let transactions = MemoryTransactions::new(alloc, graph.sinks());
     let core = Core::open(alloc, graph, operators, log, store, transactions);
-    work_on(rt, core, keys, checkpoints)
+    work_on(rt, alloc, core, keys, checkpoints)
 }
 
 /// The number that a word is, or 1.
