@@ -20,6 +20,3 @@ pub use input::Input;
 pub use job::{JobInput, judge};
 pub use line::{MAX_LINE_BYTES, next_line};
 pub use rows::{put_line, read_rows, row_of_line};
-
-#[cfg(test)]
-mod tests;
