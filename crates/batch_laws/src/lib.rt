@@ -1,0 +1,2 @@
+//! Several records of one input, worked one after another.
+#![tactic(auto)]
