@@ -6,11 +6,13 @@ use Rattle.alignment.specs.Table.{is_logged}
 use Rattle.channels.specs.declared.item.Item.{Item}
 use Rattle.channels.specs.declared.item.Item.TheVariants.{Record}
 use Rattle.dataflow_model.specs.Graph.{Meaning}
-use Rattle.dataflow_model.specs.Machine.{received, kept_under}
+use Rattle.dataflow_model.specs.Machine.{received, kept_under, state_under}
 use Rattle.job_graph.specs.Expanded.{Expanded}
 use Rattle.job_state.specs.Held.{Held, gate_at, Operates}
 use Rattle.job_state.specs.Sending.{Puts, items_at}
 use Rattle.job_state.specs.declared.holding.Holding.TheVariants as holds
+use Rattle.engine_model.specs.Calls.{OperatesNext}
+use Rattle.engine_model.specs.Language.{Language}
 
 -- one record, worked: its key, the state that it leaves under the key, and what is sent
 pub record Turn (R K S : Type 0) : Type 0 where
@@ -60,3 +62,19 @@ module _ {R K S : Type 0} where
       pub keeps : (other : K) → value_at cmp kept other ≡ kept_by meaning.same_key turns (value_at cmp entries) other
       pub puts : Puts (λ number. map Record (received meaning task (sent_by turns) (slice_get graph.channels number))) (without_first (length turns) channel old.channels) new.channels
       pub ends : new ≡ record old { tasks = slice_set old.tasks task (holds.Operator kept); channels = new.channels; logs = log_with_all (is_logged (gate_at old task) input) channel (map (λ turn. turn.row) turns) old.logs }
+
+module _ {R K S O : Type 0} (meaning : Meaning R K S O) (operator : O) where
+  -- An operator works records from the first to the last, each on the state that the former left under its key.
+  abbrev pub turns_of : List R → (K → Option S) → List (Turn R K S)
+  turns_of [] states = []
+  turns_of (row ∷ rows) states =
+      let key = meaning.key operator row in
+      let outcome = meaning.apply operator (state_under key (meaning.fresh operator) states) row in
+      record { row = row; key = key; state = outcome.state; sent = outcome.sent } ∷ turns_of rows (kept_under meaning.same_key key outcome.state states)
+
+module _ {R K S O : Type 0} (lang : Language R K S O) (operator : O) (graph : Expanded) (task input channel : ℕ) where
+  -- the operator works these records of an input, which is this channel, in so many steps
+  abbrev pub OperatesOn : List R → Held R K S → Held R K S → Type 0
+  OperatesOn [] old new = new ≡ old
+  OperatesOn (row ∷ rows) old new =
+      (next : Held R K S) × (step : OperatesNext graph task old next input channel lang operator) × (step.row ≡ row) × OperatesOn rows next new
