@@ -1,7 +1,7 @@
 use Rattle.std.proofs.Common.{rules, None, get_or, arith}
 use Rattle.std.proofs.lemmas.Option.{slice_get-get_or}
-use Rattle.recovery.proofs.Settling.{abort_next, abort_stops, abort_counted}
-use Rattle.recovery.proofs.settle.abort_all.Goals as goal
+use Rattle.settlement.proofs.Settling.{abort_next, abort_stops, abort_counted}
+use Rattle.settlement.proofs.settle.abort_all.Goals as goal
 
 pub loop-transaction-preserved : goal.loop-transaction-preserved
 loop-transaction-preserved g c =

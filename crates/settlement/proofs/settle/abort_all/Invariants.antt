@@ -1,7 +1,7 @@
 use Rattle.std.proofs.Common.{◌≡◌, take, drop}
 use Rattle.commit_sink.specs.Ledger.{unsettled_of}
 use Rattle.engine_model.specs.Restart.{InTurn, AbortsNext}
-use Rattle.recovery.proofs.settle.abort_all.Given as goal
+use Rattle.settlement.proofs.settle.abort_all.Given as goal
 
 -- those met so far are aborted, and the others are all that is left
 abbrev pub invariant-loop-transaction : goal.invariant-loop-transaction

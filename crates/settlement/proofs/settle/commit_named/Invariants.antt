@@ -1,6 +1,6 @@
 use Rattle.std.proofs.Common.{◌≡◌, take}
 use Rattle.engine_model.specs.Restart.{InTurn, CommitsNext}
-use Rattle.recovery.proofs.settle.commit_named.Given as goal
+use Rattle.settlement.proofs.settle.commit_named.Given as goal
 
 -- those met so far are committed
 abbrev pub invariant-loop-name : goal.invariant-loop-name

@@ -7,7 +7,7 @@ use Rattle.commit_sink.specs.declared.transactions.TransactionFault.TheVariants 
 use Rattle.engine_model.specs.Restart.{InTurn, UpTo, CommitsNext, AbortsNext, SettlesPartly, NamesOther}
 use Rattle.engine_model.proofs.Turns.{turn_next, up_to_here, up_to_next, next_of_rest, take_and_drop, up_to_end}
 use Rattle.engine_model.proofs.Ledger.Settle.{abort_first, abort_not_refused, all_named, named_none}
-use Rattle.recovery.specs.Ends.{commit_fault, call_fault, EndsCommits, EndsAborts, EndsSettle}
+use Rattle.settlement.specs.Ends.{commit_fault, call_fault, EndsCommits, EndsAborts, EndsSettle}
 
 -- ---- commits
 
@@ -15,9 +15,9 @@ pub commit_next : (names : List ℕ) (i n a b : ℕ) (old l m : Ledger) → slic
     → Ends {T = Unit} (l, a) (m, b) (commit_refusal l n) (after_commit l n) (Ok tt) → InTurn CommitsNext (take (i + 1) names) old m
 commit_next names i n a b old l m at done ordered e = turn_next CommitsNext names i n old l m at done (record { may = e.0; ends = e.1; ordered = ordered })
 
-pub commit_stops : (task : ℕ) (names : List ℕ) (i n a b : ℕ) (old l m : Ledger) (f : TransactionFault) → slice_get names i ≡ Some n → InTurn CommitsNext (take i names) old l → IsOrdered m → f ≢ fault.Memory
-    → Ends {T = Unit} (l, a) (m, b) (commit_refusal l n) (after_commit l n) (Err f) → EndsCommits old m task names (Err (commit_fault task f))
-commit_stops task names i n a b old l m f at done ordered no_memory e = by f no_memory e
+pub commit_stops : (names : List ℕ) (i n a b : ℕ) (old l m : Ledger) (f : TransactionFault) → slice_get names i ≡ Some n → InTurn CommitsNext (take i names) old l → IsOrdered m → f ≢ fault.Memory
+    → Ends {T = Unit} (l, a) (m, b) (commit_refusal l n) (after_commit l n) (Err f) → EndsCommits old m names (Err (commit_fault f))
+commit_stops names i n a b old l m f at done ordered no_memory e = by f no_memory e
   where
     here : m ≡ l → UpTo CommitsNext names old m
     here same = up_to_here CommitsNext names i old m (subst (InTurn CommitsNext (take i names) old) (sym same) done)
@@ -31,15 +31,15 @@ commit_stops task names i n a b old l m f at done ordered no_memory e = by f no_
       refused = λ none. none-some g (sym none ∙ ap (λ (x : Ledger). commit_refusal x n) same ∙ why);
     }
 
-    by : (f : TransactionFault) → f ≢ fault.Memory → Ends {T = Unit} (l, a) (m, b) (commit_refusal l n) (after_commit l n) (Err f) → EndsCommits old m task names (Err (commit_fault task f))
+    by : (f : TransactionFault) → f ≢ fault.Memory → Ends {T = Unit} (l, a) (m, b) (commit_refusal l n) (after_commit l n) (Err f) → EndsCommits old m names (Err (commit_fault f))
     by fault.Fault other e = elim e.0 [
       | inl same ↦ here same
       | inr did ↦ up_to_next CommitsNext names i n old l m at done (record { may = did.0; ends = did.1; ordered = ordered })
     ]
-    by fault.NotPreCommitted other e = (refl, refl, refused fault.NotPreCommitted e.0 e.1)
-    by fault.NotOpen other e = (refl, refl, refused fault.NotOpen e.0 e.1)
-    by fault.AlreadyCommitted other e = (refl, refl, refused fault.AlreadyCommitted e.0 e.1)
-    by fault.NoSuchTransaction other e = (refl, refl, refused fault.NoSuchTransaction e.0 e.1)
+    by fault.NotPreCommitted other e = refused fault.NotPreCommitted e.0 e.1
+    by fault.NotOpen other e = refused fault.NotOpen e.0 e.1
+    by fault.AlreadyCommitted other e = refused fault.AlreadyCommitted e.0 e.1
+    by fault.NoSuchTransaction other e = refused fault.NoSuchTransaction e.0 e.1
     by fault.Memory other e = absurd (other refl)
 
 -- ---- aborts
@@ -95,14 +95,14 @@ abort_counted left i subtask a b n l m f at no_memory rest e = by f no_memory e
 
 -- ---- one is begun
 
-pub begin_stops : (task : ℕ) (names : List ℕ) (subtask a b : ℕ) (old named rest new : Ledger) (f : TransactionFault) → InTurn CommitsNext names old named → InTurn AbortsNext (unsettled_of named subtask) named rest → IsOrdered new
-    → Ends {T = ℕ} (rest, a) (new, b) None (begun rest subtask) (Err f) → EndsSettle old new task names subtask (Err (call_fault f))
-begin_stops task names subtask a b old named rest new f commits aborts ordered e = by f e
+pub begin_stops : (names : List ℕ) (subtask a b : ℕ) (old named rest new : Ledger) (f : TransactionFault) → InTurn CommitsNext names old named → InTurn AbortsNext (unsettled_of named subtask) named rest → IsOrdered new
+    → Ends {T = ℕ} (rest, a) (new, b) None (begun rest subtask) (Err f) → EndsSettle old new names subtask (Err (call_fault f))
+begin_stops names subtask a b old named rest new f commits aborts ordered e = by f e
   where
     none : new ≡ rest → SettlesPartly names subtask old new
     none same = inr (inl (record { named = named; commits = commits; aborts = up_to_end AbortsNext (unsettled_of named subtask) named new (subst (InTurn AbortsNext (unsettled_of named subtask) named) (sym same) aborts) }))
 
-    by : (f : TransactionFault) → Ends {T = ℕ} (rest, a) (new, b) None (begun rest subtask) (Err f) → EndsSettle old new task names subtask (Err (call_fault f))
+    by : (f : TransactionFault) → Ends {T = ℕ} (rest, a) (new, b) None (begun rest subtask) (Err f) → EndsSettle old new names subtask (Err (call_fault f))
     by fault.Fault e = elim e.0 [
       | inl same ↦ none same
       | inr did ↦ inr (inr (length rest.transactions + 1, record { named = named; rest = rest; commits = commits; aborts = aborts; is_next = refl; begins = did.1; ordered = ordered }))
