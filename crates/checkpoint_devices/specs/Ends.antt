@@ -43,4 +43,4 @@ module _ (sink : Sinking) (pending : Option ℕ) (old new : Ledger × ℕ) where
   abbrev pub EndsOldest : Result Bool TransactionFault → Type 0
   EndsOldest (Ok true) = CommitsDue
   EndsOldest (Ok false) = ((p : Pending) → ¬ IsDue sink pending p) × (new.0 ≡ old.0) × (new.1 ≡ old.1)
-  EndsOldest (Err fault) = FailsAtDue
+  EndsOldest (Err other) = FailsAtDue
