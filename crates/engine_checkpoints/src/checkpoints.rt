@@ -12,7 +12,7 @@ ghost use Rattle.task_part.specs.Spelling.{part_spelling, part_at};
 ghost use Rattle.engine_model.specs.declared.fault.CoreFault.TheVariants as CoreFault;
 ghost use Rattle.engine_model.specs.Calls.{IsTask, EndsTrigger, EndsPersist, EndsPersistSome, EndsComplete, WhereReached, WherePut};
 
-use checkpoint_devices::{discard_older, PutFault};
+use checkpoint_devices::{PutFault, discard_older};
 use engine_model::{CoreFault, Persisted};
 use job_graph::Graph;
 use job_state::Attempt;
