@@ -1,10 +1,7 @@
-//! Steps on a core, and what it has committed.
+//! Steps on a core.
 
 use crate::devices::Devices;
 use crate::test_core::TestCore;
-use abs_codec::decode_all;
-use absflow_run::row_line;
-use operators::Row;
 use script_file::parse_step;
 use std::alloc::Global;
 use std::process::Abort;
@@ -35,22 +32,4 @@ pub(crate) fn expect_answers(
         assert_eq!(rt; said.as_str(), *wanted, "{step}");
     }
     Ok(())
-}
-
-/// A committed row of a sink subtask.
-fn committed_row(alloc: Global, core: &TestCore, sink: u32, number: u64) -> Result<String, Fail> {
-    let Some(record) = core.committed(sink, number)? else {
-        return Err(Fail::new("a committed row is not there"));
-    };
-    let row: Row = decode_all(alloc, &record)?;
-    Ok(row_line(alloc, &row)?)
-}
-
-/// The committed rows of a sink subtask.
-pub(crate) fn committed(alloc: Global, core: &TestCore, sink: u32) -> Result<Vec<String>, Fail> {
-    let mut lines = Vec::new(alloc);
-    for number in 0..core.committed_len(sink)? {
-        lines.push(committed_row(alloc, core, sink, number)?)?;
-    }
-    Ok(lines)
 }

@@ -3,10 +3,9 @@
 use crate::jobs::expanded;
 use commit_sink::{FlakyTransactions, MemoryTransactions, TransactionFault, Transactions};
 use job_graph::Graph;
-use operators::{Operator, Row, RowOp};
-use recovery::{RecoveryFault, Restored, restore};
+use operators::Row;
 use snapshot_store::{FlakyStore, MemoryStore, SnapshotStore, StoreFault};
-use source_log::{FlakyLog, MemoryLog, Partitions};
+use source_log::{FlakyLog, MemoryLog};
 use std::alloc::Global;
 use std::marker::Model;
 use std::test::Fail;
@@ -61,17 +60,6 @@ fn fill(
         }
     }
     copy.complete(1)
-}
-
-/// What a restart reads of such devices.
-fn read_back<O: Operator, S: SnapshotStore, P: Partitions<Record = O::Record>>(
-    alloc: Global,
-    graph: &Graph,
-    operators: &[O],
-    store: &mut S,
-    log: &P,
-) -> Result<Restored<O>, RecoveryFault> {
-    restore(alloc, graph, operators, store, log)
 }
 
 impl Devices {
@@ -140,22 +128,5 @@ impl Devices {
     /// How many rows the first sink subtask has committed.
     pub(crate) fn committed_len(&self) -> u64 {
         self.held.sinks.committed_len(0)
-    }
-
-    /// What a restart reads of them.
-    pub(crate) fn restored(
-        &mut self,
-        alloc: Global,
-        graph: &Graph,
-        operators: &[RowOp],
-    ) -> Result<Restored<RowOp>, RecoveryFault> {
-        let Durable { log, store, .. } = &mut *self.held;
-        read_back(alloc, graph, operators, store, log)
-    }
-
-    /// The store and the transactions, without the faults that they are to meet.
-    pub(crate) fn into_faultless(self) -> (MemoryStore, MemoryTransactions) {
-        let Durable { store, sinks, .. } = Box::into_inner(self.held);
-        (store.into_inner(), sinks.into_inner())
     }
 }

@@ -2,15 +2,10 @@
 
 use crate::cores::{expect_answers, opened};
 use crate::devices::Devices;
-use crate::jobs::{LINE, expanded};
+use crate::jobs::LINE;
 use crate::lists::{almost_spent, store_of_lists};
 use crate::test_core::TestCore;
 use abs_codec::{Bytes, Map};
-use commit_sink::{MemoryTransactions, Progress};
-use engine_model::Start;
-use operators::RowOp;
-use recovery::Restored;
-use snapshot_store::MemoryStore;
 use std::alloc::Global;
 use std::process::Abort;
 use std::test::Fail;
@@ -142,61 +137,6 @@ fn a_name_of_no_pre_committed_transaction_is_refused(rt: HostRuntime) -> Result<
     let mut devices = used(&rt, alloc)?;
     devices.abort(1)?;
     expect_refusal(&rt, alloc, devices)
-}
-
-/// What the restart of a line reads.
-fn restored_line(rt: &impl Abort, alloc: Global) -> Result<Restored<RowOp>, Fail> {
-    let mut devices = used(rt, alloc)?;
-    let (graph, operators) = expanded(alloc, LINE)?;
-    Ok(devices.restored(alloc, &graph, &operators)?)
-}
-
-/// The source goes on behind its row, the operator has no states, and the sink is to commit its
-/// transaction.
-#[test]
-fn a_restart_starts_from_the_parts(rt: HostRuntime) -> Result<(), Fail> {
-    let restored = restored_line(&rt, rt.alloc())?;
-    assert_eq!(&rt; restored.number(), Some(1));
-    let [
-        Start::Source(1),
-        Start::Operator(states, _),
-        Start::Sink(0, names, _),
-    ] = restored.starts()
-    else {
-        return Err(Fail::new("other starts"));
-    };
-    assert!(&rt; states.is_empty());
-    assert_eq!(&rt; names.as_slice(), [1].as_slice());
-    Ok(())
-}
-
-/// The store has given out 1, which is complete, with three parts.
-fn expect_store_lists(rt: &impl Abort, store: &MemoryStore) {
-    assert_eq!(rt; store.next_number(), 2);
-    assert_eq!(rt; store.complete_at(0), Some(1));
-    assert_eq!(rt; store.complete_at(1), None);
-    let first: &[u8] = &[0, 0, 0, 0, 0, 0, 0, 0, 1];
-    assert_eq!(rt; store.part_at(0), Some((1, 0, first)));
-    assert!(rt; store.part_at(2).is_some());
-    assert_eq!(rt; store.part_at(3), None);
-}
-
-/// The first transaction is pre-committed, the second open, and none is committed.
-fn expect_sink_lists(rt: &impl Abort, sinks: &MemoryTransactions) {
-    let first = sinks.transaction_at(0).map(|t| t.1);
-    assert_eq!(rt; first, Some(Progress::PreCommitted(1)));
-    assert_eq!(rt; sinks.transaction_at(1).map(|t| t.1), Some(Progress::Open));
-    assert!(rt; sinks.transaction_at(2).is_none());
-    assert_eq!(rt; sinks.committed_at(0), None);
-}
-
-/// What used devices hold is told in lists.
-#[test]
-fn used_devices_are_told_in_lists(rt: HostRuntime) -> Result<(), Fail> {
-    let (store, sinks) = used(&rt, rt.alloc())?.into_faultless();
-    expect_store_lists(&rt, &store);
-    expect_sink_lists(&rt, &sinks);
-    Ok(())
 }
 
 /// The line over a store that has the last number left.

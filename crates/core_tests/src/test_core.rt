@@ -110,11 +110,6 @@ fn len_of(core: &impl CommittedRows, sink: u32) -> Result<u64, CoreFault> {
     core.committed_len(sink)
 }
 
-/// A committed row of a sink subtask.
-fn row_of(core: &impl CommittedRows, sink: u32, number: u64) -> Result<Option<Vec<u8>>, CoreFault> {
-    core.committed(sink, number)
-}
-
 impl TestCore {
     /// The job over these devices, down.
     pub(crate) fn open(alloc: Global, job: &str, devices: Devices) -> Result<Self, Fail> {
@@ -144,10 +139,6 @@ impl TestCore {
 
     pub(crate) fn committed_len(&self, sink: u32) -> Result<u64, CoreFault> {
         len_of(&self.held.core, sink)
-    }
-
-    pub(crate) fn committed(&self, sink: u32, number: u64) -> Result<Option<Vec<u8>>, CoreFault> {
-        row_of(&self.held.core, sink, number)
     }
 
     /// The devices, as they stand.

@@ -1,2 +1,3 @@
+pub mod Older
 pub mod Readable
 pub mod Rounds

@@ -12,7 +12,7 @@ ghost use Rattle.task_part.specs.Spelling.{part_spelling, part_at};
 ghost use Rattle.engine_model.specs.declared.fault.CoreFault.TheVariants as CoreFault;
 ghost use Rattle.engine_model.specs.Calls.{IsTask, EndsTrigger, EndsPersist, EndsPersistSome, EndsComplete, WhereReached, WherePut};
 
-use commit_sink::Transactions;
+use checkpoint_devices::{PutFault, discard_older};
 use engine_model::{CoreFault, Persisted};
 use job_graph::Graph;
 use job_state::Attempt;
@@ -21,6 +21,7 @@ use snapshot_store::{SnapshotStore, StoreFault};
 
 /// A checkpoint begins under a number of its own. The parts below the last complete number are
 /// discarded first.
+#[tactic(auto, using(crate::proofs::Older::older_are_tidied))]
 pub fn trigger<O: Operator, S: SnapshotStore>(
     attempt: &mut Attempt<O>,
     store: &mut S,
@@ -35,10 +36,8 @@ pub fn trigger<O: Operator, S: SnapshotStore>(
     if attempt.pending().is_some() {
         return Err(CoreFault::CheckpointPending);
     }
-    if let Some(last) = attempt.last_complete() {
-        if store.discard_below(last).is_err() {
-            return Err(CoreFault::Device);
-        }
+    if discard_older(store, attempt.last_complete()).is_err() {
+        return Err(CoreFault::Device);
     }
     match store.reserve() {
         Ok(number) => {
@@ -80,13 +79,13 @@ fn put_part<O: Operator, S: SnapshotStore>(
         ≡ Ok (with_logs (logs_of graph.now attempt.old task) p)) }
 {
     let bytes = attempt.part(graph, task)?;
-    match store.put(checkpoint, task, bytes) {
+    match checkpoint_devices::put_part(store, checkpoint, task, bytes) {
         Ok(()) => {
             attempt.acknowledge(checkpoint, task);
             Ok(())
         }
-        Err(StoreFault::Memory) => Err(CoreFault::Memory),
-        Err(_) => Err(CoreFault::Device),
+        Err(PutFault::Memory) => Err(CoreFault::Memory),
+        Err(PutFault::Device) => Err(CoreFault::Device),
     }
 }
 

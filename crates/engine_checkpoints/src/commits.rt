@@ -1,6 +1,6 @@
 //! The transactions of complete checkpoints are committed (Flink's `TwoPhaseCommitSinkFunction`).
 
-ghost use Rattle.std.specs.Prelude.{◌≡◌, ◌≢◌, ◌<◌, ℕ, Err, Some, None, slice_get, IfSome, IfNone};
+ghost use Rattle.std.specs.Prelude.{◌≡◌, ◌≢◌, ◌<◌, ℕ, Err, Some, None, slice_get};
 ghost use Rattle.commit_sink.specs.Ledger.{commit_refusal};
 ghost use Rattle.commit_sink.specs.Sink.{Sinking};
 ghost use Rattle.commit_sink.specs.declared.sink.Pending.{Pending};
@@ -8,29 +8,15 @@ ghost use Rattle.job_state.specs.declared.holding.Holding.TheVariants as Holding
 ghost use Rattle.job_graph.specs.declared.role.Role.TheVariants as Role;
 ghost use Rattle.job_graph.specs.Expanded.{IsExpanded};
 ghost use Rattle.engine_model.specs.declared.fault.CoreFault.TheVariants as CoreFault;
-ghost use Rattle.engine_model.specs.Commits.{IsNext, NoneIsNext, EndsCommit};
+ghost use Rattle.engine_model.specs.Commits.{IsNext, EndsCommit};
 ghost use Rattle.engine_model.specs.Keeps.{SinkIn};
 ghost use Rattle.engine_checkpoints.specs.Rounds.{EndsRound};
 
-use commit_sink::{Pending, Transactions};
+use commit_sink::Transactions;
 use engine_model::CoreFault;
 use job_graph::Graph;
 use job_state::Attempt;
 use operators::Operator;
-
-/// A sink's oldest pending transaction, if its checkpoint is complete: if it is not the one that is
-/// pending.
-fn next_of<O: Operator>(attempt: &Attempt<O>, task: u32) -> Option<Pending>
-    ensures some { IfSome result (λ p. (sink : Sinking) × IsNext task attempt.now sink p) }
-    ensures none { IfNone result (NoneIsNext task attempt.now) }
-{
-    let sink = attempt.sink(task)?;
-    let next = sink.oldest()?;
-    if attempt.pending() == Some(next.checkpoint) {
-        return None;
-    }
-    Some(next)
-}
 
 /// Commits a sink's oldest pending transaction, if its checkpoint is complete, and answers whether
 /// there was one.
@@ -48,14 +34,15 @@ fn commit_oldest<O: Operator, X: Transactions>(
     ensures told { result ≢ Err CoreFault.CommitFault
         → X.fault_count transactions.new ≡ X.fault_count transactions.old }
 {
-    let Some(next) = next_of(attempt, task) else {
+    let Some(sink) = attempt.sink(task) else {
         return Ok(false);
     };
-    match transactions.commit(next.transaction) {
-        Ok(()) => {
+    match checkpoint_devices::commit_oldest(transactions, sink, attempt.pending()) {
+        Ok(true) => {
             attempt.forget_oldest(task);
             Ok(true)
         }
+        Ok(false) => Ok(false),
         Err(_) => Err(CoreFault::CommitFault),
     }
 }

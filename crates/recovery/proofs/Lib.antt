@@ -1,4 +1,3 @@
-pub mod Settling
 pub mod Taking
 pub mod Readable
 pub mod Entries

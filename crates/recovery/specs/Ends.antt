@@ -4,10 +4,8 @@ use Rattle.abs_codec.specs.Reading.{whole_of}
 use Rattle.abs_codec.specs.declared.fault.CodecFault.{CodecFault}
 use Rattle.abs_codec.specs.declared.fault.CodecFault.TheVariants.{BadTag}
 use Rattle.commit_sink.specs.Ledger.{Ledger}
-use Rattle.commit_sink.specs.declared.transactions.TransactionFault.{TransactionFault}
-use Rattle.commit_sink.specs.declared.transactions.TransactionFault.TheVariants as transactions
 use Rattle.engine_model.specs.Language.{Language}
-use Rattle.engine_model.specs.Restart.{InTurn, UpTo, AreStarts, IsInPart, CommitsNext, AbortsNext, Settles, SettlesPartly, NamesOther, Suits, Takes, first_start, part_for, logs_in, openings_of, TakeSome, TakeUntilRefused, before_tasks}
+use Rattle.engine_model.specs.Restart.{InTurn, AreStarts, IsInPart, SettlesPartly, NamesOther, Suits, Takes, first_start, part_for, logs_in, openings_of, TakeSome, TakeUntilRefused, before_tasks}
 use Rattle.engine_model.specs.declared.fault.CoreFault.{CoreFault}
 use Rattle.engine_model.specs.declared.fault.CoreFault.TheVariants as core
 use Rattle.engine_model.specs.declared.start.Start.{Start}
@@ -15,6 +13,8 @@ use Rattle.engine_model.specs.declared.start.Start.TheVariants as start
 use Rattle.job_graph.specs.Expanded.{Expanded}
 use Rattle.job_graph.specs.declared.role.Role.{Role}
 use Rattle.job_state.specs.declared.holding.Holding.{Holding}
+use Rattle.settlement.specs.declared.fault.SettlementFault.{SettlementFault}
+use Rattle.settlement.specs.declared.fault.SettlementFault.TheVariants as settlement
 use Rattle.snapshot_store.specs.Store.{Stored, IsLatest, part_of}
 use Rattle.task_part.specs.Spelling.{Logs}
 use Rattle.task_part.specs.declared.part.Part.{Part}
@@ -28,15 +28,11 @@ core_fault MissingPart = core.BadSnapshot
 core_fault (Damaged task fault) = core.BadSnapshot
 core_fault Memory = core.Memory
 
--- a transaction that is named was not committed
-abbrev pub commit_fault : ℕ → TransactionFault → RecoveryFault
-commit_fault task transactions.Fault = Fault
-commit_fault task other = Damaged task BadTag
-
--- another call on transactions was refused
-abbrev pub call_fault : TransactionFault → RecoveryFault
-call_fault transactions.Memory = Memory
-call_fault other = Fault
+-- a sink's transactions were not settled
+abbrev pub sink_fault : ℕ → SettlementFault → RecoveryFault
+sink_fault task settlement.Fault = Fault
+sink_fault task settlement.NamesOther = Damaged task BadTag
+sink_fault task settlement.Memory = Memory
 
 module _ {R K S O : Type 0} (lang : Language R K S O) (stored : Stored) where
   -- a task's part of a checkpoint is there, and reads as this
@@ -114,26 +110,6 @@ module _ (old new : Ledger) where
   -- a sink of this task names a transaction that may not be committed: its part is damaged
   abbrev pub StopsSink : ℕ → List ℕ → ℕ → CodecFault → Type 0
   StopsSink task names which fault = (which ≡ task) × (fault ≡ BadTag) × NamesOther names old new
-
-  -- the commits of a sink's names, and the aborts of the others
-  abbrev pub EndsCommits : ℕ → List ℕ → Result Unit RecoveryFault → Type 0
-  EndsCommits task names (Ok u) = InTurn CommitsNext names old new
-  EndsCommits task names (Err Fault) = UpTo CommitsNext names old new
-  EndsCommits task names (Err (Damaged which fault)) = StopsSink task names which fault
-  EndsCommits task names (Err other) = ⊥
-
-  abbrev pub EndsAborts : List (ℕ × Option ℕ) → Result Unit RecoveryFault → Type 0
-  EndsAborts unsettled (Ok u) = InTurn AbortsNext unsettled old new
-  EndsAborts unsettled (Err Fault) = UpTo AbortsNext unsettled old new
-  EndsAborts unsettled (Err other) = ⊥
-
-  -- a sink's transactions
-  abbrev pub EndsSettle : ℕ → List ℕ → ℕ → Result ℕ RecoveryFault → Type 0
-  EndsSettle task names subtask (Ok opened) = Settles names subtask opened old new
-  EndsSettle task names subtask (Err Fault) = SettlesPartly names subtask old new
-  EndsSettle task names subtask (Err Memory) = SettlesPartly names subtask old new
-  EndsSettle task names subtask (Err (Damaged which fault)) = StopsSink task names which fault
-  EndsSettle task names subtask (Err other) = ⊥
 
   module _ {R K S : Type 0} where
     -- one task, with the logs that it starts from

@@ -1,110 +1,28 @@
 //! The transactions are settled.
 
-ghost use Rattle.std.specs.Prelude.{◌≡◌, ◌≢◌, ◌<◌, ◌^◌, ℕ, length, All, Err, MatchResult};
-ghost use Rattle.commit_sink.specs.Ledger.{unsettled_of};
+ghost use Rattle.std.specs.Prelude.{◌≡◌, ◌≢◌, ◌<◌, ◌^◌, length, All, Err, MatchResult};
 ghost use Rattle.recovery.specs.declared.fault.RecoveryFault.TheVariants as RecoveryFault;
 ghost use Rattle.recovery.specs.Ends as faults;
-ghost use Rattle.recovery.specs.Ends.{EndsCommits, EndsAborts, EndsSettle, EndsTake, TakeAll, StopTaking, IsBelow};
+ghost use Rattle.recovery.specs.Ends.{EndsTake, TakeAll, StopTaking, IsBelow};
 
 use crate::fault::RecoveryFault;
 use crate::parts::Restored;
 use abs_codec::{CodecFault, Items};
-use commit_sink::{Sink, TransactionFault, Transactions};
+use commit_sink::{Sink, Transactions};
 use engine_model::Start;
 use job_state::Holding;
 use operators::Operator;
+use settlement::{SettlementFault, settle_sink};
 use std::alloc::Global;
 
-/// Why a restart is refused where a transaction that is named was not committed.
-fn commit_fault(task: u32, fault: TransactionFault) -> RecoveryFault
-    ensures { result ≡ faults.commit_fault task fault }
+/// Why a restart is refused where a sink's transactions were not settled.
+fn sink_fault(task: u32, fault: SettlementFault) -> RecoveryFault
+    ensures { result ≡ faults.sink_fault task fault }
 {
     match fault {
-        TransactionFault::Fault => RecoveryFault::Fault,
-        _ => RecoveryFault::Damaged(task, CodecFault::BadTag),
-    }
-}
-
-/// Why it is refused where another call was.
-fn call_fault(fault: TransactionFault) -> RecoveryFault
-    ensures { result ≡ faults.call_fault fault }
-{
-    match fault {
-        TransactionFault::Memory => RecoveryFault::Memory,
-        _ => RecoveryFault::Fault,
-    }
-}
-
-/// Commits the transactions that a sink's part names, the oldest first.
-fn commit_named<X: Transactions>(
-    task: u32,
-    names: &[u64],
-    transactions: &mut X,
-) -> Result<(), RecoveryFault>
-    ensures ends { EndsCommits (X.state transactions.old) (X.state transactions.new) task
-        names.now result }
-    ensures same { (X.state transactions.new).subtasks ≡ (X.state transactions.old).subtasks }
-    ensures counted { result ≡ Err RecoveryFault.Fault
-        → X.fault_count transactions.old < X.fault_count transactions.new }
-    ensures told { result ≢ Err RecoveryFault.Fault
-        → X.fault_count transactions.new ≡ X.fault_count transactions.old }
-{
-    for name in names {
-        if let Err(fault) = transactions.commit(*name) {
-            return Err(commit_fault(task, fault));
-        }
-    }
-    Ok(())
-}
-
-/// Aborts a sink's transactions that are neither committed nor aborted.
-fn abort_all<X: Transactions>(
-    subtask: u32,
-    unsettled: &[(u64, Option<u64>)],
-    transactions: &mut X,
-) -> Result<(), RecoveryFault>
-    requires { unsettled.now ≡ unsettled_of (X.state transactions.old) subtask }
-    ensures ends { EndsAborts (X.state transactions.old) (X.state transactions.new)
-        unsettled.now result }
-    ensures same { (X.state transactions.new).subtasks ≡ (X.state transactions.old).subtasks }
-    ensures counted { result ≡ Err RecoveryFault.Fault
-        → X.fault_count transactions.old < X.fault_count transactions.new }
-    ensures told { result ≢ Err RecoveryFault.Fault
-        → X.fault_count transactions.new ≡ X.fault_count transactions.old }
-{
-    for transaction in unsettled {
-        if let Err(fault) = transactions.abort(transaction.0) {
-            return Err(call_fault(fault));
-        }
-    }
-    Ok(())
-}
-
-/// Settles a sink's transactions, and answers the one that is open then.
-fn settle_sink<X: Transactions>(
-    task: u32,
-    subtask: u32,
-    names: &[u64],
-    transactions: &mut X,
-) -> Result<u64, RecoveryFault>
-    requires { subtask < (X.state transactions.old).subtasks }
-    ensures ends { EndsSettle (X.state transactions.old) (X.state transactions.new) task names.now
-        subtask result }
-    ensures same { (X.state transactions.new).subtasks ≡ (X.state transactions.old).subtasks }
-    ensures counted { result ≡ Err RecoveryFault.Fault
-        → X.fault_count transactions.old < X.fault_count transactions.new }
-    ensures told { result ≢ Err RecoveryFault.Fault
-        → X.fault_count transactions.new ≡ X.fault_count transactions.old }
-{
-    commit_named(task, names, transactions)?;
-    let unsettled = match transactions.unsettled(subtask) {
-        Ok(unsettled) => unsettled,
-        Err(fault) => return Err(call_fault(fault)),
-    };
-    abort_all(subtask, &unsettled, transactions)?;
-    match transactions.begin(subtask) {
-        Ok(opened) => Ok(opened),
-        Err(fault) => Err(call_fault(fault)),
+        SettlementFault::Fault => RecoveryFault::Fault,
+        SettlementFault::NamesOther => RecoveryFault::Damaged(task, CodecFault::BadTag),
+        SettlementFault::Memory => RecoveryFault::Memory,
     }
 }
 
@@ -129,8 +47,10 @@ fn take<R: Drop, K: Ord + Drop, S: Drop, X: Transactions>(
         Start::Source(offset) => Ok((Holding::Source(offset), Items::new(alloc))),
         Start::Operator(states, logs) => Ok((Holding::Operator(states), logs)),
         Start::Sink(subtask, names, logs) => {
-            let opened = settle_sink(task, subtask, names.as_slice(), transactions)?;
-            Ok((Holding::Sink(Sink::new(alloc, opened)), logs))
+            match settle_sink(subtask, names.as_slice(), transactions) {
+                Ok(opened) => Ok((Holding::Sink(Sink::new(alloc, opened)), logs)),
+                Err(fault) => Err(sink_fault(task, fault)),
+            }
         }
     }
 }

@@ -1,19 +1,12 @@
-//! What chains and picks make of their operators, and how lanes and states are spelled. What each
-//! kind makes of rows stands in tests/scripts.
+//! What chains and picks make of their operators. What each kind makes of rows, and where their
+//! lanes lead, stands in tests/scripts.
 
-use abs_codec::{Codec, Items, NoMemory, Text};
+use abs_codec::{Codec, NoMemory, Text};
 use composed_operators::{Chain, KeylessRowOp, Pick};
-use operators::{Operator, Outcome, Row, RowOp, RowState};
-use std::alloc::{AllocError, Global};
+use operators::{Operator, Outcome, Row, RowOp};
+use std::alloc::Global;
 use std::process::Abort;
 use std::test::Fail;
-
-fn row(alloc: Global, k: &str, v: i64) -> Result<Row, AllocError> {
-    Ok(Row {
-        k: Text::from_str(alloc, k)?,
-        v,
-    })
-}
 
 /// What an operator makes of a record in a state that has its form.
 fn outcome_of<O: Operator>(
@@ -29,147 +22,85 @@ fn outcome_of<O: Operator>(
     op.apply(alloc, state, item)
 }
 
-/// Works off a row of the key, adds the ports and values that the operator sends for it, and gives
-/// the key's next state.
+/// What is sent is one row, on this port and with this value.
+fn expect_one(rt: &impl Abort, sent: &[(u32, Row)], port: u32, value: i64) {
+    assert_eq!(rt; sent.len(), 1);
+    assert_eq!(rt; sent[0].0, port);
+    assert_eq!(rt; sent[0].1.v, value);
+}
+
+/// Works off a row of the key, for which the operator sends one row, and gives the key's next
+/// state.
 fn work_off<O: Operator<Record = Row>>(
     rt: &impl Abort,
     alloc: Global,
     op: &O,
     state: &O::State,
-    v: i64,
-    sent: &mut Vec<(u32, i64)>,
+    (v, port, value): (i64, u32, i64),
 ) -> Result<O::State, NoMemory> {
-    let item = row(alloc, "a", v)?;
-    let outcome = outcome_of(rt, alloc, op, state, &item)?;
-    for (port, out) in &outcome.sent {
-        assert!(rt; *port < op.ports());
-        sent.push((*port, out.v))?;
-    }
+    let k = Text::from_str(alloc, "a")?;
+    let outcome = outcome_of(rt, alloc, op, state, &Row { k, v })?;
+    expect_one(rt, &outcome.sent, port, value);
     Ok(outcome.state)
 }
 
-/// The ports and values that an operator sends for rows of one key, one after another.
-fn sent_for<O: Operator<Record = Row>>(
-    rt: &impl Abort,
-    alloc: Global,
-    op: &O,
-    values: &[i64],
-) -> Result<Vec<(u32, i64)>, NoMemory> {
-    let mut state = op.fresh(alloc)?;
-    let mut sent = Vec::new(alloc);
-    for v in values {
-        state = work_off(rt, alloc, op, &state, *v, &mut sent)?;
-    }
-    Ok(sent)
-}
-
-/// An operator sends these for rows of one key.
+/// For rows of one key an operator sends a row each: the value of each row, and the port and the
+/// value of what is sent.
 fn expect_sent<O: Operator<Record = Row>>(
     rt: &impl Abort,
     alloc: Global,
     op: &O,
-    values: &[i64],
-    wanted: &[(u32, i64)],
+    rows: &[(i64, u32, i64)],
 ) -> Result<(), Fail> {
-    let sent = sent_for(rt, alloc, op, values)?;
-    assert_eq!(rt; sent.as_slice(), wanted);
+    let mut state = op.fresh(alloc)?;
+    for row in rows {
+        state = work_off(rt, alloc, op, &state, *row)?;
+    }
     Ok(())
 }
 
-/// An operator's copy is the operator.
-fn expect_copy<O: Operator>(rt: &impl Abort, op: &O) -> Result<(), Fail> {
+/// An operator has so many ports, and its copy is the operator.
+fn expect_copy<O: Operator>(rt: &impl Abort, op: &O, ports: u32) -> Result<(), Fail> {
+    assert_eq!(rt; op.ports(), ports);
     assert!(rt; op.copy()? == *op);
     Ok(())
 }
 
 #[test]
-fn lanes_follow_the_hash(rt: HostRuntime) -> Result<(), Fail> {
-    let alloc = rt.alloc();
-    for (k, lane) in [("", 0), ("a", 97), ("b", 98), ("ab", 3105)] {
-        assert_eq!(rt; RowOp::lane(&row(alloc, k, 0)?), lane);
-    }
-    Ok(())
-}
-
-#[test]
 fn a_chain_sends_its_first_port_through(rt: HostRuntime) -> Result<(), Fail> {
-    let plus = KeylessRowOp {
-        op: RowOp::Add { n: 10 },
-    };
-    let counted = Chain::new(RowOp::Count, plus);
-    expect_sent(&rt, rt.alloc(), &counted, &[7, 7], &[(0, 11), (0, 12)])
+    let op = RowOp::Add { n: 10 };
+    let counted = Chain::new(RowOp::Count, KeylessRowOp { op });
+    expect_sent(&rt, rt.alloc(), &counted, &[(7, 0, 11), (7, 0, 12)])
 }
 
 /// Port 0 of the loop is split.
-fn expect_split_loop(
-    rt: &impl Abort,
-    alloc: Global,
-    looped: &Chain<RowOp, KeylessRowOp>,
-) -> Result<(), Fail> {
-    assert_eq!(rt; looped.ports(), 3);
-    expect_sent(rt, alloc, looped, &[2, 0, -1], &[(2, 1), (0, 0), (1, -1)])?;
-    expect_copy(rt, looped)
-}
-
 #[test]
 fn a_chain_has_the_other_ports_behind(rt: HostRuntime) -> Result<(), Fail> {
-    let split = KeylessRowOp {
-        op: RowOp::Split { n: 0 },
-    };
-    let looped = Chain::new(RowOp::LoopDown, split);
-    expect_split_loop(&rt, rt.alloc(), &looped)
+    let op = RowOp::Split { n: 0 };
+    let looped = Chain::new(RowOp::LoopDown, KeylessRowOp { op });
+    expect_copy(&rt, &looped, 3)?;
+    expect_sent(
+        &rt,
+        rt.alloc(),
+        &looped,
+        &[(2, 2, 1), (0, 0, 0), (-1, 1, -1)],
+    )
 }
 
-/// The first sums, and the second counts down.
-fn expect_picks(
-    rt: &impl Abort,
-    alloc: Global,
-    first: &Pick<RowOp, KeylessRowOp>,
-    second: &Pick<RowOp, KeylessRowOp>,
-) -> Result<(), Fail> {
-    expect_sent(rt, alloc, first, &[7, 8], &[(0, 7), (0, 15)])?;
-    expect_sent(rt, alloc, second, &[7], &[(1, 6)])?;
-    assert!(rt; *first != *second);
-    expect_copy(rt, first)
-}
+type Picked = Pick<RowOp, KeylessRowOp>;
 
+/// It sums.
 #[test]
-fn a_pick_is_the_one_that_was_picked(rt: HostRuntime) -> Result<(), Fail> {
-    let first: Pick<RowOp, KeylessRowOp> = Pick::First(RowOp::Sum);
-    let second: Pick<RowOp, KeylessRowOp> = Pick::Second(KeylessRowOp {
-        op: RowOp::LoopDown,
-    });
-    expect_picks(&rt, rt.alloc(), &first, &second)
+fn a_pick_is_its_first(rt: HostRuntime) -> Result<(), Fail> {
+    let first: Picked = Pick::First(RowOp::Sum);
+    expect_copy(&rt, &first, 1)?;
+    expect_sent(&rt, rt.alloc(), &first, &[(7, 0, 7), (8, 0, 15)])
 }
 
-/// A state's spelling has this length, and is read as the state.
-fn expect_length(
-    rt: &impl Abort,
-    alloc: Global,
-    state: &RowState,
-    length: usize,
-) -> Result<(), Fail> {
-    let mut bytes = Vec::new(alloc);
-    state.encode(&mut bytes)?;
-    assert_eq!(rt; bytes.len(), length);
-    let (same, end) = RowState::decode(alloc, &bytes, 0)?;
-    assert_eq!(rt; end, length);
-    assert_eq!(rt; &same, state);
-    Ok(())
-}
-
-/// A list of one number.
-fn numbers(alloc: Global, number: i64) -> Result<RowState, AllocError> {
-    let mut values = Vec::new(alloc);
-    values.push(number)?;
-    Ok(RowState::Numbers(Items::from_vec(values)))
-}
-
+/// It counts down.
 #[test]
-fn states_are_spelled_by_their_form(rt: HostRuntime) -> Result<(), Fail> {
-    let alloc = rt.alloc();
-    expect_length(&rt, alloc, &RowState::Plain, 1)?;
-    expect_length(&rt, alloc, &RowState::Number(7), 9)?;
-    let numbers = numbers(alloc, 3)?;
-    expect_length(&rt, alloc, &numbers, 13)
+fn a_pick_is_its_second(rt: HostRuntime) -> Result<(), Fail> {
+    let op = RowOp::LoopDown;
+    let second: Picked = Pick::Second(KeylessRowOp { op });
+    expect_sent(&rt, rt.alloc(), &second, &[(7, 1, 6)])
 }

@@ -1,12 +1,10 @@
-//! Tests of values and of what is made of them: spellings and their faults, the gate against its
-//! table, a map and its frozen copy, chains and picks of operators, lanes and states.
+//! Tests of values and of what is made of them: spellings and their faults, a map and its frozen
+//! copy, chains and picks of operators, lanes and states.
 #![tactic(auto)]
 
 #[cfg(test)]
 mod chains;
 #[cfg(test)]
 mod codec;
-#[cfg(test)]
-mod gates;
 #[cfg(test)]
 mod maps;

@@ -16,57 +16,66 @@ fn rows(alloc: Global, values: &[(&str, i64)]) -> Result<Vec<Row>, AllocError> {
     Ok(rows)
 }
 
-fn forward(sender: usize, receiver: usize) -> Channel {
-    on_port(0, sender, receiver)
+/// Two sources, an operator that counts by key what both send, one that counts down and feeds
+/// itself, and a sink.
+fn tasks(alloc: Global) -> Result<Vec<Task<RowOp>>, Fail> {
+    Ok(vec![in alloc;
+        Task::Source(0),
+        Task::Source(1),
+        Task::Operator(RowOp::Count),
+        Task::Operator(RowOp::LoopDown),
+        Task::Sink,
+    ]?)
 }
 
-fn on_port(port: u32, sender: usize, receiver: usize) -> Channel {
+fn channel(sender: usize, receiver: usize, port: u32) -> Channel {
     Channel {
         sender,
         receiver,
         port,
         route: Route::Every,
-        marked: false,
+        marked: port == 1,
     }
 }
 
-/// To the only subtask of the receiver.
-fn hashed(sender: usize, receiver: usize) -> Channel {
+/// To the only subtask of the operator that counts.
+fn hashed(sender: usize) -> Channel {
     let share = Share {
         parallelism: 1,
         subtask: 0,
     };
     Channel {
         sender,
-        receiver,
+        receiver: 2,
         port: 0,
         route: Route::Lanes(share),
         marked: false,
     }
 }
 
-fn back(port: u32, sender: usize, receiver: usize) -> Channel {
-    Channel {
-        sender,
-        receiver,
-        port,
-        route: Route::Every,
-        marked: true,
-    }
+/// Channel 3 is the back-edge.
+fn channels(alloc: Global) -> Result<Vec<Channel>, Fail> {
+    Ok(vec![in alloc;
+        hashed(0),
+        hashed(1),
+        channel(2, 3, 0),
+        channel(3, 3, 1),
+        channel(3, 4, 0),
+    ]?)
 }
 
-fn start(
-    alloc: Global,
-    tasks: Vec<Task<RowOp>>,
-    channels: Vec<Channel>,
-    partitions: Vec<Vec<Row>>,
-) -> Result<Machine, AllocError> {
-    let job = Job {
-        tasks,
-        channels,
-        partitions,
-    };
-    Machine::new(alloc, job)
+fn partitions(alloc: Global) -> Result<Vec<Vec<Row>>, Fail> {
+    let first = rows(alloc, &[("a", 7), ("b", 7)])?;
+    let second = rows(alloc, &[("a", 5)])?;
+    Ok(vec![in alloc; first, second]?)
+}
+
+fn job(alloc: Global) -> Result<Job<RowOp, Row>, Fail> {
+    Ok(Job {
+        tasks: tasks(alloc)?,
+        channels: channels(alloc)?,
+        partitions: partitions(alloc)?,
+    })
 }
 
 /// All of the moves are possible, one after the other.
@@ -75,134 +84,55 @@ fn run(rt: &impl Abort, alloc: Global, machine: &mut Machine, moves: &[Move]) ->
     Ok(())
 }
 
-#[test]
-fn a_line_adds_ten(rt: HostRuntime) -> Result<(), Fail> {
-    let alloc = rt.alloc();
-    let tasks = vec![in alloc;
-        Task::Source(0),
-        Task::Operator(RowOp::Add { n: 10 }),
-        Task::Sink,
-    ]?;
-    let channels = vec![in alloc; forward(0, 1), forward(1, 2)]?;
-    let partitions = vec![in alloc; rows(alloc, &[("a", 1), ("b", 2)])?]?;
-    let mut machine = start(alloc, tasks, channels, partitions)?;
-    let moves = vec![in alloc;
+/// These rows, in this order.
+fn expect_rows(rt: &impl Abort, rows: &[Row], wanted: &[(&str, i64)]) {
+    assert_eq!(rt; rows.len(), wanted.len());
+    for (row, (k, v)) in rows.iter().zip(wanted) {
+        assert_eq!(rt; row.k.as_str(), *k);
+        assert_eq!(rt; row.v, *v);
+    }
+}
+
+/// The key a is counted twice. Both counts go down by one, and stand in the back-edge in their
+/// order.
+fn count_down_once(rt: &impl Abort, alloc: Global, machine: &mut Machine) -> Result<(), Fail> {
+    let moves = [
         Move::Read(0),
+        Move::Read(1),
+        Move::Work(2, 0),
+        Move::Work(2, 1),
+        Move::Work(3, 2),
+        Move::Work(3, 2),
+    ];
+    run(rt, alloc, machine, &moves)?;
+    expect_rows(rt, machine.channel(3), &[("a", 0), ("a", 1)]);
+    Ok(())
+}
+
+/// The key b is counted once, and goes round behind what is left of the second count of a. The
+/// sink takes two of the three rows that end.
+fn count_down(rt: &impl Abort, alloc: Global, machine: &mut Machine) -> Result<(), Fail> {
+    let moves = [
         Move::Read(0),
-        Move::Work(1, 0),
-        Move::Work(1, 0),
-        Move::Work(2, 1),
-        Move::Work(2, 1),
-    ]?;
-    run(&rt, alloc, &mut machine, &moves)?;
-    assert_eq!(rt;
-        machine.output(2),
-        rows(alloc, &[("a", 11), ("b", 12)])?.as_slice()
-    );
+        Move::Work(2, 0),
+        Move::Work(3, 3),
+        Move::Work(3, 3),
+        Move::Work(3, 2),
+        Move::Work(3, 3),
+        Move::Work(3, 3),
+        Move::Work(4, 4),
+        Move::Work(4, 4),
+    ];
+    run(rt, alloc, machine, &moves)?;
+    expect_rows(rt, machine.output(4), &[("a", 0), ("a", 0)]);
+    expect_rows(rt, machine.channel(4), &[("b", 0)]);
     assert_eq!(rt; machine.step(alloc, &Move::Read(0))?, false);
     Ok(())
 }
 
 #[test]
-fn two_sources_are_counted_together(rt: HostRuntime) -> Result<(), Fail> {
-    let alloc = rt.alloc();
-    let tasks = vec![in alloc;
-        Task::Source(0),
-        Task::Source(1),
-        Task::Operator(RowOp::Count),
-        Task::Sink,
-    ]?;
-    let channels = vec![in alloc; hashed(0, 2), hashed(1, 2), forward(2, 3)]?;
-    let partitions = vec![in alloc;
-        rows(alloc, &[("a", 1), ("a", 2)])?,
-        rows(alloc, &[("a", 5)])?,
-    ]?;
-    let mut machine = start(alloc, tasks, channels, partitions)?;
-    let moves = vec![in alloc;
-        Move::Read(0),
-        Move::Read(0),
-        Move::Work(2, 0),
-        Move::Read(1),
-        Move::Work(2, 1),
-        Move::Work(2, 0),
-        Move::Work(3, 2),
-        Move::Work(3, 2),
-    ]?;
-    run(&rt, alloc, &mut machine, &moves)?;
-    assert_eq!(rt;
-        machine.output(3),
-        rows(alloc, &[("a", 1), ("a", 2)])?.as_slice()
-    );
-    assert_eq!(rt; machine.channel(2), rows(alloc, &[("a", 3)])?.as_slice());
-    Ok(())
-}
-
-#[test]
-fn a_loop_through_a_task_counts_down(rt: HostRuntime) -> Result<(), Fail> {
-    let alloc = rt.alloc();
-    let tasks = vec![in alloc;
-        Task::Source(0),
-        Task::Operator(RowOp::LoopDown),
-        Task::Operator(RowOp::Add { n: 0 }),
-        Task::Sink,
-    ]?;
-    let channels = vec![in alloc;
-        forward(0, 1),
-        on_port(1, 1, 2),
-        back(0, 2, 1),
-        forward(1, 3),
-    ]?;
-    let partitions = vec![in alloc; rows(alloc, &[("x", 3)])?]?;
-    let mut machine = start(alloc, tasks, channels, partitions)?;
-    let first = vec![in alloc; Move::Read(0), Move::Work(1, 0), Move::Work(2, 1)]?;
-    run(&rt, alloc, &mut machine, &first)?;
-    assert_eq!(rt; machine.channel(2), rows(alloc, &[("x", 2)])?.as_slice());
-    let rest = vec![in alloc;
-        Move::Work(1, 2),
-        Move::Work(2, 1),
-        Move::Work(1, 2),
-        Move::Work(2, 1),
-        Move::Work(1, 2),
-        Move::Work(3, 3),
-    ]?;
-    run(&rt, alloc, &mut machine, &rest)?;
-    assert_eq!(rt; machine.output(3), rows(alloc, &[("x", 0)])?.as_slice());
-    Ok(())
-}
-
-#[test]
-fn a_task_that_feeds_itself_keeps_its_order(rt: HostRuntime) -> Result<(), Fail> {
-    let alloc = rt.alloc();
-    let tasks = vec![in alloc;
-        Task::Source(0),
-        Task::Operator(RowOp::LoopDown),
-        Task::Sink,
-    ]?;
-    let channels = vec![in alloc; forward(0, 1), back(1, 1, 1), forward(1, 2)]?;
-    let partitions = vec![in alloc; rows(alloc, &[("x", 2), ("y", 1)])?]?;
-    let mut machine = start(alloc, tasks, channels, partitions)?;
-    let first = vec![in alloc;
-        Move::Read(0),
-        Move::Work(1, 0),
-        Move::Read(0),
-        Move::Work(1, 0),
-    ]?;
-    run(&rt, alloc, &mut machine, &first)?;
-    assert_eq!(rt;
-        machine.channel(1),
-        rows(alloc, &[("x", 1), ("y", 0)])?.as_slice()
-    );
-    let rest = vec![in alloc;
-        Move::Work(1, 1),
-        Move::Work(1, 1),
-        Move::Work(1, 1),
-        Move::Work(2, 2),
-        Move::Work(2, 2),
-    ]?;
-    run(&rt, alloc, &mut machine, &rest)?;
-    assert_eq!(rt;
-        machine.output(2),
-        rows(alloc, &[("y", 0), ("x", 0)])?.as_slice()
-    );
-    Ok(())
+fn counts_go_round_in_their_order(rt: HostRuntime) -> Result<(), Fail> {
+    let mut machine = Machine::new(rt.alloc(), job(rt.alloc())?)?;
+    count_down_once(&rt, rt.alloc(), &mut machine)?;
+    count_down(&rt, rt.alloc(), &mut machine)
 }

@@ -15,8 +15,8 @@ returns-in-Ok-clause-readable g c = λ p is.
     (part_code r.HasSpelling r.spelling r.reading g.met.O.Record.Codec.code cmp g.met.O.Key.Ord.total k.HasSpelling k.spelling k.reading g.met.O.Key.Codec.code s.HasSpelling s.spelling s.reading g.met.O.State.Codec.code)
     (with_logs (logs_of c.args.graph.now c.args.attempt.now c.args.task) p) (c.in_ok-bytes.ensures.spelled p is).0
 
-pub returns-in-Err-clause-readable : goal.returns-in-Err-clause-readable
-returns-in-Err-clause-readable g c = λ p is.
+pub returns-in-Err-Device-clause-readable : goal.returns-in-Err-Device-clause-readable
+returns-in-Err-Device-clause-readable g c = λ p is.
     let r = g.O.Record.Codec in
     let k = g.O.Key.Codec in
     let s = g.O.State.Codec in
