@@ -1,6 +1,6 @@
 -- The records and the barriers of a channel, as one list.
 use Rattle.std.proofs.Common.{zero, suc, ◌≡◌, ◌<◌, ◌≤◌, ◌+◌, ◌-◌, ℕ, List, [], ◌∷◌, ◌++◌, length, map, take, drop, Option, Some, None, slice_get, slice_set, get_or, refl, subst, sym, ap, ◌∙◌, arith, append_assoc}
-use Rattle.std.proofs.lemmas.List.{append-nil, map-append, length-map, length-append, length-take, length-take-le, length-drop, take_all, drop_all, take-append-le, drop-append-le, drop-map}
+use Rattle.std.proofs.lemmas.List.{map-append, length-map, length-append, length-take, length-take-le, length-drop, take_all, drop_all, take-append-le, drop-append-le}
 use Rattle.std.proofs.lemmas.List.Sums.{sum_by-cons}
 use Rattle.std.proofs.lemmas.Option.{slice_get_read}
 use Rattle.std.specs.Borrow.{Bor}
@@ -142,7 +142,7 @@ module _ {R : Type 0} where
   record_popped b [] row records some is more = absurd (omega arith)
   record_popped b (first ∷ barriers) row records some is more =
       subst (λ (a : SpacedBarrier). interleaved (first ∷ barriers) (row ∷ records) ≡ Record row ∷ interleaved (slice_set (first ∷ barriers) 0 (record a { gap = a.gap - 1 })) records) (sym is)
-        (nearer first.gap first.checkpoint barriers row records (subst (λ (a : SpacedBarrier). 0 < a.gap) is more))
+      (nearer first.gap first.checkpoint barriers row records (subst (λ (a : SpacedBarrier). 0 < a.gap) is more))
 
   pub last_popped : (barriers : List SpacedBarrier) (row : R) (records : List R) → length barriers ≡ 0 → interleaved barriers (row ∷ records) ≡ Record row ∷ interleaved barriers records
   last_popped [] row records none = refl

@@ -100,7 +100,8 @@ impl<R: Drop> Channel<R> {
             }
             Item::Barrier(checkpoint) => {
                 let gap = self.behind;
-                self.barriers.push_back_reserved(SpacedBarrier { gap, checkpoint });
+                self.barriers
+                    .push_back_reserved(SpacedBarrier { gap, checkpoint });
                 self.behind = 0;
             }
         }

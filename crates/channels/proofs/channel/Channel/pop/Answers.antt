@@ -1,6 +1,6 @@
-use Rattle.std.proofs.Common.{◌≡◌, ◌<◌, ◌≤◌, length, drop, slice_get, refl, sym, ap, arith}
+use Rattle.std.proofs.Common.{◌≡◌, ◌<◌, length, drop, slice_get, refl, sym, ap, arith}
 use Rattle.channels.specs.Items.{leading_records}
-use Rattle.channels.specs.Queues.{gaps, interleaved}
+use Rattle.channels.specs.Queues.{gaps}
 use Rattle.channels.proofs.Queues.{nothing_first, barrier_popped, gaps_popped, leading_within, record_first, record_rest, last_rest, contents}
 use Rattle.channels.proofs.channel.Channel.pop.Goals as goal
 use Rattle.channels.proofs.channel.Channel.pop.Goals.{in-Some, in-None}
@@ -56,12 +56,12 @@ returns-clause-rest g c =
     let seen : 0 < length (leading_records c.args.self.now.items) = omega arith in
     let leads = rw (← c.self.view_is) at seen in
     elim c.match-front_mut.branch [
-    | in-Some w ↦
-      rw (w.self-is, ← c.self.view_is)
-        (ap (λ l. contents l c.self.inside.room) (record_rest w.in-Some.barrier.now c.self.inside.barriers.items c.self.inside.records.items c.in_ok-record.record c.pop_front-2.new.self.items c.in_ok-record.ensures.items
+      | in-Some w ↦
+          rw (w.self-is, ← c.self.view_is)
+          (ap (λ l. contents l c.self.inside.room) (record_rest w.in-Some.barrier.now c.self.inside.barriers.items c.self.inside.records.items c.in_ok-record.record c.pop_front-2.new.self.items c.in_ok-record.ensures.items
           (omega (arith, w.in-Some.ensures.variant.0 refl)) w.in-Some.ensures.value (omega arith) leads))
-    | in-None w ↦
-      rw (w.self-is, ← c.self.view_is)
-        (ap (λ l. contents l c.self.inside.room) (last_rest c.self.inside.barriers.items c.self.inside.records.items c.in_ok-record.record c.pop_front-2.new.self.items c.in_ok-record.ensures.items
+      | in-None w ↦
+          rw (w.self-is, ← c.self.view_is)
+          (ap (λ l. contents l c.self.inside.room) (last_rest c.self.inside.barriers.items c.self.inside.records.items c.in_ok-record.record c.pop_front-2.new.self.items c.in_ok-record.ensures.items
           (omega (arith, w.in-None.ensures.item))))
     ]
