@@ -16,7 +16,6 @@ use Rattle.output_readers.specs.Rows.{rows_of, with_row, EachBegins}
 use Rattle.output_readers.specs.Seeing.{Output}
 use Rattle.output_readers.proofs.EachRow.{length-with_row}
 use Rattle.row_publishing.specs.Showing.{Begin, BeginCommitted, AreCommitted, Shows}
-use Rattle.row_publishing.specs.Standing.{Within}
 
 begins_on : {A : Type 0} (xs ys zs : List A) → Begins xs ys → Begins ys zs → Begins xs zs
 begins_on xs ys zs one two = (one.0 ++ two.0, two.1 ∙ ap (λ l. l ++ two.0) one.1 ∙ append_assoc xs one.0 two.0)
