@@ -1,1 +1,3 @@
 pub mod Channel
+pub mod Items
+pub mod Queues

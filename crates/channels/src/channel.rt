@@ -1,9 +1,11 @@
 //! A list of items, pushed at the end and popped at the front.
 
-ghost use Rattle.std.specs.Prelude.{◌≡◌, ◌<◌, ◌≤◌, ◌-◌, ◌↔◌, [], ◌∷◌, ◌++◌, length, drop, slice_get, IsTrue, OnOk, OnErr};
+ghost use Rattle.std.specs.Prelude.{◌≡◌, ◌<◌, ◌≤◌, ◌-◌, ◌↔◌, [], ◌∷◌, ◌++◌, length, drop, slice_get, option_map, IsTrue, OnOk, OnErr};
 ghost use Rattle.std.specs.Option.{option_copied};
+ghost use Rattle.channels.specs.Items.{item_copied, leading_records};
 
 use crate::item::Item;
+use crate::spaced_barrier::SpacedBarrier;
 use abs_codec::NoMemory;
 use std::alloc::Global;
 use std::collections::VecDeque;
@@ -12,20 +14,31 @@ use std::marker::Model;
 /// What was sent to a task and not yet taken, in the order of sending.
 #[derive(Drop)]
 pub struct Channel<R: Drop> {
-    items: VecDeque<Item<R>>,
+    records: VecDeque<R>,
+    barriers: VecDeque<SpacedBarrier>,
+    /// How many records stand behind the last barrier.
+    behind: usize,
+    /// How many items more each queue takes without memory.
+    room: usize,
 }
 
 impl<R: Drop> Model for Channel<R> {
-    ghost use Rattle.std.specs.Prelude.{◌-◌};
+    ghost use Rattle.std.specs.Prelude.{◌≡◌, ◌≤◌, ◌<◌, ◌+◌, ◌^◌};
     ghost use Rattle.std.specs.VecDeque.{deque_len, deque_capacity};
     ghost use Rattle.channels.specs.Channel.{Contents};
+    ghost use Rattle.channels.specs.Queues.{gaps, interleaved};
 
     ghost Value = { Contents R };
 
     ghost view = { λ c. record {
-      items = c.items.items;
-      room = deque_capacity c.items - deque_len c.items;
+      items = interleaved c.barriers.items c.records.items;
+      room = c.room;
     } };
+
+    ghost invariant = { λ c. (gaps c.barriers.items + c.behind ≡ deque_len c.records)
+        × (deque_len c.records + c.room ≤ deque_capacity c.records)
+        × (deque_len c.barriers + c.room ≤ deque_capacity c.barriers)
+        × (deque_len c.records + deque_len c.barriers + c.room < 2 ^ 64) };
 }
 
 impl<R: Drop> Channel<R> {
@@ -34,20 +47,23 @@ impl<R: Drop> Channel<R> {
         ensures { result.items ≡ [] }
     {
         Channel {
-            items: VecDeque::new(alloc),
+            records: VecDeque::new(alloc),
+            barriers: VecDeque::new(alloc),
+            behind: 0,
+            room: 0,
         }
     }
 
     pub fn len(&self) -> usize
         ensures { result ≡ length self.now.items }
     {
-        self.items.len()
+        self.records.len() + self.barriers.len()
     }
 
     pub fn is_empty(&self) -> bool
         ensures { IsTrue result ↔ (self.now.items ≡ []) }
     {
-        self.items.is_empty()
+        self.len() == 0
     }
 
     /// Takes room for so many items, those included for which there is room already.
@@ -57,7 +73,15 @@ impl<R: Drop> Channel<R> {
         ensures grows { self.old.room ≤ self.new.room }
         ensures same { self.new ≡ record self.old { room = self.new.room } }
     {
-        self.items.reserve(count)?;
+        if count <= self.room {
+            return Ok(());
+        }
+        if self.len().checked_add(count).is_none() {
+            return Err(NoMemory);
+        }
+        self.records.reserve(count)?;
+        self.barriers.reserve(count)?;
+        self.room = count;
         Ok(())
     }
 
@@ -69,14 +93,50 @@ impl<R: Drop> Channel<R> {
           room = self.old.room - 1;
         } }
     {
-        self.items.push_back_reserved(item);
+        match item {
+            Item::Record(record) => {
+                self.records.push_back_reserved(record);
+                self.behind += 1;
+            }
+            Item::Barrier(checkpoint) => {
+                let gap = self.behind;
+                self.barriers
+                    .push_back_reserved(SpacedBarrier { gap, checkpoint });
+                self.behind = 0;
+            }
+        }
+        self.room -= 1;
+    }
+
+    /// How many records stand before the first barrier, or the end.
+    pub fn before_barrier(&self) -> usize
+        ensures { result ≡ length (leading_records self.now.items) }
+    {
+        match self.barriers.front() {
+            Some(barrier) => barrier.gap,
+            None => self.records.len(),
+        }
+    }
+
+    /// The record at this place, if it stands before the first barrier.
+    pub fn record(&self, index: usize) -> Option<&R>
+        ensures { option_copied result ≡ slice_get (leading_records self.now.items) index }
+    {
+        if index < self.before_barrier() {
+            self.records.get(index)
+        } else {
+            None
+        }
     }
 
     /// The item that was sent first.
-    pub fn head(&self) -> Option<&Item<R>>
-        ensures { option_copied result ≡ slice_get self.now.items 0 }
+    pub fn head(&self) -> Option<Item<&R>>
+        ensures { option_map item_copied result ≡ slice_get self.now.items 0 }
     {
-        self.items.front()
+        match self.record(0) {
+            Some(record) => Some(Item::Record(record)),
+            None => Some(Item::Barrier(self.barriers.front()?.checkpoint)),
+        }
     }
 
     /// Takes the item that was sent first. Its room is left.
@@ -88,6 +148,15 @@ impl<R: Drop> Channel<R> {
         } }
         ensures room { self.old.room ≤ self.new.room }
     {
-        self.items.pop_front()
+        if self.before_barrier() == 0 {
+            let barrier = self.barriers.pop_front()?;
+            return Some(Item::Barrier(barrier.checkpoint));
+        }
+        let record = self.records.pop_front()?;
+        match self.barriers.front_mut() {
+            Some(barrier) => barrier.gap -= 1,
+            None => self.behind -= 1,
+        }
+        Some(Item::Record(record))
     }
 }

@@ -39,7 +39,6 @@ fn barrier_at<O: Operator>(
     let Some(Item::Barrier(number)) = attempt.head(channel) else {
         return Err(CoreFault::NotReady);
     };
-    let number = *number;
     if attempt.pending() != Some(number) || attempt.came(channel) {
         return Err(CoreFault::NotReady);
     }

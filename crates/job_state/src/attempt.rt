@@ -1,11 +1,12 @@
 //! The attempt.
 
-ghost use Rattle.std.specs.Prelude.{◌≡◌, ◌<◌, ◌^◌, ◌↔◌, ℕ, List, false, length, slice_get, is_some, Some, None, IfOk, IfSome, IfNone, IsTrue};
+ghost use Rattle.std.specs.Prelude.{◌≡◌, ◌<◌, ◌^◌, ◌↔◌, ℕ, List, false, length, option_map, slice_get, is_some, Some, None, IfOk, IfSome, IfNone, IsTrue};
 ghost use Rattle.std.specs.Option.{option_copied};
 ghost use Rattle.abs_codec.specs.Entries.{value_at};
 ghost use Rattle.alignment.specs.Inputs as gates;
 ghost use Rattle.alignment.specs.Table.{effect_of, is_blocked};
 ghost use Rattle.alignment.specs.declared.input.Phase.TheVariants.{AtRest};
+ghost use Rattle.channels.specs.Items.{item_copied};
 ghost use Rattle.coordinator.specs.Coordinator.{has_acked, IsReady, ack_refusal, complete_refusal};
 
 use crate::gates::fresh_gates;
@@ -120,8 +121,8 @@ impl<O: Operator> Attempt<O> {
     }
 
     /// The item that stands first in a channel.
-    pub fn head(&self, channel: u32) -> Option<&Item<O::Record>>
-        ensures { option_copied result ≡ slice_get (items_at self.now.channels channel) 0 }
+    pub fn head(&self, channel: u32) -> Option<Item<&O::Record>>
+        ensures { option_map item_copied result ≡ slice_get (items_at self.now.channels channel) 0 }
     {
         first(&self.channels, channel)
     }

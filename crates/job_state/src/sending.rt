@@ -1,7 +1,7 @@
 //! What is put into channels, and taken from them.
 
-ghost use Rattle.std.specs.Prelude.{◌≡◌, ◌++◌, ◌∷◌, [], ◌<◌, ◌≤◌, ℕ, All, map, length, slice_get, OnOk, OnErr, IfOk};
-ghost use Rattle.std.specs.Option.{option_copied};
+ghost use Rattle.std.specs.Prelude.{◌≡◌, ◌++◌, ◌∷◌, [], ◌<◌, ◌≤◌, ℕ, All, map, length, slice_get, option_map, OnOk, OnErr, IfOk};
+ghost use Rattle.channels.specs.Items.{item_copied};
 ghost use Rattle.deliveries.specs.Deliveries.{deliveries_of, barriers_of};
 ghost use Rattle.job_state.specs.Sending.{contents_items, items_at, put_into, room_at, HasRoom, AreChannels, Puts, barrier_into, without_head};
 ghost use Rattle.channels.specs.declared.item.Item.TheVariants.{Record};
@@ -81,8 +81,9 @@ pub(crate) fn reserve_barriers<R: Drop>(
 }
 
 /// The item that stands first in a channel.
-pub(crate) fn first<R: Drop>(channels: &[Channel<R>], channel: u32) -> Option<&Item<R>>
-    ensures { option_copied result ≡ slice_get (items_at (contents_items channels.now) channel) 0 }
+pub(crate) fn first<R: Drop>(channels: &[Channel<R>], channel: u32) -> Option<Item<&R>>
+    ensures { option_map item_copied result
+        ≡ slice_get (items_at (contents_items channels.now) channel) 0 }
 {
     channels.get(channel as usize)?.head()
 }

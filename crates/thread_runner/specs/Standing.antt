@@ -1,5 +1,5 @@
 -- What a station keeps.
-use Rattle.std.specs.Prelude.{◌≡◌, ℕ, ◌+◌, ◌≤◌, Option, Result, MatchResult, length}
+use Rattle.std.specs.Prelude.{◌≡◌, ℕ, ◌+◌, ◌≤◌, Option, Result, length}
 use Rattle.engine_model.specs.Language.{Language}
 use Rattle.engine_model.specs.declared.fault.CoreFault.{CoreFault}
 use Rattle.engine_plain.specs.Plain.{Stays}
@@ -14,18 +14,9 @@ pub record Standing (O R K S : Type 0) : Type 0 where
   pub total : ℕ
   pub output : Option Output
 
--- each claim adds one at most, and once it has ended
-abbrev pub Within : {O R K S : Type 0} → ℕ → CoreState O R K S → Type 0
-Within total core = total + length core.claims ≤ core.serials
-
 -- one claim is made at most
 abbrev pub ClaimsOnce : {O R K S : Type 0} → CoreState O R K S → CoreState O R K S → Type 0
 ClaimsOnce old new = length new.claims + old.serials ≤ length old.claims + new.serials
-
--- a claim ends where a result is taken, and none is made
-abbrev pub EndsAClaim : {O R K S : Type 0} → CoreState O R K S → CoreState O R K S → Result Unit CoreFault → Type 0
-EndsAClaim old new result =
-    MatchResult result (λ _. length new.claims + 1 ≡ length old.claims) (λ _. length new.claims ≤ length old.claims) × (new.serials ≡ old.serials)
 
 module _ {O R K S : Type 0} (old new : Standing O R K S) where
   -- a call of the core that leaves the claims, the total, and what readers are shown

@@ -56,7 +56,6 @@ mod calls;
 mod crew;
 mod patience;
 mod pause;
-mod publishing;
 mod station;
 
 pub use crew::{Report, run};

@@ -6,14 +6,15 @@ ghost use Rattle.std.specs.Option.{option_map};
 ghost use Rattle.dataflow_core.specs.Claims.{EndsFinish, FinishMoves};
 ghost use Rattle.dataflow_core.specs.Steps.{IsStep, Preserves};
 ghost use Rattle.output_readers.specs.Seeing.{IsOpening};
-ghost use Rattle.thread_runner.specs.Showing.{BeginCommitted, Begin, AreCommitted, Shows};
-ghost use Rattle.thread_runner.specs.Standing.{ClaimsOnce, EndsAClaim};
+ghost use Rattle.row_publishing.specs.Showing.{Begin, AreCommitted, Shows};
+ghost use Rattle.thread_runner.specs.Standing.{ClaimsOnce};
 
-use crate::publishing::{hand_in, refused};
 use commit_sink::Transactions;
+use counted_finishes::finish_counted;
 use dataflow_core::{Core, CoreFault, Done, Job, Rules};
 use operators::Operator;
-use output_readers::{OutputReader, OutputWriter, Told};
+use output_readers::{OutputFault, OutputReader, OutputWriter, Told};
+use row_publishing::show_committed;
 use run_schedule::{Place, RunFault, Schedule, Step, Turns};
 use snapshot_store::SnapshotStore;
 use source_log::Partitions;
@@ -66,8 +67,9 @@ impl<
 > Model for Station<O, S, X, P, L, R> {
     ghost use Rattle.std.specs.Coded.{codes};
     ghost use Rattle.snapshot_store.specs.Store.{stored_code};
-    ghost use Rattle.thread_runner.specs.Showing.{Shows};
-    ghost use Rattle.thread_runner.specs.Standing.{Standing, Within};
+    ghost use Rattle.counted_finishes.specs.Counting.{Within};
+    ghost use Rattle.row_publishing.specs.Showing.{Shows};
+    ghost use Rattle.thread_runner.specs.Standing.{Standing};
 
     ghost Value = { Standing O O.Record O.Key O.State };
 
@@ -202,7 +204,7 @@ impl<
     {
         let Station { core, output, .. } = self;
         match output {
-            Some(writer) => show(core, writer),
+            Some(writer) => show_committed(core, writer).map_err(refused),
             None => Err(RunFault::Closed),
         }
     }
@@ -237,13 +239,7 @@ impl<
         ensures parts { share.new.parts ≡ share.old.parts }
     {
         let Station { core, book, .. } = self;
-        let finished = finish(core, done);
-        if finished.is_ok() {
-            book.add(share, 1);
-        }
-        core.serials_bound();
-        book.audit(share);
-        finished
+        finish_counted(core, book, share, done)
     }
 
     /// With all shares gathered, the total is their sum.
@@ -334,40 +330,16 @@ impl<
     }
 }
 
-/// Shows readers all that is committed.
-fn show<
-    O: Operator,
-    S: SnapshotStore,
-    X: Transactions,
-    P: Partitions<Record = O::Record>,
-    R: Wait + Drop,
->(core: &Core<O, S, X, P>, writer: &mut OutputWriter<R>) -> Result<Told, RunFault>
-    requires { BeginCommitted writer.old.appended core.now.engine }
-    ensures begin { BeginCommitted writer.new.appended core.now.engine }
-    ensures all { IfOk result (λ told. AreCommitted writer.new.published core.now.engine
-        × (told.history ≡ writer.new.history) × (told.lists ≡ writer.new.published)) }
-    ensures err { IfErr result (λ fault. (fault ≡ RunFault.Memory)
-        × (writer.new.published ≡ writer.old.published)) }
-    ensures history { writer.new.history ≡ writer.old.history }
+/// The refusal of a run for this one of the writer.
+fn refused(fault: OutputFault) -> RunFault
+    ensures memory { fault ≡ OutputFault.Memory → result ≡ RunFault.Memory }
+    ensures full { fault ≡ OutputFault.ReadersFull → result ≡ RunFault.ReadersFull }
 {
-    hand_in(core, writer).map_err(refused)?;
-    writer.publish().map_err(refused)
-}
-
-/// The core's own `finish`. A claim ends where the result is taken.
-fn finish<O: Operator, S: SnapshotStore, X: Transactions, P: Partitions<Record = O::Record>>(
-    core: &mut Core<O, S, X, P>,
-    done: Done<O>,
-) -> Result<(), CoreFault>
-    ensures ends { EndsFinish core.old ⟦<O as Rules>⟧.lang core.new done.attempt done.serial
-        done.worked result }
-    ensures step { IsStep ⟦<O as Rules>⟧.lang ⟦<O as Rules>⟧.RecordFits core.old.engine
-        core.new.engine }
-    ensures plain { FinishMoves core.old ⟦<O as Rules>⟧.lang core.new done.attempt
-        done.serial result }
-    ensures claims { EndsAClaim core.old core.new result }
-{
-    core.finish(done)
+    match fault {
+        OutputFault::Memory => RunFault::Memory,
+        OutputFault::ReadersFull => RunFault::ReadersFull,
+        OutputFault::Closed => RunFault::Closed,
+    }
 }
 
 /// What a worker does next, where the step is not made at once.

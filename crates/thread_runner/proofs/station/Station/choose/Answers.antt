@@ -1,5 +1,5 @@
 use Rattle.std.proofs.Common.{rules}
-use Rattle.thread_runner.proofs.Shown.{shows_kept}
+use Rattle.row_publishing.proofs.Shown.{shows_kept}
 use Rattle.thread_runner.proofs.station.Station.choose.Goals as goal
 
 pub invariant_of-self : goal.invariant_of-self

@@ -1,5 +1,5 @@
 use Rattle.dataflow_core.proofs.Preserving.{of_step}
-use Rattle.thread_runner.proofs.Shown.{call_kept}
+use Rattle.thread_runner.proofs.Keeping.{call_kept}
 use Rattle.thread_runner.proofs.station.Station.complete.Goals as goal
 
 pub invariant_of-self : goal.invariant_of-self

@@ -1,5 +1,5 @@
 use Rattle.dataflow_core.proofs.Preserving.{of_restart}
-use Rattle.thread_runner.proofs.Shown.{restart_kept}
+use Rattle.thread_runner.proofs.Keeping.{restart_kept}
 use Rattle.thread_runner.proofs.station.Station.restart.Goals as goal
 
 pub returns-clause-ends : goal.returns-clause-ends

@@ -1,4 +1,4 @@
-use Rattle.thread_runner.proofs.Shown.{none_shown}
+use Rattle.row_publishing.proofs.Shown.{none_shown}
 use Rattle.thread_runner.proofs.station.Station.with_readers.Goals as goal
 
 pub opened-requires-clause-shows : goal.opened-requires-clause-shows

@@ -1,7 +1,7 @@
 use Rattle.std.proofs.Common.{◌≡◌, ◌<◌, ◌≤◌, ℕ, count_by, arith, rules}
 use Rattle.engine_model.proofs.Numbers.{sink_within}
 use Rattle.job_graph.specs.Expanded.{is_sink}
-use Rattle.thread_runner.proofs.publishing.hand_in.Goals as goal
+use Rattle.row_publishing.proofs.publishing.hand_in.Goals as goal
 
 pub returns-clause-all : goal.returns-clause-all
 returns-clause-all g c task subtask at =

@@ -1,25 +1,45 @@
-//! Committed rows, handed to the output writer.
+//! Committed rows, handed to an output writer and shown to its readers.
 
 ghost use Rattle.std.specs.Prelude.{◌≡◌, ◌<◌, ◌≢◌, ℕ, IfOk, IfErr, count_by, Some, slice_get};
 ghost use Rattle.commit_sink.specs.Ledger.{committed_rows};
-ghost use Rattle.dataflow_model.specs.Graph.{Begins};
 ghost use Rattle.job_graph.specs.Expanded.{is_sink};
 ghost use Rattle.job_graph.specs.declared.role.Role.TheVariants as role;
 ghost use Rattle.output_readers.specs.Rows.{rows_of};
-ghost use Rattle.thread_runner.specs.Showing.{BeginCommitted, AreCommitted};
+ghost use Rattle.row_publishing.specs.Showing.{BeginCommitted, AreCommitted};
 
 use commit_sink::Transactions;
 use dataflow_core::{Core, Rules};
 use operators::Operator;
-use output_readers::{OutputFault, OutputWriter};
-use run_schedule::RunFault;
+use output_readers::{OutputFault, OutputWriter, Told};
 use snapshot_store::SnapshotStore;
 use source_log::Partitions;
 use std::sync::Wait;
 
+/// Shows readers all that is committed, and tells which lists these are. At `Err` memory was
+/// refused, and readers see what they saw. It costs what was committed since the last time.
+pub fn show_committed<
+    O: Operator,
+    S: SnapshotStore,
+    X: Transactions,
+    P: Partitions<Record = O::Record>,
+    R: Wait + Drop,
+>(core: &Core<O, S, X, P>, writer: &mut OutputWriter<R>) -> Result<Told, OutputFault>
+    requires { BeginCommitted writer.old.appended core.now.engine }
+    ensures begin { BeginCommitted writer.new.appended core.now.engine }
+    ensures all { IfOk result (λ told. AreCommitted writer.new.published core.now.engine
+        × (told.history ≡ writer.new.history) × (told.lists ≡ writer.new.published)) }
+    ensures err { IfErr result (λ fault. (fault ≡ OutputFault.Memory)
+        × (writer.new.published ≡ writer.old.published)) }
+    ensures history { writer.new.history ≡ writer.old.history }
+    ensures readers { writer.new.readers ≡ writer.old.readers }
+{
+    hand_in(core, writer)?;
+    writer.publish()
+}
+
 /// Hands in what the sinks have committed since the last time. At `Err` memory was refused, and a
 /// beginning of it was handed in.
-pub(crate) fn hand_in<
+fn hand_in<
     O: Operator,
     S: SnapshotStore,
     X: Transactions,
@@ -73,16 +93,4 @@ fn hand_in_of<
         writer.append(subtask, row)?;
     }
     Ok(())
-}
-
-/// The refusal of a run for this one of the writer.
-pub(crate) fn refused(fault: OutputFault) -> RunFault
-    ensures memory { fault ≡ OutputFault.Memory → result ≡ RunFault.Memory }
-    ensures full { fault ≡ OutputFault.ReadersFull → result ≡ RunFault.ReadersFull }
-{
-    match fault {
-        OutputFault::Memory => RunFault::Memory,
-        OutputFault::ReadersFull => RunFault::ReadersFull,
-        OutputFault::Closed => RunFault::Closed,
-    }
 }

@@ -1,5 +1,5 @@
 -- What was handed in for readers begins what is committed, whatever the core does.
-use Rattle.std.proofs.Common.{◌≡◌, ◌≢◌, ℕ, zero, suc, ◌+◌, ◌≤◌, ◌<◌, List, [], ◌∷◌, ◌++◌, take, drop, Option, Some, None, Result, Ok, Err, MatchOption, slice_get, replicate, length, count_by, ◌⊎◌, inl, inr, refl, sym, ap, subst, ◌∙◌, arith, append_assoc}
+use Rattle.std.proofs.Common.{◌≡◌, ◌≢◌, ℕ, zero, suc, ◌+◌, ◌≤◌, ◌<◌, List, [], ◌∷◌, ◌++◌, take, drop, Option, Some, None, MatchOption, slice_get, replicate, length, count_by, ◌⊎◌, inl, inr, refl, sym, ap, subst, ◌∙◌, arith, append_assoc}
 use Rattle.std.specs.Prelude.{⊤}
 use Rattle.std.proofs.lemmas.Bool.{cases_eq}
 use Rattle.std.proofs.lemmas.List.{append-nil, length-append, take-append-drop}
@@ -7,10 +7,7 @@ use Rattle.std.proofs.lemmas.Option.{same_Some}
 use Rattle.commit_sink.specs.Ledger.{committed_rows}
 use Rattle.engine_model.specs.Language.{Language}
 use Rattle.engine_model.specs.State.{State}
-use Rattle.engine_model.specs.declared.fault.CoreFault.{CoreFault}
-use Rattle.dataflow_core.specs.CoreState.{CoreState, claims_after}
 use Rattle.dataflow_core.specs.Steps.{Preserves}
-use Rattle.dataflow_core.specs.declared.held.Claim.{Claim}
 use Rattle.dataflow_model.specs.Graph.{Begins}
 use Rattle.job_graph.specs.Expanded.{Expanded, is_sink}
 use Rattle.job_graph.specs.declared.role.Role.TheVariants as role
@@ -18,8 +15,7 @@ use Rattle.output_readers.specs.Beginnings.{IsBeginning}
 use Rattle.output_readers.specs.Rows.{rows_of, with_row, EachBegins}
 use Rattle.output_readers.specs.Seeing.{Output}
 use Rattle.output_readers.proofs.EachRow.{length-with_row}
-use Rattle.thread_runner.specs.Showing.{Begin, BeginCommitted, AreCommitted, Shows}
-use Rattle.thread_runner.specs.Standing.{Within}
+use Rattle.row_publishing.specs.Showing.{Begin, BeginCommitted, AreCommitted, Shows}
 
 begins_on : {A : Type 0} (xs ys zs : List A) → Begins xs ys → Begins ys zs → Begins xs zs
 begins_on xs ys zs one two = (one.0 ++ two.0, two.1 ∙ ap (λ l. l ++ two.0) one.1 ∙ append_assoc xs one.0 two.0)
@@ -71,11 +67,6 @@ length-replicate : {A : Type 0} (n : ℕ) (x : A) → length (replicate n x) ≡
 length-replicate zero x = refl
 length-replicate (suc n) x = ap suc (length-replicate n x)
 
--- a restart drops the claims, or leaves them
-fewer : {T : Type 0} (result : Result T CoreFault) (claims : List Claim) → length (claims_after result claims) ≤ length claims
-fewer (Ok v) claims = omega arith
-fewer (Err f) claims = omega arith
-
 module _ {R K S O : Type 0} where
   -- the next row of a sink was put last in its list
   pub row_kept : (lists : List (List (List ℕ))) (engine : State O R K S) (sink : ℕ) (row : List ℕ) → BeginCommitted lists engine → sink < length lists
@@ -122,16 +113,3 @@ module _ {R K S O : Type 0} where
   pub shows_kept : (lang : Language R K S O) (RecordFits : R → Type 0) (output : Option Output) (old new : State O R K S) → Preserves lang RecordFits old new → Shows output old → Shows output new
   shows_kept lang RecordFits None old new kept shows = tt
   shows_kept lang RecordFits (Some o) old new kept shows = begin_kept lang RecordFits o.appended old new kept shows
-
-  -- a call that leaves the claims leaves a station what it keeps
-  pub call_kept : (lang : Language R K S O) (RecordFits : R → Type 0) (total : ℕ) (output : Option Output) (old new : CoreState O R K S) → new ≡ record old { engine = new.engine }
-      → Preserves lang RecordFits old.engine new.engine → Within total old × Shows output old.engine → Within total new × Shows output new.engine
-  call_kept lang RecordFits total output old new same kept was =
-      (subst (λ (c : CoreState O R K S). Within total c) (sym same) was.0, shows_kept lang RecordFits output old.engine new.engine kept was.1)
-
-  -- so does a restart
-  pub restart_kept : {T : Type 0} (lang : Language R K S O) (RecordFits : R → Type 0) (total : ℕ) (output : Option Output) (result : Result T CoreFault) (old new : CoreState O R K S)
-      → new ≡ record old { engine = new.engine; claims = claims_after result old.claims } → Preserves lang RecordFits old.engine new.engine
-      → Within total old × Shows output old.engine → Within total new × Shows output new.engine
-  restart_kept lang RecordFits total output result old new same kept was =
-      (let less = fewer result old.claims in subst (λ (c : CoreState O R K S). Within total c) (sym same) (omega (arith, less, was.0)), shows_kept lang RecordFits output old.engine new.engine kept was.1)

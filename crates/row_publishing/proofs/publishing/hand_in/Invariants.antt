@@ -2,8 +2,8 @@ use Rattle.std.proofs.Common.{◌≡◌, ◌<◌, ℕ, Some, slice_get}
 use Rattle.commit_sink.specs.Ledger.{committed_rows}
 use Rattle.job_graph.specs.declared.role.Role.TheVariants as role
 use Rattle.output_readers.specs.Rows.{rows_of}
-use Rattle.thread_runner.specs.Showing.{BeginCommitted}
-use Rattle.thread_runner.proofs.publishing.hand_in.Given as goal
+use Rattle.row_publishing.specs.Showing.{BeginCommitted}
+use Rattle.row_publishing.proofs.publishing.hand_in.Given as goal
 
 abbrev pub invariant-loop-sink : goal.invariant-loop-sink
 invariant-loop-sink g l = record {

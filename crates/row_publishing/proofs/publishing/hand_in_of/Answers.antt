@@ -3,9 +3,9 @@ use Rattle.commit_sink.specs.Ledger.{committed_rows}
 use Rattle.engine_model.specs.State.{State}
 use Rattle.job_graph.specs.Expanded.{is_sink}
 use Rattle.output_readers.specs.Rows.{rows_of, with_row}
-use Rattle.thread_runner.specs.Showing.{BeginCommitted}
-use Rattle.thread_runner.proofs.Shown.{row_kept, all_there, count-same, rows_of-other}
-use Rattle.thread_runner.proofs.publishing.hand_in_of.Goals as goal
+use Rattle.row_publishing.specs.Showing.{BeginCommitted}
+use Rattle.row_publishing.proofs.Shown.{row_kept, all_there, count-same, rows_of-other}
+use Rattle.row_publishing.proofs.publishing.hand_in_of.Goals as goal
 
 pub loop-number-preserved : goal.loop-number-preserved
 loop-number-preserved g c =

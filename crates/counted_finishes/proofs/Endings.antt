@@ -10,7 +10,7 @@ use Rattle.job_state.specs.Held.{Held}
 use Rattle.dataflow_core.specs.Claims.{IsHeldAt, IsFreshTicket, EndsClaimed, EndsFinish, claims_left}
 use Rattle.dataflow_core.specs.CoreState.{CoreState}
 use Rattle.dataflow_core.specs.declared.held.Claim.{Claim}
-use Rattle.thread_runner.specs.Standing.{EndsAClaim}
+use Rattle.counted_finishes.specs.Counting.{EndsAClaim}
 
 -- one claim less where the result is taken, and else no more
 abbrev Fewer : Result Unit CoreFault → List Claim → List Claim → Type 0

@@ -1,7 +1,7 @@
 use Rattle.std.proofs.Common.{◌≡◌, ◌≢◌, ℕ, length}
 use Rattle.output_readers.specs.Rows.{rows_of}
-use Rattle.thread_runner.specs.Showing.{BeginCommitted}
-use Rattle.thread_runner.proofs.publishing.hand_in_of.Given as goal
+use Rattle.row_publishing.specs.Showing.{BeginCommitted}
+use Rattle.row_publishing.proofs.publishing.hand_in_of.Given as goal
 
 abbrev pub invariant-loop-number : goal.invariant-loop-number
 invariant-loop-number g l = record {

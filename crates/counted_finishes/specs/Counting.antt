@@ -1,0 +1,13 @@
+-- What is counted of a core's finishes.
+use Rattle.std.specs.Prelude.{◌≡◌, ℕ, ◌+◌, ◌≤◌, Result, MatchResult, length}
+use Rattle.engine_model.specs.declared.fault.CoreFault.{CoreFault}
+use Rattle.dataflow_core.specs.CoreState.{CoreState}
+
+-- each claim adds one at most, and once it has ended
+abbrev pub Within : {O R K S : Type 0} → ℕ → CoreState O R K S → Type 0
+Within total core = total + length core.claims ≤ core.serials
+
+-- a claim ends where a result is taken, and none is made
+abbrev pub EndsAClaim : {O R K S : Type 0} → CoreState O R K S → CoreState O R K S → Result Unit CoreFault → Type 0
+EndsAClaim old new result =
+    MatchResult result (λ _. length new.claims + 1 ≡ length old.claims) (λ _. length new.claims ≤ length old.claims) × (new.serials ≡ old.serials)

@@ -1,0 +1,68 @@
+//! A job's result is taken by the core, and counted in a book.
+
+ghost use Rattle.std.specs.Prelude.{◌≡◌, ◌+◌, ◌<◌, ◌^◌, MatchResult};
+ghost use Rattle.dataflow_core.specs.Claims.{EndsFinish, FinishMoves};
+ghost use Rattle.dataflow_core.specs.Steps.{IsStep};
+ghost use Rattle.counted_finishes.specs.Counting.{EndsAClaim, Within};
+
+use commit_sink::Transactions;
+use dataflow_core::{Core, CoreFault, Done, Rules};
+use operators::Operator;
+use snapshot_store::SnapshotStore;
+use source_log::Partitions;
+use std::sync::ledger::{Book, Ledger, Share};
+
+/// Takes what was done of a job, as the core's own `finish` does, and adds one to the share and the
+/// book where it is taken.
+pub fn finish_counted<
+    O: Operator,
+    S: SnapshotStore,
+    X: Transactions,
+    P: Partitions<Record = O::Record>,
+    L: Ledger,
+>(
+    core: &mut Core<O, S, X, P>,
+    book: &mut Book<L>,
+    share: &mut Share<L>,
+    done: Done<O>,
+) -> Result<(), CoreFault>
+    requires parts { 0 < share.old.parts }
+    requires within { Within book.old.total core.old }
+    ensures within { Within book.new.total core.new }
+    ensures ends { EndsFinish core.old ⟦<O as Rules>⟧.lang core.new done.attempt done.serial
+        done.worked result }
+    ensures step { IsStep ⟦<O as Rules>⟧.lang ⟦<O as Rules>⟧.RecordFits core.old.engine
+        core.new.engine }
+    ensures plain { FinishMoves core.old ⟦<O as Rules>⟧.lang core.new done.attempt
+        done.serial result }
+    ensures total { MatchResult result (λ _. book.new.total ≡ book.old.total + 1)
+        (λ _. book.new.total ≡ book.old.total) }
+    ensures amount { MatchResult result (λ _. share.new.amount ≡ share.old.amount + 1)
+        (λ _. share.new.amount ≡ share.old.amount) }
+    ensures bound { share.new.amount < 2 ^ 64 }
+    ensures parts { share.new.parts ≡ share.old.parts }
+{
+    let finished = finish(core, done);
+    if finished.is_ok() {
+        book.add(share, 1);
+    }
+    core.serials_bound();
+    book.audit(share);
+    finished
+}
+
+/// The core's own `finish`. A claim ends where the result is taken.
+fn finish<O: Operator, S: SnapshotStore, X: Transactions, P: Partitions<Record = O::Record>>(
+    core: &mut Core<O, S, X, P>,
+    done: Done<O>,
+) -> Result<(), CoreFault>
+    ensures ends { EndsFinish core.old ⟦<O as Rules>⟧.lang core.new done.attempt done.serial
+        done.worked result }
+    ensures step { IsStep ⟦<O as Rules>⟧.lang ⟦<O as Rules>⟧.RecordFits core.old.engine
+        core.new.engine }
+    ensures plain { FinishMoves core.old ⟦<O as Rules>⟧.lang core.new done.attempt
+        done.serial result }
+    ensures claims { EndsAClaim core.old core.new result }
+{
+    core.finish(done)
+}
