@@ -8,12 +8,13 @@ use Rattle.std.proofs.lemmas.List.Sums.{sum_by-cons}
 use Rattle.serde_json.specs.Data.{Data, Items, no_items, item}
 use Rattle.serde_json.specs.Events.{items_len}
 use Rattle.serde_json.specs.Find.{as_array}
+use Rattle.json_members.specs.Members.{has_only}
 use Rattle.job_spec.specs.declared.edge.EdgeSpec.{EdgeSpec}
 use Rattle.job_spec.specs.declared.fault.JobFault.{JobFault}
 use Rattle.job_spec.specs.declared.fault.JobFault.TheVariants as faults
 use Rattle.job_spec.specs.Job as job
 use Rattle.job_spec.specs.Job.{Kind, Vertex, Job, IsVertex, IsJob, operators_in, operators_of}
-use Rattle.job_spec.specs.Reading.{◌>>=◌, or_fault, member_at, has_only, list, lists_at, vertex_at, is_named, vertices_after, edges_after, job_at}
+use Rattle.job_spec.specs.Reading.{◌>>=◌, or_fault, member_at, list, lists_at, vertex_at, is_named, vertices_after, edges_after, job_at}
 use Rattle.job_spec.proofs.Valid.{gives_job}
 use Rattle.job_graph.specs.declared.role.Role.{Role}
 use Rattle.job_graph.specs.declared.role.Role.TheVariants.{Source, Operator, Sink}

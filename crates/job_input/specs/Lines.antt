@@ -6,7 +6,7 @@ use Rattle.operators.specs.declared.row.Row.{Row}
 use Rattle.script_file.specs.declared.fault.ItemFault.{ItemFault}
 use Rattle.script_file.specs.declared.fault.ItemFault.TheVariants.{Bad}
 use Rattle.script_file.specs.Faults.{◌>>=◌, or_fault}
-use Rattle.script_file.specs.Json.{json_of}
+use Rattle.json_members.specs.Json.{json_of}
 use Rattle.script_file.specs.Rows.{row_of}
 use Rattle.source_log.specs.Partitions.{records_at, appended}
 

@@ -7,9 +7,9 @@ ghost use Rattle.std.specs.Io.BufRead.{take_through, DropsThrough};
 
 use crate::fault::LineFault;
 use crate::line::next_line;
+use json_members::json_of;
 use operators::Row;
 use script_file::{FittingRow, ItemFault, read_row};
-use serde_json::Value;
 use source_log::{MemoryLog, Partitions};
 use std::alloc::Global;
 use std::io::BufRead;
@@ -23,15 +23,12 @@ fn is_blank(line: &[u8]) -> bool
 }
 
 /// The row that the JSON text of a line is.
-#[tactic(auto, unfolding(crate::specs::Lines::row_of_line, script_file::specs::Json::json_of))]
+#[tactic(auto, unfolding(crate::specs::Lines::row_of_line))]
 pub fn row_of_line(alloc: Global, line: &[u8]) -> Result<FittingRow, ItemFault>
     ensures { FindsItem (λ r. r) result (row_of_line line.now) }
 {
-    match Value::from_slice(alloc, line) {
-        Ok(value) => read_row(alloc, &value),
-        Err(e) if e.is_memory() => Err(ItemFault::Memory),
-        Err(_) => Err(ItemFault::Bad),
-    }
+    let value = json_of(alloc, line)?.ok_or(ItemFault::Bad)?;
+    read_row(alloc, &value)
 }
 
 /// Puts the row of a line last in the partition. A blank line has none.

@@ -1,5 +1,3 @@
-pub mod Utf8
-pub mod Names
 pub mod Faults
 pub mod VertexLemmas
 pub mod EdgeLemmas

@@ -6,14 +6,15 @@ use Rattle.std.proofs.lemmas.List.Elements.{All-from_recursion}
 use Rattle.std.proofs.lemmas.Bool.{leb-true, leb-false, and_parts, false≢true, lt-ltb, eqb-true, not-false}
 use Rattle.serde_json.specs.Data.{Data, Items, no_items, item}
 use Rattle.serde_json.specs.Events.{items_len}
-use Rattle.serde_json.specs.Find.{get, as_array}
+use Rattle.serde_json.specs.Find.{get, as_array, as_bool}
+use Rattle.json_members.specs.Members.{has_only, text_at, whole}
 use Rattle.job_spec.specs.declared.fault.JobFault.{JobFault}
 use Rattle.job_spec.specs.declared.fault.JobFault.TheVariants as faults
 use Rattle.job_spec.specs.declared.edge.EdgeSpec.{EdgeSpec}
 use Rattle.job_spec.specs.declared.edge.EdgeRoute.{EdgeRoute}
 use Rattle.job_spec.specs.declared.edge.EdgeRoute.TheVariants.{Forward, Hash, Broadcast}
 use Rattle.job_spec.specs.Job.{Kind, Vertex, Job, IsVertex, IsEdge, IsJob, is_source, is_sink, is_keyed, ports}
-use Rattle.job_spec.specs.Reading.{◌>>=◌, Gives, or_fault, wanted, member_at, text, flag, whole, within, number, optional, is_name, name_at, kind_at, has_only, member_names, vertex_at, is_named, vertices_after, route, numbered, is_forward, is_hash, checked, edge_names, edge_at, edges_after, list, lists_at, job_at}
+use Rattle.job_spec.specs.Reading.{◌>>=◌, Gives, or_fault, wanted, field, member_at, within, number, optional, is_name, name_at, kind_at, member_names, vertex_at, is_named, vertices_after, route, numbered, is_forward, is_hash, checked, edge_names, edge_at, edges_after, list, lists_at, job_at}
 
 bind_ok : {A B : Type 0} (r : Result A JobFault) (f : A → Result B JobFault) (y : B) → (r >>= f) ≡ Ok y → (x : A) × (r ≡ Ok x) × (f x ≡ Ok y)
 bind_ok (Ok x) f y h = (x, refl, h)
@@ -51,14 +52,13 @@ within_between low high (negsuc m) n h = cc
 parallelism_between : (o : Option Data) (n : ℕ) → optional (number 1 32) 1 o ≡ Ok n → (1 ≤ n) × (n ≤ 32)
 parallelism_between None n h = let same : 1 ≡ n = cc in (omega arith, omega arith)
 parallelism_between (Some d) n h =
-    let b = bind_ok (whole d) (within 1 32) n h in
+    let b = bind_ok (field (whole d)) (within 1 32) n h in
     within_between 1 32 b.0 n b.2
 
 name_short : (d : Data) (name : List ℕ) → name_at (codes "name") d ≡ Ok name → length name ≤ 64
 unfolding name_at is_name
 name_short d name h =
-    let found = bind_ok (member_at (codes "name") d) (λ m. text m >>= λ n. cond (is_name n) (Ok n) (Err faults.BadField)) name h in
-    let word = bind_ok (text found.0) (λ n. cond (is_name n) (Ok n) (Err faults.BadField)) name found.2 in
+    let word = bind_ok (field (text_at (codes "name") d)) (λ n. cond (is_name n) (Ok n) (Err faults.BadField)) name h in
     let g = guard_ok (is_name word.0) word.0 faults.BadField name word.2 in
     let parts = and_parts _ _ g.0 in
     let short = leb-true (length word.0) 64 (and_parts _ _ parts.1).0 in
@@ -75,18 +75,14 @@ vertex_3 d name kind = optional (number 1 32) 1 (get (codes "parallelism") d) >>
 abbrev vertex_2 : Data → List ℕ → List ℕ → Result Vertex JobFault
 vertex_2 d name word = kind_at word d >>= vertex_3 d name
 
-abbrev vertex_1 : Data → List ℕ → Data → Result Vertex JobFault
-vertex_1 d name found = text found >>= vertex_2 d name
-
-abbrev vertex_0 : Data → List ℕ → Result Vertex JobFault
-vertex_0 d name = member_at (codes "kind") d >>= vertex_1 d name
+abbrev vertex_1 : Data → List ℕ → Result Vertex JobFault
+vertex_1 d name = field (text_at (codes "kind") d) >>= vertex_2 d name
 
 vertex_is : (d : Data) (v : Vertex) → vertex_at d ≡ Ok v → IsVertex v
 unfolding vertex_at
 vertex_is d v h =
-    let name = bind_ok (name_at (codes "name") d) (vertex_0 d) v h in
-    let found = bind_ok (member_at (codes "kind") d) (vertex_1 d name.0) v name.2 in
-    let word = bind_ok (text found.0) (vertex_2 d name.0) v found.2 in
+    let name = bind_ok (name_at (codes "name") d) (vertex_1 d) v h in
+    let word = bind_ok (field (text_at (codes "kind") d)) (vertex_2 d name.0) v name.2 in
     let kind = bind_ok (kind_at word.0 d) (vertex_3 d name.0) v word.2 in
     let parallelism = bind_ok (optional (number 1 32) 1 (get (codes "parallelism") d)) (vertex_4 d name.0 kind.0) v kind.2 in
     let made : Vertex = record { name = name.0; kind = kind.0; parallelism = parallelism.0 } in
@@ -174,49 +170,41 @@ numbered_is name vs p h = at_place (position (λ v. bytes_eq name v.name) vs) h
     at_place (Some i) f = at_vertex i (slice_get vs i) refl f
 
 -- the steps of an edge, from the last to the first
-abbrev edge_9 : EdgeRoute → ℕ → Bool → ℕ × Vertex → ℕ × Vertex → Result EdgeSpec JobFault
-edge_9 way port back from to = checked from.1 to.1 (record { from = from.0; to = to.0; port = port; route = way; back = back })
+abbrev edge_8 : EdgeRoute → ℕ → Bool → ℕ × Vertex → ℕ × Vertex → Result EdgeSpec JobFault
+edge_8 way port back from to = checked from.1 to.1 (record { from = from.0; to = to.0; port = port; route = way; back = back })
 
-abbrev edge_8 : List Vertex → List ℕ → EdgeRoute → ℕ → Bool → ℕ × Vertex → Result EdgeSpec JobFault
-edge_8 vs to_name way port back from = or_fault faults.UnknownName (numbered to_name vs) >>= edge_9 way port back from
+abbrev edge_7 : List Vertex → List ℕ → EdgeRoute → ℕ → Bool → ℕ × Vertex → Result EdgeSpec JobFault
+edge_7 vs to_name way port back from = or_fault faults.UnknownName (numbered to_name vs) >>= edge_8 way port back from
 
-abbrev edge_7 : List Vertex → List ℕ → List ℕ → EdgeRoute → ℕ → Bool → Bool → Result EdgeSpec JobFault
-edge_7 vs from_name to_name way port back known = or_fault faults.UnknownName (numbered from_name vs) >>= edge_8 vs to_name way port back
+abbrev edge_6 : List Vertex → List ℕ → List ℕ → EdgeRoute → ℕ → Bool → Bool → Result EdgeSpec JobFault
+edge_6 vs from_name to_name way port back known = or_fault faults.UnknownName (numbered from_name vs) >>= edge_7 vs to_name way port back
 
-abbrev edge_6 : List Vertex → Data → List ℕ → List ℕ → EdgeRoute → ℕ → Bool → Result EdgeSpec JobFault
-edge_6 vs d from_name to_name way port back = wanted faults.BadField (has_only edge_names d) >>= edge_7 vs from_name to_name way port back
+abbrev edge_5 : List Vertex → Data → List ℕ → List ℕ → EdgeRoute → ℕ → Bool → Result EdgeSpec JobFault
+edge_5 vs d from_name to_name way port back = wanted faults.BadField (has_only edge_names d) >>= edge_6 vs from_name to_name way port back
 
-abbrev edge_5 : List Vertex → Data → List ℕ → List ℕ → EdgeRoute → ℕ → Result EdgeSpec JobFault
-edge_5 vs d from_name to_name way port = optional flag false (get (codes "back") d) >>= edge_6 vs d from_name to_name way port
+abbrev edge_4 : List Vertex → Data → List ℕ → List ℕ → EdgeRoute → ℕ → Result EdgeSpec JobFault
+edge_4 vs d from_name to_name way port = optional (λ b. field (as_bool b)) false (get (codes "back") d) >>= edge_5 vs d from_name to_name way port
 
-abbrev edge_4 : List Vertex → Data → List ℕ → List ℕ → EdgeRoute → Result EdgeSpec JobFault
-edge_4 vs d from_name to_name way = optional (number 0 4294967295) 0 (get (codes "port") d) >>= edge_5 vs d from_name to_name way
+abbrev edge_3 : List Vertex → Data → List ℕ → List ℕ → EdgeRoute → Result EdgeSpec JobFault
+edge_3 vs d from_name to_name way = optional (number 0 4294967295) 0 (get (codes "port") d) >>= edge_4 vs d from_name to_name way
 
-abbrev edge_3 : List Vertex → Data → List ℕ → List ℕ → Result EdgeSpec JobFault
-edge_3 vs d from_name to_name = optional route Forward (get (codes "route") d) >>= edge_4 vs d from_name to_name
-
-abbrev edge_2 : List Vertex → Data → List ℕ → Data → Result EdgeSpec JobFault
-edge_2 vs d from_name found = text found >>= edge_3 vs d from_name
+abbrev edge_2 : List Vertex → Data → List ℕ → List ℕ → Result EdgeSpec JobFault
+edge_2 vs d from_name to_name = optional route Forward (get (codes "route") d) >>= edge_3 vs d from_name to_name
 
 abbrev edge_1 : List Vertex → Data → List ℕ → Result EdgeSpec JobFault
-edge_1 vs d from_name = member_at (codes "to") d >>= edge_2 vs d from_name
-
-abbrev edge_0 : List Vertex → Data → Data → Result EdgeSpec JobFault
-edge_0 vs d found = text found >>= edge_1 vs d
+edge_1 vs d from_name = field (text_at (codes "to") d) >>= edge_2 vs d from_name
 
 edge_is : (vs : List Vertex) (d : Data) (e : EdgeSpec) → edge_at vs d ≡ Ok e → IsEdge vs e
 unfolding edge_at
 edge_is vs d e h =
-    let from_member = bind_ok (member_at (codes "from") d) (edge_0 vs d) e h in
-    let from_name = bind_ok (text from_member.0) (edge_1 vs d) e from_member.2 in
-    let to_member = bind_ok (member_at (codes "to") d) (edge_2 vs d from_name.0) e from_name.2 in
-    let to_name = bind_ok (text to_member.0) (edge_3 vs d from_name.0) e to_member.2 in
-    let way = bind_ok (optional route Forward (get (codes "route") d)) (edge_4 vs d from_name.0 to_name.0) e to_name.2 in
-    let port = bind_ok (optional (number 0 4294967295) 0 (get (codes "port") d)) (edge_5 vs d from_name.0 to_name.0 way.0) e way.2 in
-    let back = bind_ok (optional flag false (get (codes "back") d)) (edge_6 vs d from_name.0 to_name.0 way.0 port.0) e port.2 in
-    let known = bind_ok (wanted faults.BadField (has_only edge_names d)) (edge_7 vs from_name.0 to_name.0 way.0 port.0 back.0) e back.2 in
-    let from = bind_ok (or_fault faults.UnknownName (numbered from_name.0 vs)) (edge_8 vs to_name.0 way.0 port.0 back.0) e known.2 in
-    let to = bind_ok (or_fault faults.UnknownName (numbered to_name.0 vs)) (edge_9 way.0 port.0 back.0 from.0) e from.2 in
+    let from_name = bind_ok (field (text_at (codes "from") d)) (edge_1 vs d) e h in
+    let to_name = bind_ok (field (text_at (codes "to") d)) (edge_2 vs d from_name.0) e from_name.2 in
+    let way = bind_ok (optional route Forward (get (codes "route") d)) (edge_3 vs d from_name.0 to_name.0) e to_name.2 in
+    let port = bind_ok (optional (number 0 4294967295) 0 (get (codes "port") d)) (edge_4 vs d from_name.0 to_name.0 way.0) e way.2 in
+    let back = bind_ok (optional (λ b. field (as_bool b)) false (get (codes "back") d)) (edge_5 vs d from_name.0 to_name.0 way.0 port.0) e port.2 in
+    let known = bind_ok (wanted faults.BadField (has_only edge_names d)) (edge_6 vs from_name.0 to_name.0 way.0 port.0 back.0) e back.2 in
+    let from = bind_ok (or_fault faults.UnknownName (numbered from_name.0 vs)) (edge_7 vs to_name.0 way.0 port.0 back.0) e known.2 in
+    let to = bind_ok (or_fault faults.UnknownName (numbered to_name.0 vs)) (edge_8 way.0 port.0 back.0 from.0) e from.2 in
     checked_is vs from.0.1 to.0.1 (record { from = from.0.0; to = to.0.0; port = port.0; route = way.0; back = back.0 }) e
     (numbered_is from_name.0 vs from.0 (or_fault_ok faults.UnknownName (numbered from_name.0 vs) from.0 from.1))
     (numbered_is to_name.0 vs to.0 (or_fault_ok faults.UnknownName (numbered to_name.0 vs) to.0 to.1))
@@ -239,7 +227,7 @@ edges_are vs found (item d ds) es h all =
 
 list_within : (low high : ℕ) (d : Data) (ds : Items) → list low high d ≡ Ok ds → items_len ds ≤ high
 list_within low high d ds h =
-    let found = bind_ok (or_fault faults.BadField (as_array d)) (λ xs. cond (nat_le low (items_len xs) && nat_le (items_len xs) high) (Ok xs) (Err faults.BadField)) ds h in
+    let found = bind_ok (field (as_array d)) (λ xs. cond (nat_le low (items_len xs) && nat_le (items_len xs) high) (Ok xs) (Err faults.BadField)) ds h in
     let g = guard_ok (nat_le low (items_len found.0) && nat_le (items_len found.0) high) found.0 faults.BadField ds found.2 in
     let below = leb-true (items_len found.0) high (and_parts (nat_le low (items_len found.0)) (nat_le (items_len found.0) high) g.0).1 in
     let same = ap items_len g.1 in

@@ -1,13 +1,13 @@
 -- What a job file says, or the first fault of it.
 use Rattle.std.specs.Prelude.{◌≡◌, ℕ, ◌&&◌, ◌||◌, ◌==◌, ℤ, pos, negsuc, List, [], ◌∷◌, ◌++◌, length, Bool, true, false, not, nat_lt, nat_le, if◌then◌else◌, Option, Some, None, option_map, option_and_then, position, slice_get, Result, Ok, Err, codes}
-use Rattle.std.specs.Str.{is_utf8, bytes_eq}
+use Rattle.std.specs.Str.{bytes_eq}
 use Rattle.std.specs.Char.{is_ascii_alphanumeric}
 use Rattle.std.specs.List.{list_any, list_all}
-use Rattle.std.specs.Option.{option_map_or}
-use Rattle.serde_json.specs.Data.{Data, Items, no_items, item, Members, no_members, member}
+use Rattle.serde_json.specs.Data.{Data, Items, no_items, item}
 use Rattle.serde_json.specs.Events.{items_len}
-use Rattle.serde_json.specs.Find.{get, as_str, as_number, as_i64, as_bool, as_array, as_object}
-use Rattle.serde_json.specs.Read.{read}
+use Rattle.serde_json.specs.Find.{get, as_str, as_bool, as_array}
+use Rattle.json_members.specs.Json.{json_of}
+use Rattle.json_members.specs.Members.{has_only, text_at, whole, whole_at}
 use Rattle.job_spec.specs.declared.fault.JobFault.{JobFault}
 use Rattle.job_spec.specs.declared.fault.JobFault.TheVariants as faults
 use Rattle.job_spec.specs.Job.{Kind, source, sink, add, rekey, filter_ge, filter_lt, split, count, sum, window, loop_down, Vertex, Job, is_source, is_sink, is_keyed, ports}
@@ -39,48 +39,24 @@ Gives view (Err e) read = Fails e read
 
 -- ---- the text
 
--- the JSON value of UTF-8 bytes
-unfoldable pub json_of : List ℕ → Option Data
-json_of bytes = if is_utf8 bytes then read bytes else None
-
 unfoldable pub value_at : List ℕ → Result Data JobFault
 value_at bytes = if nat_lt 16777216 (length bytes) then Err faults.TooMany else or_fault faults.BadJson (json_of bytes)
 
--- ---- objects
-
-abbrev pub is_among : (List ℕ → List ℕ → Bool) → List (List ℕ) → List ℕ → Bool
-is_among same [] name = false
-is_among same (n ∷ ns) name = same n name || is_among same ns name
-
--- an object whose members all have one of these names
-abbrev pub have_names : List (List ℕ) → Members → Bool
-have_names names no_members = true
-have_names names (member k d ms) = list_any (bytes_eq k) names && have_names names ms
-
-abbrev pub has_only : List (List ℕ) → Data → Bool
-has_only names d = option_map_or (have_names names) (as_object d) false
-
 -- ---- the types of members
 
+-- the value of a field, which must be there
+abbrev pub field : {A : Type 0} → Option A → Result A JobFault
+field o = or_fault faults.BadField o
+
 abbrev pub member_at : List ℕ → Data → Result Data JobFault
-member_at name d = or_fault faults.BadField (get name d)
-
-abbrev pub text : Data → Result (List ℕ) JobFault
-text d = or_fault faults.BadField (as_str d)
-
-abbrev pub flag : Data → Result Bool JobFault
-flag d = or_fault faults.BadField (as_bool d)
-
--- a whole number of 64 bits
-abbrev pub whole : Data → Result ℤ JobFault
-whole d = or_fault faults.BadField (option_and_then as_i64 (as_number d))
+member_at name d = field (get name d)
 
 abbrev pub within : ℕ → ℕ → ℤ → Result ℕ JobFault
 within low high (pos n) = if nat_le low n && nat_le n high then Ok n else Err faults.BadField
 within low high (negsuc n) = Err faults.BadField
 
 abbrev pub number : ℕ → ℕ → Data → Result ℕ JobFault
-number low high d = whole d >>= within low high
+number low high d = field (whole d) >>= within low high
 
 -- the member's value, or the one that stands for a member that is absent
 abbrev pub optional : {A : Type 0} → (Data → Result A JobFault) → A → Option Data → Result A JobFault
@@ -96,22 +72,18 @@ is_name s = nat_le 1 (length s) && (nat_le (length s) 64 && list_all is_name_byt
 
 unfoldable pub name_at : List ℕ → Data → Result (List ℕ) JobFault
 name_at key d = do
-  found ← member_at key d
-  name ← text found
+  name ← field (text_at key d)
   if is_name name then Ok name else Err faults.BadField
 
 -- ---- vertices
 
 -- an operator's parameter: any number of 64 bits, a row's key, or a window's size
 abbrev pub any_number : Data → Result ℤ JobFault
-any_number d = do
-  found ← member_at (codes "n") d
-  whole found
+any_number d = field (whole_at (codes "n") d)
 
 abbrev pub row_key : Data → Result (List ℕ) JobFault
 row_key d = do
-  found ← member_at (codes "k") d
-  key ← text found
+  key ← field (text_at (codes "k") d)
   if nat_le (length key) 1024 then Ok key else Err faults.BadField
 
 abbrev pub window_size : Data → Result ℕ JobFault
@@ -162,8 +134,7 @@ member_names kind = codes "name" ∷ codes "kind" ∷ codes "parallelism" ∷ pa
 unfoldable pub vertex_at : Data → Result Vertex JobFault
 vertex_at d = do
   name ← name_at (codes "name") d
-  found ← member_at (codes "kind") d
-  word ← text found
+  word ← field (text_at (codes "kind") d)
   kind ← kind_at word d
   parallelism ← optional (number 1 32) 1 (get (codes "parallelism") d)
   if has_only (member_names kind) d then Ok (record { name = name; kind = kind; parallelism = parallelism }) else Err faults.BadField
@@ -182,7 +153,7 @@ vertices_after found (item d ds) = do
 
 abbrev pub route : Data → Result EdgeRoute JobFault
 route d = do
-  word ← text d
+  word ← field (as_str d)
   if bytes_eq word (codes "forward") then Ok Forward
       else (if bytes_eq word (codes "hash") then Ok Hash
       else (if bytes_eq word (codes "broadcast") then Ok Broadcast
@@ -215,13 +186,11 @@ edge_names = codes "from" ∷ codes "to" ∷ codes "route" ∷ codes "port" ∷ 
 
 unfoldable pub edge_at : List Vertex → Data → Result EdgeSpec JobFault
 edge_at vs d = do
-  from_member ← member_at (codes "from") d
-  from_name ← text from_member
-  to_member ← member_at (codes "to") d
-  to_name ← text to_member
+  from_name ← field (text_at (codes "from") d)
+  to_name ← field (text_at (codes "to") d)
   way ← optional route Forward (get (codes "route") d)
   port ← optional (number 0 4294967295) 0 (get (codes "port") d)
-  back ← optional flag false (get (codes "back") d)
+  back ← optional (λ b. field (as_bool b)) false (get (codes "back") d)
   known ← wanted faults.BadField (has_only edge_names d)
   from ← or_fault faults.UnknownName (numbered from_name vs)
   to ← or_fault faults.UnknownName (numbered to_name vs)
@@ -238,7 +207,7 @@ edges_after vs found (item d ds) = do
 
 abbrev pub list : ℕ → ℕ → Data → Result Items JobFault
 list low high d = do
-  ds ← or_fault faults.BadField (as_array d)
+  ds ← field (as_array d)
   if nat_le low (items_len ds) && nat_le (items_len ds) high then Ok ds else Err faults.BadField
 
 unfoldable pub lists_at : Data → Result (Items × Items) JobFault

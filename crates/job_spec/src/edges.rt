@@ -2,23 +2,24 @@
 
 ghost use Rattle.std.specs.Prelude.{◌≡◌, [], codes, false};
 ghost use Rattle.job_spec.specs.Job.{vertex_view, vertices_view};
-ghost use Rattle.job_spec.specs.Reading.{Gives, checked, edge_at, edges_after, flag, number, numbered, optional, or_fault, route};
+ghost use Rattle.job_spec.specs.Reading.{Gives, checked, edge_at, edges_after, field, number, numbered, optional, or_fault, route};
 ghost use Rattle.job_spec.specs.declared.fault.JobFault.TheVariants.{UnknownName};
-ghost use Rattle.serde_json.specs.Find.{get};
+ghost use Rattle.serde_json.specs.Find.{as_bool, get};
 ghost use Rattle.serde_json.specs.View.{view, items_view};
 
 use crate::edge::{EdgeRoute, EdgeSpec};
 use crate::fault::JobFault;
-use crate::members::{flag, has_only, member, number, text};
+use crate::members::number;
 use crate::vertex::VertexSpec;
 use indexmap::IndexMap;
+use json_members::{has_only, text_at};
 use serde_json::Value;
 use std::alloc::Global;
 
 fn route(value: &Value) -> Result<EdgeRoute, JobFault>
     ensures { Gives (λ r. r) result (route (view value.now)) }
 {
-    match text(value)? {
+    match value.as_str().ok_or(JobFault::BadField)? {
         "forward" => Ok(EdgeRoute::Forward),
         "hash" => Ok(EdgeRoute::Hash),
         "broadcast" => Ok(EdgeRoute::Broadcast),
@@ -47,10 +48,11 @@ fn port_of(value: &Value) -> Result<u32, JobFault>
 }
 
 fn is_back(value: &Value) -> Result<bool, JobFault>
-    ensures { Gives (λ b. b) result (optional flag false (get (codes "back") (view value.now))) }
+    ensures { Gives (λ b. b) result (optional (λ b. field (as_bool b)) false
+        (get (codes "back") (view value.now))) }
 {
     match value.get("back") {
-        Some(found) => flag(found),
+        Some(found) => found.as_bool().ok_or(JobFault::BadField),
         None => Ok(false),
     }
 }
@@ -97,8 +99,8 @@ fn edge(vertices: &IndexMap<String, VertexSpec>, value: &Value) -> Result<EdgeSp
     ensures { Gives (λ e. e) result (edge_at (vertices_view vertices.now.entries)
         (view value.now)) }
 {
-    let from = text(member(value, "from")?)?;
-    let to = text(member(value, "to")?)?;
+    let from = text_at(value, "from").ok_or(JobFault::BadField)?;
+    let to = text_at(value, "to").ok_or(JobFault::BadField)?;
     let route = route_of(value)?;
     let port = port_of(value)?;
     let back = is_back(value)?;

@@ -9,27 +9,24 @@ ghost use Rattle.job_spec.specs.Job.{IsJob, vertices_view};
 use crate::edge::EdgeSpec;
 use crate::edges::edges;
 use crate::fault::JobFault;
-use crate::members::{has_only, member};
+use crate::members::member;
 use crate::vertex::VertexSpec;
 use crate::vertices::vertices;
 use indexmap::IndexMap;
+use json_members::{has_only, json_of};
 use serde_json::Value;
 use std::alloc::Global;
 
 const MAX_BYTES: usize = 16_777_216;
 
-#[tactic(auto, unfolding(crate::specs::Reading::value_at, crate::specs::Reading::json_of))]
+#[tactic(auto, unfolding(crate::specs::Reading::value_at))]
 pub(crate) fn parse(alloc: Global, bytes: &[u8]) -> Result<Value, JobFault>
     ensures { Gives view result (value_at bytes.now) }
 {
     if bytes.len() > MAX_BYTES {
         return Err(JobFault::TooMany);
     }
-    match Value::from_slice(alloc, bytes) {
-        Ok(value) => Ok(value),
-        Err(e) if e.is_memory() => Err(JobFault::Memory),
-        Err(_) => Err(JobFault::BadJson),
-    }
+    json_of(alloc, bytes)?.ok_or(JobFault::BadJson)
 }
 
 fn is_length_in(items: &Vec<Value>, low: usize, high: usize) -> bool

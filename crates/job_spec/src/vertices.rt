@@ -8,10 +8,11 @@ ghost use Rattle.serde_json.specs.View.{view, items_view};
 ghost use Rattle.std.specs.Prelude.{codes};
 
 use crate::fault::JobFault;
-use crate::members::{has_only, member, name, number, text, whole};
+use crate::members::{member, name, number};
 use crate::vertex::{Kind, VertexSpec};
 use abs_codec::Text;
 use indexmap::IndexMap;
+use json_members::{has_only, text_at, whole_at};
 use operators::{KEY_LIMIT, RowKey, RowOp, WINDOW_LIMIT, WindowSize};
 use serde_json::Value;
 use std::alloc::Global;
@@ -20,13 +21,13 @@ use std::alloc::Global;
 fn any_number(value: &Value) -> Result<i64, JobFault>
     ensures { Gives (λ n. n) result (any_number (view value.now)) }
 {
-    whole(member(value, "n")?)
+    whole_at(value, "n").ok_or(JobFault::BadField)
 }
 
 fn row_key(alloc: Global, value: &Value) -> Result<RowKey, JobFault>
     ensures { Gives (λ key. key.text) result (row_key (view value.now)) }
 {
-    let key = text(member(value, "k")?)?;
+    let key = text_at(value, "k").ok_or(JobFault::BadField)?;
     if key.len() > KEY_LIMIT as usize {
         return Err(JobFault::BadField);
     }
@@ -108,7 +109,7 @@ fn vertex(alloc: Global, value: &Value) -> Result<(String, VertexSpec), JobFault
     ensures { Gives vertex_view result (vertex_at (view value.now)) }
 {
     let name = name(value, "name")?;
-    let word = text(member(value, "kind")?)?;
+    let word = text_at(value, "kind").ok_or(JobFault::BadField)?;
     let kind = kind_of(alloc, word, value)?;
     let parallelism = parallelism(value)?;
     if !has_only(value, member_names(&kind)) {

@@ -7,7 +7,8 @@ use Rattle.script_file.specs.declared.fault.ScriptFault.{ScriptFault}
 use Rattle.script_file.specs.declared.fault.ScriptFault.TheVariants.{BadField}
 use Rattle.script_file.specs.declared.outline.Outline as code
 use Rattle.script_file.specs.Faults.{◌>>=◌, or_fault}
-use Rattle.script_file.specs.Json.{has_only, are_arrays, are_texts}
+use Rattle.json_members.specs.Members.{has_only}
+use Rattle.script_file.specs.Json.{are_arrays, are_texts}
 
 -- the members, as JSON values
 pub record Outline : Type 0 where

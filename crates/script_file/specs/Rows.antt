@@ -8,7 +8,7 @@ use Rattle.script_file.specs.declared.fault.ScriptFault.{ScriptFault}
 use Rattle.script_file.specs.declared.fault.ScriptFault.TheVariants as whole
 use Rattle.operators.specs.declared.row.Row.{Row}
 use Rattle.script_file.specs.Faults.{◌>>=◌, or_fault}
-use Rattle.script_file.specs.Json.{has_only, text_at, whole_at}
+use Rattle.json_members.specs.Members.{has_only, text_at, whole_at}
 use Rattle.script_file.specs.Lists.{each_after}
 
 -- the row of a key that is short enough

@@ -11,7 +11,6 @@
 mod contents;
 mod fault;
 mod faulty;
-mod members;
 mod number;
 mod outline;
 mod rows;

@@ -7,7 +7,7 @@ ghost use Rattle.script_file.specs.Outline.{outline_view, outline_at, list_at, l
 ghost use Rattle.serde_json.specs.View.{view, items_view};
 
 use crate::fault::ScriptFault;
-use crate::members::has_only;
+use json_members::{has_only, json_of};
 use serde_json::Value;
 use std::alloc::Global;
 
@@ -24,18 +24,14 @@ pub struct Outline<'v> {
 }
 
 /// The JSON value of a text of at most 16,777,216 bytes.
-#[tactic(auto, unfolding(crate::specs::Json::value_of, crate::specs::Json::json_of))]
+#[tactic(auto, unfolding(crate::specs::Json::value_of))]
 pub fn json_value(alloc: Global, bytes: &[u8]) -> Result<Value, ScriptFault>
     ensures { Gives view result (value_of bytes.now) }
 {
     if bytes.len() > MAX_BYTES {
         return Err(ScriptFault::TooLong);
     }
-    match Value::from_slice(alloc, bytes) {
-        Ok(value) => Ok(value),
-        Err(e) if e.is_memory() => Err(ScriptFault::Memory),
-        Err(_) => Err(ScriptFault::NotJson),
-    }
+    json_of(alloc, bytes)?.ok_or(ScriptFault::NotJson)
 }
 
 fn are_arrays(items: &[Value]) -> bool

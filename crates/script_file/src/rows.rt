@@ -7,8 +7,8 @@ ghost use Rattle.script_file.specs.Lists.{each_after};
 ghost use Rattle.serde_json.specs.View.{view, items_view};
 
 use crate::fault::{ItemFault, ScriptFault};
-use crate::members::{has_only, text_at, whole_at};
 use abs_codec::Text;
+use json_members::{has_only, text_at, whole_at};
 use operators::{Row, RowKey};
 use serde_json::Value;
 use std::alloc::Global;

@@ -1,10 +1,10 @@
-//! The members of a JSON object, by their types.
+//! The members of an object, by their types.
 
-ghost use Rattle.std.specs.Prelude.{◌≡◌, map, string_bytes, option_map};
+ghost use Rattle.std.specs.Prelude.{◌≡◌, map, option_map, string_bytes};
 ghost use Rattle.std.specs.List.{list_any, list_all};
 ghost use Rattle.std.specs.Str.{bytes_eq};
 ghost use Rattle.std.specs.BTreeMap.{keys};
-ghost use Rattle.script_file.specs.Json.{has_only, text_at, whole_at};
+ghost use Rattle.json_members.specs.Members.{has_only, text_at, whole_at};
 ghost use Rattle.serde_json.specs.View.{view};
 
 use serde_json::{Map, Value};
@@ -23,7 +23,7 @@ fn have_names(members: &Map<String, Value>, names: &[&str]) -> bool
 }
 
 /// Whether the value is an object whose members all have one of these names.
-pub(crate) fn has_only(value: &Value, names: &[&str]) -> bool
+pub fn has_only(value: &Value, names: &[&str]) -> bool
     ensures { result ≡ has_only (map (λ n. n.now) names.now) (view value.now) }
 {
     match value.as_object() {
@@ -33,14 +33,14 @@ pub(crate) fn has_only(value: &Value, names: &[&str]) -> bool
 }
 
 /// The text under this name.
-pub(crate) fn text_at<'v>(value: &'v Value, name: &str) -> Option<&'v str>
+pub fn text_at<'v>(value: &'v Value, name: &str) -> Option<&'v str>
     ensures { option_map (λ s. s.now) result ≡ text_at name.now (view value.now) }
 {
     value.get(name)?.as_str()
 }
 
-/// The whole number under this name.
-pub(crate) fn whole_at(value: &Value, name: &str) -> Option<i64>
+/// The whole number of 64 bits under this name.
+pub fn whole_at(value: &Value, name: &str) -> Option<i64>
     ensures { result ≡ whole_at name.now (view value.now) }
 {
     value.get(name)?.as_i64()

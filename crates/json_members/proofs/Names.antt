@@ -5,7 +5,7 @@ use Rattle.std.specs.Str.{bytes_eq}
 use Rattle.std.specs.Map.{keys_of}
 use Rattle.serde_json.specs.View.{members_view}
 use Rattle.serde_json.specs.declared.value.Value.{Value}
-use Rattle.job_spec.specs.Reading.{have_names}
+use Rattle.json_members.specs.Members.{have_names}
 
 list_any-now : (test : List ℕ → Bool) (ns : List (Bor (List ℕ))) → list_any (λ n. test n.now) ns ≡ list_any test (map (λ (n : Bor (List ℕ)). n.now) ns)
 list_any-now test [] = refl
