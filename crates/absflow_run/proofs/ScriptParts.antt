@@ -14,7 +14,7 @@ use Rattle.operators.specs.declared.row.Row.{Row}
 use Rattle.script_file.specs.declared.script.Script as code
 use Rattle.script_file.specs.declared.fault.ScriptFault.{ScriptFault}
 use Rattle.script_file.specs.declared.fault.ScriptFault.TheVariants.{Inputs}
-use Rattle.script_file.specs.declared.step.Step.{Step}
+use Rattle.script_file.specs.declared.step.ScriptStep.{ScriptStep}
 use Rattle.script_file.specs.Contents.{Contents, contents_view, counted, contents_at}
 use Rattle.script_file.specs.Faults.{◌>>=◌}
 use Rattle.script_file.specs.Json.{value_of}
@@ -51,7 +51,7 @@ counted_is sources items found = by (items_len items == sources) refl
     by false is h = cc
 
 -- the steps of the contents, from the last to the first
-abbrev contents_2 : List (List Row) → List Step → Result Contents ScriptFault
+abbrev contents_2 : List (List Row) → List ScriptStep → Result Contents ScriptFault
 contents_2 partitions steps = Ok (record { partitions = partitions; steps = steps })
 
 abbrev contents_1 : Outline → List (List Row) → Result Contents ScriptFault

@@ -1,18 +1,16 @@
 //! What a step came to, as its answer line says it.
 
 ghost use Rattle.std.specs.Prelude.{◌≡◌};
-ghost use Rattle.abs_codec.specs.Spelling.{Fits};
-ghost use Rattle.absflow_run.specs.Calls.{asked_by, asks_for_some, AskedFits, Works, Does, MakesStep};
-ghost use Rattle.dataflow_core.specs.Runs.{StepFits, EndsStep};
+ghost use Rattle.absflow_run.specs.Calls.{is_for_some, asks_for_some, Works, MakesStep};
+ghost use Rattle.dataflow_core.specs.Runs.{EndsStep};
+ghost use Rattle.engine_steps.specs.Fitting.{StepFits};
 
 use crate::opening::RowCore;
-use abs_codec::Codec;
 use alignment::Effect;
 use commit_sink::Transactions;
-use dataflow_core::{Core, Desk, DeviceCall, Drained, Reply, Rules, Step as CoreStep};
-use fault_plan::When;
+use dataflow_core::{Core, Desk, DeviceCall, Drained, Reply, Rules, Step};
 use operators::{Operator, Row, RowOp};
-use script_file::{FaultCall, Step};
+use script_file::{FaultCall, ScriptStep};
 use snapshot_store::SnapshotStore;
 use source_log::Partitions;
 use std::fmt;
@@ -72,48 +70,11 @@ fn device_call(call: FaultCall) -> DeviceCall {
     }
 }
 
-/// What a step asks for.
-#[derive(Drop)]
-enum Asked {
-    /// A call on the core.
-    Call(CoreStep<Row>),
-    /// A task's work, at one of its inputs.
-    Work(u32, u32),
-    /// The device's call is to fail.
-    Fault(FaultCall, When),
-}
-
-/// What a step's name asks for.
-fn asked_by(step: Step) -> Asked
-    ensures named { result ≡ asked_by step }
-    ensures fits { AskedFits (Fits ⟦<Row as Codec>⟧.HasSpelling ⟦<Row as Codec>⟧.spelling) result }
-{
-    match step {
-        Step::Read(task) => Asked::Call(CoreStep::Read(task)),
-        Step::Work(task, input) => Asked::Work(task, input),
-        Step::Claim(task, input) => Asked::Call(CoreStep::Claim(task, input)),
-        Step::Finish(number) => Asked::Call(CoreStep::Finish(number)),
-        Step::Barrier(task, input) => Asked::Call(CoreStep::Barrier(task, input)),
-        Step::Trigger => Asked::Call(CoreStep::Trigger),
-        Step::Inject(task) => Asked::Call(CoreStep::Inject(task)),
-        Step::Persist(task) => Asked::Call(CoreStep::Persist(task)),
-        Step::PersistSome(task, most) => Asked::Call(CoreStep::PersistSome(task, most)),
-        Step::Complete => Asked::Call(CoreStep::Complete),
-        Step::Commit(sink) => Asked::Call(CoreStep::Commit(sink)),
-        Step::Settle => Asked::Call(CoreStep::Settle),
-        Step::Drain(turns) => Asked::Call(CoreStep::Drain(turns as u64)),
-        Step::Fail => Asked::Call(CoreStep::Fail),
-        Step::Restart => Asked::Call(CoreStep::Restart),
-        Step::Append(partition, row) => Asked::Call(CoreStep::Append(partition, row.into_row())),
-        Step::Fault(call, when) => Asked::Fault(call, when),
-    }
-}
-
 /// What the core answers to a call.
 fn reply_to<O: Operator, S: SnapshotStore, X: Transactions, P: Partitions<Record = O::Record>>(
     core: &mut Core<O, S, X, P>,
     desk: &mut Desk<O>,
-    call: &CoreStep<O::Record>,
+    call: &Step<O::Record>,
 ) -> Reply
     requires { StepFits ⟦<O as Rules>⟧.RecordFits call.now }
     ensures { EndsStep ⟦<O as Rules>⟧.lang ⟦<O as Rules>⟧.KeyFits ⟦<O as Rules>⟧.RecordFits
@@ -141,37 +102,44 @@ fn work<O: Operator, S: SnapshotStore, X: Transactions, P: Partitions<Record = O
     }
 }
 
-/// Whether a step asks for some of the work on a part.
-fn asks_for_some(step: &Step) -> bool
-    ensures { result ≡ asks_for_some step.now }
+/// Whether a call is for some of the work on a part.
+fn is_for_some(call: &Step<Row>) -> bool
+    ensures { result ≡ is_for_some call.now }
 {
-    matches!(step, Step::PersistSome(_, _))
+    matches!(call, Step::PersistSome(_, _))
 }
 
-/// Does what was asked for.
-fn do_asked(core: &mut RowCore, desk: &mut Desk<RowOp>, asked: Asked) -> Reply
-    requires { AskedFits (Fits ⟦<Row as Codec>⟧.HasSpelling ⟦<Row as Codec>⟧.spelling) asked }
-    ensures { Does asked core.old desk.old core.new desk.new result }
+/// Whether a step asks for some of the work on a part.
+fn asks_for_some(step: &ScriptStep) -> bool
+    ensures { result ≡ asks_for_some step.now }
 {
-    match asked {
-        Asked::Call(call) => reply_to(core, desk, &call),
-        Asked::Work(task, input) => work(core, task, input),
-        Asked::Fault(call, when) => {
-            core.arm(device_call(call), when);
+    match step {
+        ScriptStep::Call(call) => is_for_some(call.as_step()),
+        _ => false,
+    }
+}
+
+/// Does what a step asks for.
+fn do_step(core: &mut RowCore, desk: &mut Desk<RowOp>, step: &ScriptStep) -> Reply
+    ensures { MakesStep step.now core.old desk.old core.new desk.new result }
+{
+    match step {
+        ScriptStep::Call(call) => reply_to(core, desk, call.as_step()),
+        ScriptStep::Work(task, input) => work(core, *task, *input),
+        ScriptStep::Fault(call, when) => {
+            core.arm(device_call(*call), *when);
             Reply::Accepted
         }
     }
 }
 
-/// Makes a step: what its name asks for is done.
-pub fn make_step(core: &mut RowCore, desk: &mut Desk<RowOp>, step: Step) -> Answer
-    ensures made { MakesStep step core.old desk.old core.new desk.new result.reply }
-    ensures asked { result.asked_for_some ≡ asks_for_some step }
+/// Makes a step: the call that it names, a task's work, or a device's call that is to fail.
+pub fn make_step(core: &mut RowCore, desk: &mut Desk<RowOp>, step: &ScriptStep) -> Answer
+    ensures made { MakesStep step.now core.old desk.old core.new desk.new result.reply }
+    ensures asked { result.asked_for_some ≡ asks_for_some step.now }
 {
-    let asked_for_some = asks_for_some(&step);
-    let reply = do_asked(core, desk, asked_by(step));
     Answer {
-        reply,
-        asked_for_some,
+        reply: do_step(core, desk, step),
+        asked_for_some: asks_for_some(step),
     }
 }

@@ -10,7 +10,7 @@ use crate::rows_log::rows_log;
 use crate::text::read_bytes;
 use dataflow_core::Desk;
 use operators::RowOp;
-use script_file::{Contents, Script, Step};
+use script_file::{Contents, Script, ScriptStep};
 use std::alloc::Global;
 use std::io::{Read, Write};
 
@@ -18,10 +18,10 @@ use std::io::{Read, Write};
 fn make_steps<W: Write>(
     core: &mut RowCore,
     desk: &mut Desk<RowOp>,
-    steps: Vec<Step>,
+    steps: &[ScriptStep],
     out: &mut W,
 ) -> Result<(), Refusal> {
-    for (number, step) in steps.into_iter().enumerate() {
+    for (number, step) in steps.iter().enumerate() {
         let answer = make_step(core, desk, step);
         writeln!(out, "{number} {answer}").map_err(|_| Refusal::Output)?;
     }
@@ -32,7 +32,7 @@ fn make_steps<W: Write>(
 fn serve<W: Write>(
     alloc: Global,
     core: &mut RowCore,
-    steps: Vec<Step>,
+    steps: &[ScriptStep],
     out: &mut W,
 ) -> Result<(), Refusal> {
     core.restart()?;
@@ -50,7 +50,7 @@ fn run<R: Read + Drop, W: Write>(alloc: Global, file: R, out: &mut W) -> Result<
     } = Script::read(alloc, &bytes)?;
     let log = rows_log(alloc, graph.sources(), partitions)?;
     let mut core = open(alloc, &job, graph, log)?;
-    serve(alloc, &mut core, steps, out)
+    serve(alloc, &mut core, &steps, out)
 }
 
 /// Runs a script over new devices: an answer line for each step, then the committed rows. It

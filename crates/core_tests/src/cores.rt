@@ -16,7 +16,7 @@ pub(crate) fn opened(alloc: Global, job: &str) -> Result<TestCore, Fail> {
 /// Makes a script's step, and gives its answer.
 fn answer(alloc: Global, core: &mut TestCore, step: &str) -> Result<String, Fail> {
     let step = parse_step(alloc, step).map_err(|_| Fail::new("a bad step"))?;
-    let answer = core.make(step);
+    let answer = core.make(&step);
     Ok(format!(in alloc; "{answer}")?)
 }
 

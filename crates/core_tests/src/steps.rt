@@ -1,7 +1,7 @@
 //! Lists of calls, as a core makes them.
 
 ghost use Rattle.std.specs.List.{AllByRecursion};
-ghost use Rattle.dataflow_core.specs.Runs.{StepFits};
+ghost use Rattle.engine_steps.specs.Fitting.{StepFits};
 
 use crate::cores::{expect_answers, opened};
 use crate::jobs::LINE;

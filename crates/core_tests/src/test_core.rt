@@ -1,7 +1,7 @@
 //! Cores over devices in memory, as tests hold them.
 
 ghost use Rattle.std.specs.List.{AllByRecursion};
-ghost use Rattle.dataflow_core.specs.Runs.{StepFits};
+ghost use Rattle.engine_steps.specs.Fitting.{StepFits};
 
 use crate::devices::{Devices, Durable, boxed};
 use crate::jobs::expanded;
@@ -10,7 +10,7 @@ use commit_sink::{FlakyTransactions, MemoryTransactions, Transactions};
 use dataflow_core::{Core, CoreFault, Desk, Reply, Rules, Step};
 use job_graph::Graph;
 use operators::{Operator, Row, RowOp};
-use script_file::Step as ScriptStep;
+use script_file::ScriptStep;
 use snapshot_store::{FlakyStore, MemoryStore, SnapshotStore};
 use source_log::{FlakyLog, MemoryLog, Partitions};
 use std::alloc::Global;
@@ -120,7 +120,7 @@ impl TestCore {
     }
 
     /// Makes a script's step.
-    pub(crate) fn make(&mut self, step: ScriptStep) -> Answer {
+    pub(crate) fn make(&mut self, step: &ScriptStep) -> Answer {
         let Held { core, desk } = &mut *self.held;
         make_step(core, desk, step)
     }

@@ -6,7 +6,7 @@ use Rattle.dataflow_core.specs.CoreState.{CoreState}
 use Rattle.dataflow_core.specs.Desks.{ClaimedJob, DeskJobs, job_at}
 use Rattle.dataflow_core.specs.Runs.{EndsJob, EndsNoJob, EndsFinishing, EndsStep, IsRun}
 use Rattle.dataflow_core.specs.declared.replies.Reply.{Reply}
-use Rattle.dataflow_core.specs.declared.runs.Step.{Step}
+use Rattle.engine_steps.specs.declared.step.Step.{Step}
 
 -- a job that is at the desk is finished
 pub finishes_job : {R K S O : Type 0} (old : CoreState O R K S) (desk : DeskJobs O K S R) (new : CoreState O R K S) (left : DeskJobs O K S R) (reply : Reply) (lang : Language R K S O) (number : ℕ) (job : ClaimedJob O K S R)

@@ -15,13 +15,8 @@ use Rattle.dataflow_core.specs.Replies.{accepted_as, numbered_as, restarted_as, 
 use Rattle.dataflow_core.specs.Unclaimed.{Settles, Drains}
 use Rattle.dataflow_core.specs.declared.replies.Reply.{Reply}
 use Rattle.dataflow_core.specs.declared.replies.Reply.TheVariants.{NoJob, Number, Refused, Source}
-use Rattle.dataflow_core.specs.declared.runs.Step.{Step}
-use Rattle.dataflow_core.specs.declared.runs.Step.TheVariants.{Read, Claim, Finish, Barrier, Trigger, Inject, Persist, PersistSome, Complete, Commit, Settle, Drain, Fail, Restart, Append}
-
--- what is appended fits
-abbrev pub StepFits : {R : Type 0} → (R → Type 0) → Step R → Type 0
-StepFits RecordFits (Append partition row) = RecordFits row
-StepFits RecordFits other = Unit {0}
+use Rattle.engine_steps.specs.declared.step.Step.{Step}
+use Rattle.engine_steps.specs.declared.step.Step.TheVariants.{Read, Claim, Finish, Barrier, Trigger, Inject, Persist, PersistSome, Complete, Commit, Settle, Drain, Fail, Restart, Append}
 
 -- a reply tells an outcome of which this holds
 abbrev pub Tells : {T E : Type 0} → (Result T E → Reply) → Reply → (Result T E → Type 0) → Type 0

@@ -52,7 +52,7 @@ pub use desks::Desk;
 pub use engine::{CoreFault, DeviceCall, Persisted};
 pub use engine_model::Rules;
 pub use engine_settling::Drained;
+pub use engine_steps::Step;
 pub use held::Claim;
 pub use jobs::{Done, Job};
 pub use replies::Reply;
-pub use runs::Step;

@@ -6,7 +6,7 @@ use Rattle.operators.specs.declared.row.Row.{Row}
 use Rattle.script_file.specs.declared.contents.Contents as code
 use Rattle.script_file.specs.declared.fault.ScriptFault.{ScriptFault}
 use Rattle.script_file.specs.declared.fault.ScriptFault.TheVariants.{Inputs}
-use Rattle.script_file.specs.declared.step.Step.{Step}
+use Rattle.script_file.specs.declared.step.ScriptStep.{ScriptStep}
 use Rattle.script_file.specs.Faults.{◌>>=◌}
 use Rattle.script_file.specs.Lists.{each_after}
 use Rattle.script_file.specs.Outline.{Outline}
@@ -15,7 +15,7 @@ use Rattle.script_file.specs.Steps.{step_at}
 
 pub record Contents : Type 0 where
   pub partitions : List (List Row)
-  pub steps : List Step
+  pub steps : List ScriptStep
 
 abbrev pub contents_view : code.Contents → Contents
 contents_view c = record { partitions = map (λ rows. rows.items) c.partitions.items; steps = c.steps.items }

@@ -3,8 +3,10 @@ use Rattle.std.specs.Prelude.{ℕ, ℤ, List, [], ◌&&◌, nat_lt, Option, Some
 use Rattle.std.specs.Str.{bytes_eq}
 use Rattle.serde_json.specs.Data.{Data}
 use Rattle.serde_json.specs.Find.{as_str}
-use Rattle.script_file.specs.declared.step.Step.{Step}
-use Rattle.script_file.specs.declared.step.Step.TheVariants.{Read, Work, Claim, Finish, Barrier, Trigger, Inject, Persist, PersistSome, Complete, Commit, Settle, Drain, Fail, Restart, Append, Fault}
+use Rattle.engine_steps.specs.declared.step.Step.{Step}
+use Rattle.engine_steps.specs.declared.step.Step.TheVariants.{Read, Claim, Finish, Barrier, Trigger, Inject, Persist, PersistSome, Complete, Commit, Settle, Drain, Fail, Restart, Append}
+use Rattle.script_file.specs.declared.step.ScriptStep.{ScriptStep}
+use Rattle.script_file.specs.declared.step.ScriptStep.TheVariants.{Call, Work, Fault}
 use Rattle.script_file.specs.declared.fault.ItemFault.{ItemFault}
 use Rattle.script_file.specs.declared.fault.ItemFault.TheVariants as one
 use Rattle.script_file.specs.declared.fault.ScriptFault.{ScriptFault}
@@ -22,10 +24,10 @@ number_of_text text = bad (number_of text)
 abbrev pub signed_of_text : List ℕ → Result ℤ ItemFault
 signed_of_text text = bad (signed_number_of text)
 
-abbrev pub one_number : (ℕ → Step) → List ℕ → Result Step ItemFault
+abbrev pub one_number : (ℕ → Step Row) → List ℕ → Result ScriptStep ItemFault
 one_number step text = do
   n ← number_of_text text
-  Ok (step n)
+  Ok (Call (step n))
 
 abbrev pub two_numbers : List ℕ → Result (ℕ × ℕ) ItemFault
 two_numbers text = do
@@ -34,7 +36,7 @@ two_numbers text = do
   n ← number_of_text parts.1
   Ok (m, n)
 
-abbrev pub of_two : (ℕ → ℕ → Step) → List ℕ → Result Step ItemFault
+abbrev pub of_two : (ℕ → ℕ → ScriptStep) → List ℕ → Result ScriptStep ItemFault
 of_two step text = do
   numbers ← two_numbers text
   Ok (step numbers.0 numbers.1)
@@ -44,15 +46,15 @@ abbrev pub count_of_text : List ℕ → Result ℕ ItemFault
 count_of_text text = number_of_text text >>= λ n. if nat_lt 0 n && nat_lt n 1000001 then Ok n else Err one.Bad
 
 -- a task's number, which may be followed by how many entries are worked at most
-abbrev pub persisted_by : Option ℕ → List ℕ → Result Step ItemFault
-persisted_by (Some task) text = Ok (Persist task)
+abbrev pub persisted_by : Option ℕ → List ℕ → Result ScriptStep ItemFault
+persisted_by (Some task) text = Ok (Call (Persist task))
 persisted_by None text = do
   parts ← bad (cut text)
   task ← number_of_text parts.0
   count ← count_of_text parts.1
-  Ok (PersistSome task count)
+  Ok (Call (PersistSome task count))
 
-unfoldable pub persisted : List ℕ → Result Step ItemFault
+unfoldable pub persisted : List ℕ → Result ScriptStep ItemFault
 persisted text = persisted_by (number_of text) text
 
 -- a partition, a value, and a key that is all the rest
@@ -66,36 +68,36 @@ appended text = do
   Ok (partition, row)
 
 -- the step of a word and what follows its space
-unfoldable pub step_with : List ℕ → List ℕ → Result Step ItemFault
+unfoldable pub step_with : List ℕ → List ℕ → Result ScriptStep ItemFault
 step_with word rest =
     if bytes_eq word (codes "read") then one_number Read rest
     else (if bytes_eq word (codes "work") then of_two Work rest
-    else (if bytes_eq word (codes "claim") then of_two Claim rest
+    else (if bytes_eq word (codes "claim") then of_two (λ task input. Call (Claim task input)) rest
     else (if bytes_eq word (codes "finish") then one_number Finish rest
-    else (if bytes_eq word (codes "barrier") then of_two Barrier rest
+    else (if bytes_eq word (codes "barrier") then of_two (λ task input. Call (Barrier task input)) rest
     else (if bytes_eq word (codes "inject") then one_number Inject rest
     else (if bytes_eq word (codes "persist") then persisted rest
     else (if bytes_eq word (codes "commit") then one_number Commit rest
     else (if bytes_eq word (codes "drain") then one_number Drain rest
-    else (if bytes_eq word (codes "append") then (appended rest >>= λ a. Ok (Append a.0 a.1))
+    else (if bytes_eq word (codes "append") then (appended rest >>= λ a. Ok (Call (Append a.0 a.1)))
     else (if bytes_eq word (codes "fault") then (fault_of rest >>= λ f. Ok (Fault f.0 f.1))
     else Err one.Bad))))))))))
 
 -- the step that a text is
-unfoldable pub step_of : List ℕ → Result Step ItemFault
+unfoldable pub step_of : List ℕ → Result ScriptStep ItemFault
 step_of text =
-    if bytes_eq text (codes "trigger") then Ok Trigger
-    else (if bytes_eq text (codes "complete") then Ok Complete
-    else (if bytes_eq text (codes "settle") then Ok Settle
-    else (if bytes_eq text (codes "fail") then Ok Fail
-    else (if bytes_eq text (codes "restart") then Ok Restart
+    if bytes_eq text (codes "trigger") then Ok (Call Trigger)
+    else (if bytes_eq text (codes "complete") then Ok (Call Complete)
+    else (if bytes_eq text (codes "settle") then Ok (Call Settle)
+    else (if bytes_eq text (codes "fail") then Ok (Call Fail)
+    else (if bytes_eq text (codes "restart") then Ok (Call Restart)
     else (bad (cut text) >>= λ parts. step_with parts.0 parts.1)))))
 
 -- the step of this number in its list
-abbrev pub of_number : ℕ → Result Step ItemFault → Result Step ScriptFault
+abbrev pub of_number : ℕ → Result ScriptStep ItemFault → Result ScriptStep ScriptFault
 of_number number (Ok step) = Ok step
 of_number number (Err one.Bad) = Err (whole.BadStep number)
 of_number number (Err one.Memory) = Err whole.Memory
 
-abbrev pub step_at : ℕ → Data → Result Step ScriptFault
+abbrev pub step_at : ℕ → Data → Result ScriptStep ScriptFault
 step_at number d = of_number number (step_of (unwrap_or (as_str d) []))

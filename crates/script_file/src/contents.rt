@@ -10,7 +10,7 @@ ghost use Rattle.serde_json.specs.View.{items_view};
 use crate::fault::ScriptFault;
 use crate::outline::Outline;
 use crate::rows::{FittingRow, partitions};
-use crate::step::{Step, steps};
+use crate::step::{ScriptStep, steps};
 use serde_json::Value;
 use std::alloc::Global;
 
@@ -20,7 +20,7 @@ pub struct Contents {
     /// The rows of each partition, the oldest first.
     pub partitions: Vec<Vec<FittingRow>>,
     /// The steps, in order.
-    pub steps: Vec<Step>,
+    pub steps: Vec<ScriptStep>,
 }
 
 fn count(items: &[Value]) -> usize

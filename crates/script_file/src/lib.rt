@@ -8,6 +8,7 @@
 //! one name for each part.
 #![tactic(auto)]
 
+mod calls;
 mod contents;
 mod fault;
 mod faulty;
@@ -17,10 +18,11 @@ mod rows;
 mod script;
 mod step;
 
+pub use calls::FittingCall;
 pub use contents::{Contents, contents_of};
 pub use fault::{ItemFault, ScriptFault};
 pub use faulty::FaultCall;
 pub use outline::{Outline, json_value, outline_of};
 pub use rows::{FittingRow, partitions, read_row};
 pub use script::Script;
-pub use step::{Step, parse_step, steps};
+pub use step::{ScriptStep, parse_step, steps};
