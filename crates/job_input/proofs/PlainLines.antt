@@ -1,5 +1,5 @@
 -- The row of a line in the form that rows are printed in.
-use Rattle.std.proofs.Common.{All, nat_le, option_and_then, ◌&&◌, ◌≡◌, ◌≢◌, ◌∙◌, ◌⊎◌, inl, inr, ℕ, ℤ, pos, negsuc, ◌≤◌, ◌<◌, ◌^◌, ◌==◌, ◌||◌, List, [], ◌∷◌, ◌++◌, Bool, true, false, not, cond, codes, Option, Some, Result, Ok, IsUtf8, FitsSigned, refl, sym, ap, ap₂, arith, eqb-true, lt-ltb, leb-true}
+use Rattle.std.proofs.Common.{All, nat_le, option_and_then, ◌&&◌, ◌≡◌, ◌∙◌, ◌⊎◌, inl, inr, ℕ, ℤ, pos, negsuc, ◌^◌, ◌==◌, ◌||◌, List, [], ◌∷◌, ◌++◌, true, not, codes, Option, Some, IsUtf8, FitsSigned, refl, sym, ap, ap₂, arith, eqb-true, lt-ltb, leb-true}
 use Rattle.std.proofs.lemmas.Bool.{and_parts, or_cases, not-true, eqb-false}
 use Rattle.std.proofs.lemmas.Str.{IsUtf8-append, is_utf8-from_IsUtf8}
 use Rattle.std.specs.Fmt.{signed_decimal}
@@ -8,16 +8,14 @@ use Rattle.std.specs.List.{AllByRecursion}
 use Rattle.std.proofs.lemmas.List.Elements.{recursion_from_All}
 use Rattle.json.specs.Token.{Token, begin_object, end_object, key, string, number}
 use Rattle.json.specs.Text.{content, plain}
-use Rattle.json.specs.Lex.{Lexeme, token, comma, colon, string_token, class, space, lex, between, in_string, punctuate, fresh, tokens}
+use Rattle.json.specs.Lex.{token, comma, colon, string_token, lex, between, in_string, punctuate, fresh, tokens}
 use Rattle.json.specs.Json as json
-use Rattle.json.specs.Print.{escape, escape_byte, IsNumber}
+use Rattle.json.specs.Print.{escape, IsNumber}
 use Rattle.json.proofs.Printed.Decimals.{IsNumber-signed_decimal}
 use Rattle.json.proofs.Printed.Numbers.{lex-number}
 use Rattle.json.proofs.Printed.Strings.{escape_byte_plain, content-escape, lex-escape}
 use Rattle.json.proofs.Printed.Utf8.{are_ascii, IsUtf8-are_ascii}
 use Rattle.json_members.specs.Json.{json_of}
-use Rattle.operators.specs.declared.row.Row.{Row}
-use Rattle.script_file.specs.declared.fault.ItemFault.{ItemFault}
 use Rattle.script_file.specs.declared.fault.ItemFault.TheVariants.{Bad}
 use Rattle.script_file.specs.Faults.{◌>>=◌, or_fault}
 use Rattle.script_file.specs.Rows.{row_of, row_with}

@@ -1,5 +1,5 @@
 -- Lines in the form that rows are printed in.
-use Rattle.std.specs.Prelude.{◌≡◌, ℕ, ℤ, List, [], ◌∷◌, ◌++◌, ◌==◌, ◌&&◌, Bool, true, not, All, nat_le, codes, IsUtf8, FitsSigned}
+use Rattle.std.specs.Prelude.{◌≡◌, ℕ, ℤ, List, ◌++◌, ◌==◌, ◌&&◌, Bool, true, not, All, nat_le, codes, IsUtf8, FitsSigned}
 use Rattle.std.specs.Fmt.{signed_decimal}
 use Rattle.std.specs.Int.{w64}
 use Rattle.job_input.specs.Lines.{is_blank}

@@ -1,4 +1,4 @@
-use Rattle.std.proofs.Common.{◌≡◌, ◌∙◌, sym, true, rules}
+use Rattle.std.proofs.Common.{◌≡◌, true, rules}
 use Rattle.std.proofs.lemmas.List.Elements.{All-more}
 use Rattle.job_input.specs.Plain.{is_plain}
 use Rattle.job_input.proofs.plain.plain_len.Goals as goal
