@@ -50,13 +50,14 @@ fn print_sink<C: CommittedRows, W: Write>(
 ) -> Result<(), Refusal> {
     let rows = core.committed_len(sink)?;
     writeln!(out, "sink {sink} rows {rows}").map_err(|_| Refusal::Output)?;
+    let mut line = Vec::new(alloc);
     for number in 0..rows {
         let Some(record) = core.committed(sink, number)? else {
             return Ok(());
         };
         let row: Row = decode_all(alloc, &record)?;
-        let line = row_line(alloc, &row)?;
-        writeln!(out, "{line}").map_err(|_| Refusal::Output)?;
+        line = row_line(line, &row)?;
+        out.write_all(&line).map_err(|_| Refusal::Output)?;
     }
     Ok(())
 }

@@ -21,5 +21,5 @@ pub use checking::check;
 pub use committed::{CommittedRows, print_committed};
 pub use opening::RowCore;
 pub use refusal::{Refusal, finish};
-pub use row_text::row_line;
+pub use row_text::{append_row, row_line};
 pub use running::script;

@@ -1,1 +1,2 @@
+mod PlainLines
 mod Putting

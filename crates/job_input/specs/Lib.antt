@@ -1,3 +1,4 @@
 pub mod Judged
 pub mod Lines
+pub mod Plain
 pub mod Telling

@@ -13,6 +13,7 @@ mod fault;
 mod input;
 mod job;
 mod line;
+mod plain;
 mod rows;
 
 pub use fault::{InputFault, LineFault};

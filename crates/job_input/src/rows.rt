@@ -1,34 +1,60 @@
 //! The rows of an input.
 
-ghost use Rattle.std.specs.Prelude.{◌≡◌, [], false, length, Ok, OnOk, OnErr, IfSome};
+ghost use Rattle.std.specs.Prelude.{◌≡◌, [], false, length, Ok, OnOk, OnErr, IfOk, IfSome};
+ghost use Rattle.abs_codec.specs.Spelling.{Fits};
+ghost use Rattle.operators.specs.RowSpelling.{RowIsSpelled, row_spelling};
 ghost use Rattle.script_file.specs.Faults.{FindsItem};
+ghost use Rattle.script_file.specs.Rows.{row_with};
 ghost use Rattle.job_input.specs.Lines.{is_blank, row_of_line, PutsLine, PutsRows, PutsText};
 ghost use Rattle.std.specs.Io.BufRead.{take_through, DropsThrough};
 
 use crate::fault::LineFault;
 use crate::line::next_line;
+use crate::plain::plain_row;
+use abs_codec::Text;
 use json_members::json_of;
-use operators::Row;
+use operators::{Row, RowKey};
 use script_file::{FittingRow, ItemFault, read_row};
 use source_log::{MemoryLog, Partitions};
 use std::alloc::Global;
 use std::io::BufRead;
 
 /// Whether a line is skipped: nothing but spaces, tabs and ends of lines.
-fn is_blank(line: &[u8]) -> bool
+pub(crate) fn is_blank(line: &[u8]) -> bool
     ensures { result ≡ is_blank line.now }
 {
     line.iter()
         .all(|byte| matches!(*byte, b' ' | b'\t' | b'\r' | b'\n'))
 }
 
-/// The row that the JSON text of a line is.
+/// The row of a key that is short enough.
+fn row_with(alloc: Global, key: &str, v: i64) -> Result<Row, ItemFault>
+    ensures row { FindsItem (λ r. r) result (row_with key.now v) }
+    ensures fits { IfOk result (Fits RowIsSpelled row_spelling) }
+{
+    let key = RowKey::new(Text::from_str(alloc, key)?).ok_or(ItemFault::Bad)?;
+    Ok(Row { k: key.text, v })
+}
+
+/// The row of the JSON value of a line.
 #[tactic(auto, unfolding(crate::specs::Lines::row_of_line))]
-pub fn row_of_line(alloc: Global, line: &[u8]) -> Result<FittingRow, ItemFault>
+fn row_of_json(alloc: Global, line: &[u8]) -> Result<FittingRow, ItemFault>
     ensures { FindsItem (λ r. r) result (row_of_line line.now) }
 {
     let value = json_of(alloc, line)?.ok_or(ItemFault::Bad)?;
     read_row(alloc, &value)
+}
+
+/// The row that the JSON text of a line is. A line in the form that rows are printed in is read
+/// with no JSON value between.
+pub fn row_of_line(alloc: Global, line: &[u8]) -> Result<Row, ItemFault>
+    ensures row { FindsItem (λ r. r) result (row_of_line line.now) }
+    ensures fits { IfOk result (Fits RowIsSpelled row_spelling) }
+{
+    if let Some((key, v)) = plain_row(line) {
+        return row_with(alloc, key, v);
+    }
+    Ok(row_of_json(alloc, line)?.into_row())
 }
 
 /// Puts the row of a line last in the partition. A blank line has none.
@@ -48,7 +74,7 @@ pub fn put_line(
         return Ok(());
     }
     let row = row_of_line(alloc, line)?;
-    log.append(partition, row.into_row())?;
+    log.append(partition, row)?;
     Ok(())
 }
 
