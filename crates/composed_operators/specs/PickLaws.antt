@@ -1,7 +1,7 @@
 -- The laws of one of two operators.
 use Rattle.std.proofs.Common.{◌≡◌, Option, Some, None}
 use Rattle.dataflow_model.specs.Graph.{Meaning}
-use Rattle.composed_operators.specs.Chains.{HasNoKeys}
+use Rattle.chained_operators.specs.Chains.{HasNoKeys}
 use Rattle.operators.specs.Operator.{KeysFit, KeysHaveLanes, FreshIsGood, StatesStayGood, SentFits, KeylessKeepsFresh}
 use Rattle.composed_operators.specs.Picks.{pick_meaning, PickSuits}
 use Rattle.composed_operators.specs.declared.pick.Pick.TheVariants.{First, Second}

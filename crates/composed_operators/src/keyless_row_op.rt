@@ -3,8 +3,8 @@
 ghost use Rattle.std.specs.Prelude.{◌≡◌, IfSome, IfNone, IfOk, true, false};
 ghost use Rattle.operators.specs.RowMeaning.{is_keyless};
 
-use crate::stateless::Stateless;
 use abs_codec::{NoMemory, Text};
+use chained_operators::Stateless;
 use operators::{Operator, Outcome, Row, RowOp, RowState};
 use std::alloc::Global;
 

@@ -3,12 +3,9 @@
 //! keys; `apply` is the operator's meaning, which is the two operators' meanings.
 #![tactic(auto)]
 
-mod chain;
 mod keyless_row_op;
 mod pick;
-mod stateless;
 
-pub use chain::Chain;
+pub use chained_operators::{Chain, Stateless};
 pub use keyless_row_op::KeylessRowOp;
 pub use pick::Pick;
-pub use stateless::Stateless;

@@ -1,7 +1,7 @@
 //! One of two operators.
 
-use crate::stateless::Stateless;
 use abs_codec::{Codec, NoMemory};
+use chained_operators::Stateless;
 use operators::{Operator, Outcome};
 use std::alloc::Global;
 

@@ -14,10 +14,6 @@ pub(crate) const LINE: &str =
 pub(crate) const COUNT: &str =
     r#"{"vertices":[{"name":"s","kind":"source","parallelism":2},{"name":"c","kind":"count"},{"name":"out","kind":"sink"}],"edges":[{"from":"s","to":"c","route":"hash"},{"from":"c","to":"out"}]}"#;
 
-/// A source, an operator that counts by key, and a sink: tasks 0, 1 and 2.
-pub(crate) const ONE_COUNT: &str =
-    r#"{"vertices":[{"name":"s","kind":"source"},{"name":"c","kind":"count"},{"name":"out","kind":"sink"}],"edges":[{"from":"s","to":"c"},{"from":"c","to":"out"}]}"#;
-
 /// A loop that counts down, by way of a second operator: a source, the operator that counts, the
 /// one that sends back, and a sink.
 pub(crate) const LONG_LOOP: &str =

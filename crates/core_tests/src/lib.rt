@@ -9,7 +9,6 @@
 mod cores;
 #[cfg(test)]
 mod devices;
-mod ending;
 #[cfg(test)]
 mod failed_copies;
 #[cfg(test)]
@@ -28,5 +27,3 @@ mod steps;
 mod test_core;
 #[cfg(test)]
 mod writers;
-
-pub use ending::end_job;

@@ -15,22 +15,10 @@ const RECOVERY: [(RecoveryFault, &str); 4] = [
     (RecoveryFault::Memory, "V4 Memory"),
 ];
 
-const CORE: [(CoreFault, &str); 15] = [
-    (CoreFault::NotRunning, "K1 NotRunning"),
-    (CoreFault::NoSuchTask, "K2 NoSuchTask"),
-    (CoreFault::NotReady, "K3 NotReady"),
-    (CoreFault::ChannelBlocked, "K4 ChannelBlocked"),
-    (CoreFault::Busy, "K5 Busy"),
-    (CoreFault::Stale, "K6 Stale"),
+/// Those that no script comes to.
+const CORE: [(CoreFault, &str); 2] = [
     (CoreFault::WrongResult, "K7 WrongResult"),
-    (CoreFault::CheckpointPending, "K8 CheckpointPending"),
-    (CoreFault::NoCheckpoint, "K9 NoCheckpoint"),
-    (CoreFault::NotAllAcked, "K10 NotAllAcked"),
     (CoreFault::Memory, "K11 Memory"),
-    (CoreFault::Device, "K12 Device"),
-    (CoreFault::CommitFault, "K13 CommitFault"),
-    (CoreFault::NumbersSpent, "K14 NumbersSpent"),
-    (CoreFault::BadSnapshot, "K15 BadSnapshot"),
 ];
 
 fn expect_texts<F: Display>(

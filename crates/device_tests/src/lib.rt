@@ -1,5 +1,5 @@
-//! Tests of what stands below the core: devices that lists make, devices that fail at each second
-//! call, graphs as jobs expand to them, and the texts of faults.
+//! Tests of what stands below the core: transactions that lists make, a log that fails at each
+//! second call, graphs as jobs expand to them, and the texts of faults.
 #![tactic(auto)]
 
 #[cfg(test)]

@@ -1,5 +1,5 @@
-//! What chains and picks make of their operators. What each kind makes of rows, and where their
-//! lanes lead, stands in tests/scripts.
+//! What a chain and a pick make of their operators, once at types that have their bounds. What each
+//! kind makes of rows, and where their lanes lead, stands in tests/scripts.
 
 use abs_codec::{Codec, NoMemory, Text};
 use composed_operators::{Chain, KeylessRowOp, Pick};
@@ -66,13 +66,6 @@ fn expect_copy<O: Operator>(rt: &impl Abort, op: &O, ports: u32) -> Result<(), F
     Ok(())
 }
 
-#[test]
-fn a_chain_sends_its_first_port_through(rt: HostRuntime) -> Result<(), Fail> {
-    let op = RowOp::Add { n: 10 };
-    let counted = Chain::new(RowOp::Count, KeylessRowOp { op });
-    expect_sent(&rt, rt.alloc(), &counted, &[(7, 0, 11), (7, 0, 12)])
-}
-
 /// Port 0 of the loop is split.
 #[test]
 fn a_chain_has_the_other_ports_behind(rt: HostRuntime) -> Result<(), Fail> {
@@ -88,14 +81,6 @@ fn a_chain_has_the_other_ports_behind(rt: HostRuntime) -> Result<(), Fail> {
 }
 
 type Picked = Pick<RowOp, KeylessRowOp>;
-
-/// It sums.
-#[test]
-fn a_pick_is_its_first(rt: HostRuntime) -> Result<(), Fail> {
-    let first: Picked = Pick::First(RowOp::Sum);
-    expect_copy(&rt, &first, 1)?;
-    expect_sent(&rt, rt.alloc(), &first, &[(7, 0, 7), (8, 0, 15)])
-}
 
 /// It counts down.
 #[test]

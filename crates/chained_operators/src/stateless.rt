@@ -1,6 +1,6 @@
 //! Operators that keep no state.
 
-ghost use Rattle.composed_operators.specs.Chains.{HasNoKeys};
+ghost use Rattle.chained_operators.specs.Chains.{HasNoKeys};
 
 use operators::Operator;
 

@@ -1,5 +1,6 @@
 //! What a caller of the core concludes: however a job is brought to its end, its committed rows are
 //! exactly once.
+#![tactic(auto)]
 
 ghost use Rattle.std.specs.Prelude.{IsTrue};
 ghost use Rattle.engine_model.specs.ExactlyOnce.{IsExactlyOnce};

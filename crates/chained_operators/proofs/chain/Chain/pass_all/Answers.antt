@@ -3,10 +3,10 @@ use Rattle.std.specs.List.{All, flat_map}
 use Rattle.std.proofs.lemmas.List.Elements.{All-head, All-tail}
 use Rattle.std.specs.Vec.Iter.{into_iter_items}
 use Rattle.abs_codec.specs.Spelling.{Fits}
-use Rattle.composed_operators.specs.Chains.{passed_on}
+use Rattle.chained_operators.specs.Chains.{passed_on}
 use Rattle.operators.specs.Operator.{MayBeSent}
-use Rattle.composed_operators.proofs.PassingOn.{taken_first, left_goes_on, all_is_left, all_still_hold}
-use Rattle.composed_operators.proofs.chain.Chain.pass_all.Goals as goal
+use Rattle.chained_operators.proofs.PassingOn.{taken_first, left_goes_on, all_is_left, all_still_hold}
+use Rattle.chained_operators.proofs.chain.Chain.pass_all.Goals as goal
 
 pub loop-port-init : goal.loop-port-init
 loop-port-init g c =

@@ -7,7 +7,7 @@ use Rattle.std.proofs.lemmas.Bool.{cond_both}
 use Rattle.std.proofs.lemmas.Bool.Decides.{nat_tests}
 use Rattle.dataflow_model.specs.Graph.{Meaning}
 use Rattle.operators.specs.Operator.{MayBeSent, FreshIsGood, SentFits}
-use Rattle.composed_operators.specs.Chains.{passed_on, chain_meaning}
+use Rattle.chained_operators.specs.Chains.{passed_on, chain_meaning}
 
 -- what holds of all that each item leads to, holds of all
 All-flat_map : {X Y : Type 0} (P : X → Type 0) (Q : Y → Type 0) (f : X → List Y) (xs : List X) → ((x : X) → P x → All Q (f x)) → All P xs → All Q (flat_map f xs)

@@ -1,7 +1,7 @@
 use Rattle.abs_codec.specs.Spelling.{Fits}
 use Rattle.operators.specs.Operator.{MayBeSent}
-use Rattle.composed_operators.proofs.PassingOn.{all_still_hold}
-use Rattle.composed_operators.proofs.chain.ChainOperator.apply.Goals as goal
+use Rattle.chained_operators.proofs.PassingOn.{all_still_hold}
+use Rattle.chained_operators.proofs.chain.ChainOperator.apply.Goals as goal
 
 pub pass_all-requires : goal.pass_all-requires
 pass_all-requires g c =

@@ -1,6 +1,6 @@
 use Rattle.std.proofs.Props.{props}
-use Rattle.composed_operators.specs.Exact.{same_parts}
-use Rattle.composed_operators.proofs.chain.ChainOperator.copy.Goals as goal
+use Rattle.chained_operators.specs.Exact.{same_parts}
+use Rattle.chained_operators.proofs.chain.ChainOperator.copy.Goals as goal
 
 pub returns : goal.returns
 returns g c =

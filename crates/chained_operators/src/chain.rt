@@ -3,7 +3,7 @@
 ghost use Rattle.std.specs.Prelude.{◌≡◌, ◌++◌, OnOk, IfOk};
 ghost use Rattle.std.specs.List.{All, flat_map};
 ghost use Rattle.abs_codec.specs.Spelling.{Fits};
-ghost use Rattle.composed_operators.specs.Chains.{CanBeChained, passed_on};
+ghost use Rattle.chained_operators.specs.Chains.{CanBeChained, passed_on};
 ghost use Rattle.operators.specs.Operator.{MayBeSent};
 
 use crate::stateless::Stateless;
@@ -77,9 +77,9 @@ impl<A: Operator, B: Stateless<Record = A::Record>> Chain<A, B> {
 impl<A: Operator, B: Stateless<Record = A::Record>> Operator for Chain<A, B> {
     ghost use Rattle.std.proofs.Props.{props};
     ghost use Rattle.std.specs.Cmp.{first_so, second_so};
-    ghost use Rattle.composed_operators.specs.Chains.{chain_meaning};
-    ghost use Rattle.composed_operators.specs.ChainLaws.{chain_sent_fits};
-    ghost use Rattle.composed_operators.specs.Exact.{same_parts};
+    ghost use Rattle.chained_operators.specs.Chains.{chain_meaning};
+    ghost use Rattle.chained_operators.specs.ChainLaws.{chain_sent_fits};
+    ghost use Rattle.chained_operators.specs.Exact.{same_parts};
 
     type Record = A::Record;
 

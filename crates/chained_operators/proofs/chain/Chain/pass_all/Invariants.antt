@@ -2,9 +2,9 @@ use Rattle.std.proofs.Common.{◌≡◌, ◌++◌}
 use Rattle.std.specs.List.{All, flat_map}
 use Rattle.std.specs.Vec.Iter.{into_iter_items}
 use Rattle.abs_codec.specs.Spelling.{Fits}
-use Rattle.composed_operators.specs.Chains.{passed_on}
+use Rattle.chained_operators.specs.Chains.{passed_on}
 use Rattle.operators.specs.Operator.{MayBeSent}
-use Rattle.composed_operators.proofs.chain.Chain.pass_all.Given as goal
+use Rattle.chained_operators.proofs.chain.Chain.pass_all.Given as goal
 
 abbrev pub invariant-loop-port : goal.invariant-loop-port
 invariant-loop-port g l =

@@ -1,0 +1,3 @@
+pub mod Exact
+pub mod Chains
+pub mod ChainLaws
