@@ -31,7 +31,7 @@
 //! ended
 //! ```
 //!
-//! This is the body of `end_job` in `core_tests` (src/ending.rt). Proved of it, from the clauses of
+//! This is the body of `end_job` in `ended_jobs` (src/lib.rt). Proved of it, from the clauses of
 //! these calls alone: where the core was opened over new devices (`fresh`), what its sinks have
 //! committed is exactly once, however that ends (`exact`).
 #![tactic(auto)]
