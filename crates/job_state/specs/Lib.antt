@@ -1,3 +1,4 @@
+pub mod Batch
 pub mod Sending
 pub mod Standing
 pub mod Held

