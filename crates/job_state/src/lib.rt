@@ -18,6 +18,7 @@ mod records;
 mod sending;
 mod spelling;
 mod task;
+mod taking;
 mod tasks;
 
 pub use attempt::Attempt;
