@@ -25,14 +25,22 @@ taken_first before after taken x is steps = (subst (λ o. into_iter_steps before
 
 -- one that passes a test goes behind those that passed it before, and another does not
 module _ {A : Type 0} (p : A → Bool) (old new before after whole : List A) (x : A) (is : before ≡ x ∷ after) (left : old ++ filter p before ≡ whole) where
-  pub passed : p x ≡ true → new ≡ old ++ x ∷ [] → new ++ filter p after ≡ whole
-  passed yes push =
+  passed : p x ≡ true → new ≡ old ++ x ∷ [] → new ++ filter p after ≡ whole
+  passed passes push =
       ap (λ (l : List A). l ++ filter p after) push ∙ append_assoc old (x ∷ []) (filter p after)
-      ∙ sym (ap (λ (l : List A). old ++ filter p l) is ∙ ap (λ (b : Bool). old ++ cond b (x ∷ filter p after) (filter p after)) yes) ∙ left
+      ∙ sym (ap (λ (l : List A). old ++ filter p l) is ∙ ap (λ (b : Bool). old ++ cond b (x ∷ filter p after) (filter p after)) passes) ∙ left
 
-  pub missed : p x ≡ false → new ≡ old → new ++ filter p after ≡ whole
-  missed no same =
-      ap (λ (l : List A). l ++ filter p after) same ∙ sym (ap (λ (l : List A). old ++ filter p l) is ∙ ap (λ (b : Bool). old ++ cond b (x ∷ filter p after) (filter p after)) no) ∙ left
+  missed : p x ≡ false → new ≡ old → new ++ filter p after ≡ whole
+  missed fails same =
+      ap (λ (l : List A). l ++ filter p after) same ∙ sym (ap (λ (l : List A). old ++ filter p l) is ∙ ap (λ (b : Bool). old ++ cond b (x ∷ filter p after) (filter p after)) fails) ∙ left
+
+  pub gone_in : (b : Bool) → p x ≡ b → new ≡ cond b (old ++ x ∷ []) old → new ++ filter p after ≡ whole
+  gone_in true passes push = passed passes push
+  gone_in false fails same = missed fails same
+
+  pub left_out : (b : Bool) → p x ≡ not b → new ≡ cond b old (old ++ x ∷ []) → new ++ filter p after ≡ whole
+  left_out true fails same = missed fails same
+  left_out false passes push = passed passes push
 
 module _ {S : Type 0} where
   pub shadowed_or : (first second : Option S) → shadowed first second ≡ option_or first second

@@ -188,10 +188,12 @@ impl<K: Ord, S> KeyedState<K, S> {
 impl<K: Codec + Ord, S: Codec> KeyedState<K, S> {
     /// How many keys there are once these, each there once, have a state.
     fn len_with_all(&self, entries: &[(K, S)]) -> Result<usize, NoMemory>
-        ensures { IfOk result (λ len. len ≡ length self.now.entries
+        ensures len { IfOk result (λ len. len ≡ length self.now.entries
             + count_by (λ e. not (has_key K.Ord.cmp self.now.entries e)) entries.now) }
+        // The keys rise.
+        ensures ordered { IsStrictlySortedBy K.Ord.cmp (keys_of self.now.entries) }
     {
-        let mut len = self.len;
+        let mut len = self.len();
         for entry in entries {
             if self.get(&entry.0).is_none() {
                 len = len.checked_add(1).ok_or(NoMemory)?;

@@ -1,6 +1,6 @@
 //! Several entries that are put into a map at once, or none of them.
 
-ghost use Rattle.std.specs.Prelude.{◌≡◌, ◌∷◌, ◌++◌, [], ◌<◌, true, None, not, filter, is_some, length, OnOk, OnErr, IfOk, IsTrue};
+ghost use Rattle.std.specs.Prelude.{◌≡◌, ◌∷◌, ◌++◌, [], ◌<◌, true, None, not, filter, is_some, length, OnOk, OnErr, IfOk, IsTrue, if◌then◌else◌};
 ghost use Rattle.std.specs.List.Sorted.{IsStrictlySortedBy};
 ghost use Rattle.std.specs.Map.{keys_of};
 ghost use Rattle.std.specs.BTreeMap.{insert_entry};
@@ -12,6 +12,26 @@ use abs_codec::{Codec, Map, NoMemory};
 use std::alloc::Global;
 use std::collections::BTreeMap;
 use std::mem::replace;
+
+/// Puts an entry last into one of two lists.
+fn push_into<K: Drop, S: Drop>(
+    is_known: bool,
+    known: &mut Vec<(K, S)>,
+    fresh: &mut Vec<(K, S)>,
+    entry: (K, S),
+) -> Result<(), NoMemory>
+    ensures known { OnOk result (known.new.items
+        ≡ (if is_known then known.old.items ++ entry ∷ [] else known.old.items)) }
+    ensures fresh { OnOk result (fresh.new.items
+        ≡ (if is_known then fresh.old.items else fresh.old.items ++ entry ∷ [])) }
+{
+    if is_known {
+        known.push(entry)?;
+        return Ok(());
+    }
+    fresh.push(entry)?;
+    Ok(())
+}
 
 /// Those of these entries whose key is in the map, and the others.
 pub(crate) fn split<K: Ord + Drop, S: Drop>(
@@ -27,11 +47,8 @@ pub(crate) fn split<K: Ord + Drop, S: Drop>(
     let mut known = Vec::new(alloc);
     let mut fresh = Vec::new(alloc);
     for (key, state) in entries {
-        if map.contains_key(&key) {
-            known.push((key, state))?;
-        } else {
-            fresh.push((key, state))?;
-        }
+        let is_known = map.contains_key(&key);
+        push_into(is_known, &mut known, &mut fresh, (key, state))?;
     }
     Ok((known, fresh))
 }
