@@ -221,24 +221,31 @@ module _ {R K S O : Type 0} (meaning : Meaning R K S O) (cmp : K → K → Order
   pub all_is_each : (turn : Turn R K S) (turns : List (Turn R K S)) (old new : Held R K S) → channel < length old.logs → StandFirst channel (rows_of (turn ∷ turns)) old → OperatesAll meaning cmp graph task input channel (turn ∷ turns) old new →
       OperatesEach meaning cmp graph task input channel (turn ∷ turns) old new
   all_is_each turn [] old new within first all =
-      let only = append-nil turn.sent in
-      (new, (stands turn [] old first).0, record {
-        entries = all.entries;
-        kept = all.kept;
-        was = all.was;
-        keeps = all.keeps;
-        puts = subst (λ (sent : List (ℕ × R)). Puts (items_for meaning task graph sent) (without_head channel old.channels) new.channels) only all.puts;
-        ends = all.ends ∙ ap (λ (l : List (List R)). record old { tasks = slice_set old.tasks task (holds.Operator all.kept); channels = new.channels; logs = l }) (log_one (is_logged (gate_at old task) input) channel turn.row old.logs);
-      }, refl)
+      let only = append-nil turn.sent in (
+        new,
+        (stands turn [] old first).0,
+        record {
+          entries = all.entries;
+          kept = all.kept;
+          was = all.was;
+          keeps = all.keeps;
+          puts = subst (λ (sent : List (ℕ × R)). Puts (items_for meaning task graph sent) (without_head channel old.channels) new.channels) only all.puts;
+          ends = all.ends ∙ ap (λ (l : List (List R)). record old { tasks = slice_set old.tasks task (holds.Operator all.kept); channels = new.channels; logs = l }) (log_one (is_logged (gate_at old task) input) channel turn.row old.logs);
+        },
+        refl,
+      )
   all_is_each turn (other ∷ others) old new within first all =
       let next = next_held turn old all.entries in
       let behind = stands turn (other ∷ others) old first in
       let still : channel < length next.logs = omega (arith, within, log_length (is_logged (gate_at old task) input) channel turn.row old.logs) in
       let first_then =
-          ap (take (length (rows_of (other ∷ others)))) (input_next turn (other ∷ others) old new all)
-          ∙ take-append-le (length (rows_of (other ∷ others))) (drop 1 (items_at old.channels channel)) (one_sent turn old all.entries channel) behind.2 ∙ behind.1 in
-      (next, behind.0, one_operates turn old all.entries (other ∷ others) new all.was all.puts,
-      all_is_each other others next new still first_then (others_operate turn (other ∷ others) old new within first all))
+      ap (take (length (rows_of (other ∷ others)))) (input_next turn (other ∷ others) old new all)
+      ∙ take-append-le (length (rows_of (other ∷ others))) (drop 1 (items_at old.channels channel)) (one_sent turn old all.entries channel) behind.2 ∙ behind.1 in (
+        next,
+        behind.0,
+        one_operates turn old all.entries (other ∷ others) new all.was all.puts,
+        all_is_each other others next new still first_then (others_operate turn (other ∷ others) old new within first all),
+      )
 
   pub all_are_each : (turns : List (Turn R K S)) (old new : Held R K S) → 0 < length turns → channel < length old.logs → StandFirst channel (rows_of turns) old → OperatesAll meaning cmp graph task input channel turns old new → OperatesEach meaning cmp graph task input channel turns old new
   all_are_each [] old new some within first all = absurd (omega (arith, some))

@@ -17,8 +17,8 @@ mod openings;
 mod records;
 mod sending;
 mod spelling;
-mod task;
 mod taking;
+mod task;
 mod tasks;
 
 pub use attempt::Attempt;

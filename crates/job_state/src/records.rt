@@ -112,9 +112,22 @@ impl<O: Operator> Attempt<O> {
         }
         let logged = is_logged(&self.gates, task, input);
         reserve_log(&mut self.logs, channel, logged, count)?;
-        let deliveries = reserve_deliveries::<O>(self.alloc, &mut self.channels, graph, task, sent)?;
+        let deliveries = reserve_deliveries::<O>(
+            self.alloc,
+            &mut self.channels,
+            graph,
+            task,
+            sent,
+        )?;
         keep_all(&mut self.tasks, task, states)?;
-        pass_on_all(&mut self.channels, &mut self.logs, channel, logged, count, deliveries);
+        pass_on_all(
+            &mut self.channels,
+            &mut self.logs,
+            channel,
+            logged,
+            count,
+            deliveries,
+        );
         Ok(())
     }
 
