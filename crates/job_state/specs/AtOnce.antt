@@ -1,5 +1,5 @@
 -- Several records of one input, worked at once.
-use Rattle.std.specs.Prelude.{◌≡◌, ℕ, Bool, true, false, List, [], ◌++◌, map, drop, length, slice_get, slice_set, Option, Some, unwrap_or}
+use Rattle.std.specs.Prelude.{◌≡◌, ℕ, Bool, true, false, List, [], ◌++◌, map, drop, length, slice_get, slice_set, Some, unwrap_or}
 use Rattle.std.specs.Option.{option_or}
 use Rattle.std.specs.declared.cmp.Ordering.{Ordering}
 use Rattle.abs_codec.specs.Entries.{value_at}

@@ -1,4 +1,4 @@
-use Rattle.std.proofs.Common.{ℕ, refl, arith}
+use Rattle.std.proofs.Common.{refl, arith}
 use Rattle.job_state.specs.AtOnce.{without_first}
 use Rattle.job_state.specs.Sending.{put_into, contents_items}
 use Rattle.job_state.proofs.Putting.{puts_from}

@@ -1,8 +1,8 @@
-use Rattle.std.proofs.Common.{◌≡◌, ◌<◌, ◌≤◌, List, ℕ, length, not, refl, sym, subst, ap, ◌∙◌, arith, take, map}
+use Rattle.std.proofs.Common.{◌≡◌, ◌<◌, ℕ, length, not, refl, subst, ap, ◌∙◌, arith, take, map}
 use Rattle.std.proofs.lemmas.List.{length-map}
 use Rattle.channels.specs.declared.item.Item.TheVariants.{Record}
 use Rattle.job_state.specs.AtOnce.{log_with_all}
-use Rattle.job_state.specs.Inside.{came_of, records_of}
+use Rattle.job_state.specs.Inside.{records_of}
 use Rattle.job_state.specs.Sending.{contents_items, items_at}
 use Rattle.job_state.proofs.AtOnce.{there, taken_none, logged_none, taken_more, taken_is, logged_more, logged_all}
 use Rattle.job_state.proofs.taking.take_all.Goals as goal

@@ -1,4 +1,4 @@
-use Rattle.std.proofs.Common.{List, not, filter, ap, sym, subst, ◌∙◌}
+use Rattle.std.proofs.Common.{not, filter, ap, sym, subst, ◌∙◌}
 use Rattle.keyed_state.specs.Overlay.{put_over}
 use Rattle.keyed_state.specs.Putting.{has_key, AllKnown, AllNew}
 use Rattle.keyed_state.proofs.Several.{all_new, all_known, kept_by_all, parted}

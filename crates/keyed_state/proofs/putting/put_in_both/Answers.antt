@@ -1,4 +1,4 @@
-use Rattle.std.proofs.Common.{List, length, ap, sym, subst, ◌∙◌, not, filter}
+use Rattle.std.proofs.Common.{length, ap, sym, subst, ◌∙◌, not, filter}
 use Rattle.std.specs.List.Sorted.{IsStrictlySortedBy}
 use Rattle.std.specs.Map.{keys_of}
 use Rattle.keyed_state.specs.Overlay.{put_over}

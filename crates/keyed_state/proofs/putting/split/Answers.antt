@@ -1,4 +1,4 @@
-use Rattle.std.proofs.Common.{List, ◌++◌, not, filter, ap, sym, ◌∙◌}
+use Rattle.std.proofs.Common.{◌++◌, not, filter, ap, sym, ◌∙◌}
 use Rattle.std.specs.Vec.Iter.{into_iter_items}
 use Rattle.keyed_state.specs.Putting.{has_key}
 use Rattle.keyed_state.proofs.Several.{taken_first, gone_in, left_out}

@@ -1,4 +1,3 @@
-use Rattle.std.proofs.Common.{List}
 use Rattle.keyed_state.specs.Putting.{taken_out}
 use Rattle.keyed_state.proofs.Several.{last_out}
 use Rattle.keyed_state.proofs.putting.take_out.Goals as goal
