@@ -153,13 +153,13 @@ Has cmp entries place = value_at cmp entries place.0 ≡ place.1
 module _ {K S : Type 0} {cmp : K → K → Ordering} (exact : OrderIsExact cmp) (entries : List (K × S)) where
   pub same_by_place : (states : List (K × Option S)) → All (Has cmp entries) states → AreStatesOf cmp entries states
   same_by_place [] all key state found = absurd cc
-  same_by_place (e ∷ states) all key state found = by (is_at (cmp key) e.0) refl found
+  same_by_place (e ∷ states) all key state found = by (is_at (cmp key) e.0) refl found (same_by_place states (All-tail (Has cmp entries) e states all) key state)
     where
-      by : (b : Bool) → is_at (cmp key) e.0 ≡ b → cond b (Some e.1) (value_at cmp states key) ≡ Some state → value_at cmp entries key ≡ state
-      by true is at =
+      by : (b : Bool) → is_at (cmp key) e.0 ≡ b → cond b (Some e.1) (value_at cmp states key) ≡ Some state → (value_at cmp states key ≡ Some state → value_at cmp entries key ≡ state) → value_at cmp entries key ≡ state
+      by true is at rest =
           let one = exact key e.0 ((Equal-is (cmp key e.0)).0 is) in
           ap (value_at cmp entries) one ∙ All-head (Has cmp entries) e states all ∙ (let same : e.1 ≡ state = cc in same)
-      by false is at = same_by_place states (All-tail (Has cmp entries) e states all) key state at
+      by false is at rest = rest at
 
   pub place_by_place : (states : List (K × Option S)) → All (λ e. value_at cmp states e.0 ≡ Some e.1) states → AreStatesOf cmp entries states → All (Has cmp entries) states
   place_by_place states found same i d less = same _ _ (found i d less)
