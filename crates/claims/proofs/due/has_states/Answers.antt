@@ -25,9 +25,10 @@ returns-then-not-has_state g c = λ entries held.
     let before = c.loop-key.key-iterator in
     let after = c.next.new.self in
     let turn = rest_more deref_pair before after c.next.result (c.in-Some.key, c.in-Some.state) c.in-Some.is c.next.ensures.steps in
-    let x = deref_pair (c.in-Some.key, c.in-Some.state) in
-    let here = λ same. some_here (Has g.O.Key.Ord.cmp entries) all before after x turn (c.loop-key.invariant.some entries held) (place_by_place g.met.O.Operator.key_is_exact entries all c.iter-key-items.ensures.found same) in
-    (λ e. absurd (false≢true e), λ same. absurd (false≢true (sym c.if-not-has_state.true ∙ (c.has_state.ensures entries held).1 (here same))))
+    let x = deref_pair (c.in-Some.key, c.in-Some.state) in (
+      λ e. absurd (false≢true e),
+      λ same. absurd (false≢true (sym c.if-not-has_state.true ∙ (c.has_state.ensures entries held).1 (some_here (Has g.O.Key.Ord.cmp entries) all before after x turn (c.loop-key.invariant.some entries held) (place_by_place g.met.O.Operator.key_is_exact entries all c.iter-key-items.ensures.found same)))),
+    )
 
 pub returns : goal.returns
 returns g c = λ entries held.
