@@ -1,7 +1,6 @@
 -- An operator that works several records makes as many plain steps.
-use Rattle.std.proofs.Common.{◌≡◌, Some, Ok, slice_get, length, ℕ, List, [], ◌∷◌, refl, sym, ap, subst, ◌∙◌}
-use Rattle.std.proofs.lemmas.Option.{MatchOption-at_some}
-use Rattle.dataflow_model.specs.Machine.{Configuration, Move, Reaches, Work}
+use Rattle.std.proofs.Common.{◌≡◌, Some, Result, Ok, Err, slice_get, length, ℕ, List, [], ◌∷◌, refl, subst}
+use Rattle.dataflow_model.specs.Machine.{Move, Work}
 use Rattle.job_graph.specs.declared.role.Role.TheVariants as role
 use Rattle.job_state.specs.Held.{Held}
 use Rattle.engine_model.specs.Batch.{OperatesOn}
@@ -9,11 +8,11 @@ use Rattle.engine_model.specs.Calls.{input_at}
 use Rattle.engine_model.specs.Keeps.{Keeps}
 use Rattle.engine_model.specs.Language.{Language}
 use Rattle.engine_model.specs.State.{State}
-use Rattle.engine_model.specs.View.{job_of}
+use Rattle.engine_model.specs.declared.fault.CoreFault.{CoreFault}
 use Rattle.engine_model.proofs.Calls.Goes.{KeepsAndGoes}
 use Rattle.engine_model.proofs.Calls.Operates.{GoesOn, keeps_operate}
 use Rattle.engine_model.proofs.Calls.Steps.{after}
-use Rattle.engine_plain.specs.Plain.{StandsFor, StepsBy, StepsOften, Stays}
+use Rattle.engine_plain.specs.Plain.{StandsFor, StepsBy, StepsOften, StepsIfOk, StepsOftenIfOk}
 use Rattle.engine_plain.proofs.PlainWorks.{plain_operate}
 use Rattle.engine_plain.proofs.Stands.{stays_refused}
 
@@ -28,6 +27,10 @@ module _ {R K S O : Type 0} (lang : Language R K S O) (move : Move) (old new : S
   once_often often at stands =
       let all = often at stands in
       (all.1.0, all.1.1, subst (StandsFor lang new) all.1.2 all.2)
+
+  pub often_once_if_ok : {T : Type 0} (result : Result T CoreFault) → StepsIfOk result lang move old new → StepsOftenIfOk result 1 lang move old new
+  often_once_if_ok (Ok v) steps = often_once steps
+  often_once_if_ok (Err fault) stays = stays
 
 module _ {R K S O : Type 0} (lang : Language R K S O) (RecordFits : R → Type 0) (IsGood : O → S → Type 0) (n task number input channel : ℕ) (operator : O) (goes_on : GoesOn lang RecordFits IsGood operator) where
   pub plain_operates_on : (rows : List R) (s : State O R K S) (h k : Held R K S) → Keeps lang RecordFits IsGood s → s.held ≡ Some h → slice_get s.graph.tasks task ≡ Some (role.Operator number)

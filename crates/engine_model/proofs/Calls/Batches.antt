@@ -1,9 +1,10 @@
 -- An operator works several records, one after another.
-use Rattle.std.proofs.Common.{◌≡◌, Option, Some, Ok, slice_get, ℕ, List, [], ◌∷◌, refl}
+use Rattle.std.proofs.Common.{◌≡◌, Option, Some, Ok, slice_get, length, ℕ, List, [], ◌∷◌, refl, sym, subst, arith}
+use Rattle.job_graph.specs.Expanded.{Expanded}
 use Rattle.job_graph.specs.declared.role.Role.TheVariants as role
 use Rattle.job_state.specs.Held.{Held}
 use Rattle.engine_model.specs.Batch.{OperatesOn}
-use Rattle.engine_model.specs.Calls.{input_at}
+use Rattle.engine_model.specs.Calls.{input_at, OperatesNext}
 use Rattle.engine_model.specs.Keeps.{Keeps}
 use Rattle.engine_model.specs.Language.{Language}
 use Rattle.engine_model.specs.State.{State}
@@ -22,3 +23,10 @@ module _ {R K S O : Type 0} (lang : Language R K S O) (RecordFits : R → Type 0
       let first : KeepsAndGoes lang RecordFits IsGood s middle = keeps_operate lang RecordFits IsGood s h e.0 n task number input channel operator keeps was at_task op goes_on leads (Ok tt) e.1 in
       let rest = keeps_operates_on rows middle e.0 k first.0 refl at_task op leads e.3 in
       (rest.0, calls.goes_on lang s (Some e.0) s.stored s.ledger n (after lang s s.ledger (Some k) n) first.1 rest.1)
+
+-- one record is one step
+module _ {R K S O : Type 0} (lang : Language R K S O) (operator : O) (graph : Expanded) (task input channel : ℕ) (h k : Held R K S) where
+  pub operates_once : (rows : List R) → length rows ≡ 1 → OperatesOn lang operator graph task input channel rows h k → OperatesNext graph task h k input channel lang operator
+  operates_once [] one e = absurd (omega arith)
+  operates_once (row ∷ []) one e = subst (λ (x : Held R K S). OperatesNext graph task h x input channel lang operator) (sym e.3) e.1
+  operates_once (row ∷ other ∷ rows) one e = absurd (omega arith)
