@@ -58,7 +58,7 @@ impl<O: Operator, S: SnapshotStore, X: Transactions, P: Partitions<Record = O::R
         if is_busy(&self.claims, task) {
             return Err(CoreFault::Busy);
         }
-        let offered = self.engine.offer(task, input, most);
+        let offered = self.engine.offer(task, input, most as usize);
         if self.serials >= SERIALS {
             return spent(offered);
         }

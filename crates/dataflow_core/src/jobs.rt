@@ -52,7 +52,7 @@ impl<O: Operator> Job<O> {
     pub fn records(&self) -> u64
         ensures { result ≡ records_of self.now.work }
     {
-        self.work.records()
+        self.work.records() as u64
     }
 
     /// Does the work. It waits for nobody, and touches nothing shared. What is done is of the same
@@ -95,6 +95,6 @@ impl<O: Operator> Done<O> {
     pub fn records(&self) -> u64
         ensures { result ≡ records_of (given_of self.now.worked) }
     {
-        self.worked.records()
+        self.worked.records() as u64
     }
 }

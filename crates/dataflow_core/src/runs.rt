@@ -1,6 +1,6 @@
 //! Steps, one and many.
 
-ghost use Rattle.std.specs.Prelude.{◌≡◌, [], IfOk, IfErr};
+ghost use Rattle.std.specs.Prelude.{◌≡◌, ◌<◌, [], IfOk, IfErr};
 ghost use Rattle.std.specs.List.{AllByRecursion};
 ghost use Rattle.engine_model.specs.declared.fault.CoreFault.TheVariants as CoreFault;
 ghost use Rattle.engine_model.specs.ExactlyOnce.{IsExactlyOnce};
@@ -117,10 +117,10 @@ impl<O: Operator, S: SnapshotStore, X: Transactions, P: Partitions<Record = O::R
         }
     }
 
-    /// Makes one call. What is appended has to fit, as `append` asks, and a claim asks for a record at
-    /// least, as `claim_some` wants it. A record that finds no memory
-    /// for its copy is answered as `append` would, and a claim for which the desk finds none as
-    /// `claim` would; then nothing has changed.
+    /// Makes one call. What is appended has to fit, as `append` asks, and a claim is for one record
+    /// at least, as `claim_some` asks. A record that finds no memory for its copy is answered as
+    /// `append` would, and a claim for which the desk finds none as `claim` would; then nothing has
+    /// changed.
     pub fn step(&mut self, desk: &mut Desk<O>, step: &Step<O::Record>) -> Reply
         requires { StepFits ⟦<O as Rules>⟧.RecordFits step.now }
         ensures ends { EndsStep ⟦<O as Rules>⟧.lang ⟦<O as Rules>⟧.KeyFits ⟦<O as Rules>⟧.RecordFits

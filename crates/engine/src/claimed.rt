@@ -59,7 +59,7 @@ impl<O: Operator, S: SnapshotStore, X: Transactions, P: Partitions<Record = O::R
 
     /// Offers the work that a task is to do at an input now, of so many records at most, and
     /// changes nothing.
-    pub fn offer(&self, task: u32, input: u32, most: u32) -> Result<Work<O>, CoreFault>
+    pub fn offer(&self, task: u32, input: u32, most: usize) -> Result<Work<O>, CoreFault>
         requires { 0 < most }
         ensures { MatchOption self.now.held (result ≡ Err CoreFault.NotRunning) (λ h. EndsOffer
             ⟦<O as Rules>⟧.lang self.now.graph self.now.operators task input h most result) }
