@@ -2,7 +2,6 @@
 use Rattle.std.proofs.Common.{◌≡◌, ◌<◌, ◌≤◌, ◌^◌, ℕ, List, [], ◌∷◌, length, take, map, slice_get, Option, Some, None, Result, Ok, Err, IfOk, IfErr, MatchOption, refl, subst, sym, arith}
 use Rattle.channels.specs.declared.item.Item.{Item}
 use Rattle.channels.specs.declared.item.Item.TheVariants.{Record}
-use Rattle.job_state.specs.Batch.{StandFirst}
 use Rattle.job_state.specs.Held.{Held}
 use Rattle.job_state.specs.Sending.{items_at}
 use Rattle.claims.specs.Due.{IsWorker, EndsOffer}

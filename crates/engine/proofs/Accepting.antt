@@ -100,15 +100,15 @@ module _ {R K S O : Type 0} (lang : Language R K S O) (RecordFits : R → Type 0
   refused_stays e n = stays_same lang s (record s { held = left_by result (Some k); ledger = ledger; faults = s.faults }) (λ i. record s { held = same_held e i; ledger = e.2 i })
 
   module _ (goes_on : (operator : O) → GoesOn lang RecordFits IsGood operator) (n : ℕ) where
-    -- so is what is left of records that were worked
-    works_left : (operand : Operand O K S R) → result ≡ Ok tt → ledger ≡ s.ledger → (P : State O R K S → Type 0) → P (after lang s s.ledger (Some k) n) → P (left ledger n)
-    works_left operand is same P p =
+    -- what is left of records that were worked
+    works_left : result ≡ Ok tt → ledger ≡ s.ledger → (P : State O R K S → Type 0) → P (after lang s s.ledger (Some k) n) → P (left ledger n)
+    works_left is same P p =
         subst (λ (x : Result Unit CoreFault). P (record s { held = left_by x (Some k); ledger = ledger; faults = n })) (sym is)
         (subst (λ (l : Ledger). P (record s { held = Some k; ledger = l; faults = n })) (sym same) p)
 
     works_kept : Works lang s.graph s.operators task input h k s.ledger ledger m result → KeepsAndGoes lang RecordFits IsGood s (left ledger n)
     works_kept (operand, of, is, e) =
-        works_left operand is e.stays (KeepsAndGoes lang RecordFits IsGood s)
+        works_left is e.stays (λ (x : State O R K S). KeepsAndGoes lang RecordFits IsGood s x)
         (keeps_operates_on lang RecordFits IsGood n task e.due.number input e.channel operand.operator (goes_on operand.operator) operand.rows.items s h k keeps was e.due.is_operator e.due.same_operator e.due.leads e.works)
 
     -- the plain steps of a call that ends so, by the input's channel
@@ -118,7 +118,7 @@ module _ {R K S O : Type 0} (lang : Language R K S O) (RecordFits : R → Type 0
     works_move : Works lang s.graph s.operators task input h k s.ledger ledger m result → Moves result (input_at s.graph task input)
     works_move (operand, of, is, e) =
         let steps : StepsOften (records_of (given.Operator operand)) lang (Work task e.channel) s (left ledger n) =
-        works_left operand is e.stays (StepsOften (length operand.rows.items) lang (Work task e.channel) s)
+        works_left is e.stays (λ (x : State O R K S). StepsOften (length operand.rows.items) lang (Work task e.channel) s x)
         (plain_operates_on lang RecordFits IsGood n task e.due.number input e.channel operand.operator (goes_on operand.operator) operand.rows.items s h k keeps was e.due.is_operator e.due.same_operator e.due.leads e.works) in
         subst (Moves result) (sym e.due.leads)
         (subst (λ (r : Result Unit CoreFault). Moves r (Some e.channel)) (sym is)
