@@ -13,8 +13,8 @@ use snapshot_store::SnapshotStore;
 use source_log::Partitions;
 use std::sync::ledger::{Book, Ledger, Share};
 
-/// Takes what was done of a job, as the core's own `finish` does, and adds the number of its records
-/// to the share and the book where it is taken.
+/// Takes what was done of a job, as the core's own `finish` does, and adds the number of its
+/// records to the share and the book where it is taken.
 pub fn finish_counted<
     O: Operator,
     S: SnapshotStore,
