@@ -1,5 +1,5 @@
 -- Which work is a task's to do now, and how work is offered and a result is taken.
-use Rattle.std.specs.Prelude.{◌≡◌, ℕ, List, length, min, slice_get, Option, Some, None, Result, Ok, Err}
+use Rattle.std.specs.Prelude.{◌≡◌, ◌<◌, ℕ, List, length, min, slice_get, Option, Some, None, Result, Ok, Err}
 use Rattle.channels.specs.Items.{leading_records}
 use Rattle.commit_sink.specs.Ledger.{Ledger}
 use Rattle.job_graph.specs.Expanded.{Expanded}
@@ -62,9 +62,9 @@ module _ {R K S O : Type 0} (lang : Language R K S O) (graph : Expanded) (operat
   IsDue (given.Operator operand) = (channel : ℕ) × IsOperandDue channel operand
   IsDue (given.Sink row) = (channel : ℕ) × IsRowDue graph task input h channel row
 
-  -- an operator's work takes all records before the first barrier, or so many where there are more
+  -- an operator's work takes all records before the first barrier, or so many where there are more; it takes one at least
   abbrev pub TakesMost : (most : ℕ) → Given O K S R → Type 0
-  TakesMost most (given.Operator operand) = (channel : ℕ) × (input_at graph task input ≡ Some channel) × (length operand.rows.items ≡ min most (length (leading_records (items_at h.channels channel))))
+  TakesMost most (given.Operator operand) = (0 < length operand.rows.items) × ((channel : ℕ) × (input_at graph task input ≡ Some channel) × (length operand.rows.items ≡ min most (length (leading_records (items_at h.channels channel)))))
   TakesMost most (given.Sink row) = Unit {0}
 
   -- the work that is due is offered, of so many records at most
