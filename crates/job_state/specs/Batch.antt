@@ -15,10 +15,11 @@ pub record Turn (R K S : Type 0) : Type 0 where
   pub state : S
   pub sent : List (ℕ × R)
 
--- the states by key once these are kept
-abbrev pub put_all : {K S : Type 0} → (K → K → Bool) → List (K × S) → (K → Option S) → K → Option S
-put_all same_key [] states = states
-put_all same_key (entry ∷ entries) states = put_all same_key entries (kept_under same_key (Some entry.0) entry.1 states)
+module _ {K S : Type 0} where
+  -- the states by key once these are kept
+  abbrev pub put_all : (K → K → Bool) → List (K × S) → (K → Option S) → K → Option S
+  put_all same_key [] states = states
+  put_all same_key (entry ∷ entries) states = put_all same_key entries (kept_under same_key (Some entry.0) entry.1 states)
 
 module _ {R K S : Type 0} where
   -- what all of them send, in order
