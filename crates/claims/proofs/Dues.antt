@@ -1,6 +1,8 @@
 -- Which work is due, as the calls find it.
 use Rattle.std.proofs.Common.{◌≡◌, ◌<◌, ◌≤◌, ◌↔◌, min, take, map, Option, Some, None, IsTrue, IfSome, IfNone, Ok, slice_get, length, unwrap_or, is_some, ℕ, List, refl, sym, ap, subst, ◌∙◌, arith}
+use Rattle.std.specs.List.{All}
 use Rattle.std.proofs.lemmas.List.{length-take-le}
+use Rattle.std.proofs.lemmas.List.Elements.{All-take}
 use Rattle.std.proofs.lemmas.Option.{slice_get_within}
 use Rattle.abs_codec.specs.Entries.{value_at}
 use Rattle.channels.specs.Items.{leading_records}
@@ -14,18 +16,19 @@ use Rattle.job_state.specs.Batch.{Turn, OperatesEach}
 use Rattle.job_state.specs.Held.{Held, gate_at}
 use Rattle.job_state.specs.Sending.{items_at}
 use Rattle.job_state.specs.declared.holding.Holding.TheVariants as holds
-use Rattle.engine_model.specs.Calls.{input_at, IsBlocked}
-use Rattle.engine_model.specs.Keeps.{GateFits}
+use Rattle.engine_model.specs.Calls.{input_at, IsBlocked, IsRecordDue}
+use Rattle.engine_model.specs.Keeps.{GateFits, Shape}
 use Rattle.engine_model.specs.Language.{Language}
 use Rattle.engine_model.proofs.Shape.Gates.{within_gate}
 use Rattle.engine_model.proofs.Numbers.{none_past, operator_within}
-use Rattle.claims.specs.Carried.{AreStatesOf, IsOperand, turns_given}
-use Rattle.claims.specs.Due.{IsOperandDue, EndsTaking}
+use Rattle.claims.specs.Carried.{AreStatesOf, IsCarried, IsOperand, turns_given}
+use Rattle.claims.specs.Due.{IsOperandDue, EndsOffer, EndsTaking}
 use Rattle.claims.specs.declared.parts.Operand.{Operand}
+use Rattle.claims.specs.declared.parts.Given.{Given}
 use Rattle.claims.specs.declared.parts.Given.TheVariants as given
 use Rattle.claims.proofs.InTurn.{worked_in_turn}
-use Rattle.claims.proofs.Leading.{stand_taken}
-use Rattle.claims.proofs.Working.{worked_same}
+use Rattle.claims.proofs.Leading.{leading_fit, leads_first, stand_taken}
+use Rattle.claims.proofs.Working.{carried_whole, worked_same}
 
 -- something is found exactly where something is there
 pub found_where : (P : ℕ → Type 0) (o : Option ℕ) → IfSome o P → IfNone o ((n : ℕ) → ¬ P n) → IsTrue (is_some o) ↔ ((n : ℕ) × P n)
@@ -68,6 +71,30 @@ module _ {R K S O : Type 0} (lang : Language R K S O) (graph : Expanded) (operat
   takes_most count most rows some all is =
       let long = ap (λ (rs : List R). length rs) is ∙ length-take-le (min count most) (leading_records (items_at h.channels channel)) (omega arith) in
       omega arith
+
+  module _ (number : ℕ) (entries : List (K × S)) (operator : O) (count most : ℕ) (p : Operand O K S R) (row : R) (at : slice_get graph.tasks task ≡ Some (role.Operator number)) (op : slice_get operators number ≡ Some operator) (was : slice_get h.tasks task ≡ Some (holds.Operator entries))
+      (due : IsRecordDue task input h channel row) (o : p.operator ≡ operator) (all : count ≡ length (leading_records (items_at h.channels channel))) (some : 0 < most) (rows : p.rows.items ≡ take (min count most) (leading_records (items_at h.channels channel)))
+      (carried : IsCarried lang.meaning lang.cmp entries p) where
+    -- a record is carried at least
+    one_at_least : 0 < length p.rows.items
+    one_at_least =
+        let lead = leads_first (items_at h.channels channel) row due.1 in
+        let long = takes_most count most p.rows.items some all rows in
+        omega arith
+
+    -- what is carried is offered
+    pub offered : input_at graph task input ≡ Some channel → (work : Given O K S R) → work ≡ given.Operator p → EndsOffer lang graph operators task input h most (Ok work)
+    offered leads work is =
+        subst (λ (g : Given O K S R). EndsOffer lang graph operators task input h most (Ok g)) (sym is) (
+          (channel, copied_due number entries operator (min count most) p at op leads due.0 was o (omega arith) rows carried.same),
+          (one_at_least, (channel, leads, takes_most count most p.rows.items some all rows)),
+        )
+
+    -- and is whole
+    pub offered_whole : (RecordFits : R → Type 0) (IsGood : O → S → Type 0) → Shape lang.cmp RecordFits IsGood graph operators h → IsOperand lang.meaning lang.cmp RecordFits IsGood p
+    offered_whole RecordFits IsGood shape =
+        carried_whole lang.meaning lang.cmp RecordFits IsGood entries p carried one_at_least (subst (All RecordFits) (sym rows) (All-take RecordFits (min count most) (leading_records (items_at h.channels channel)) (leading_fit RecordFits (items_at h.channels channel) (shape.fit channel))))
+        (λ key state found. subst (λ (x : O). IsGood x state) (sym o) (shape.good task number operator entries key state at op was found))
 
   -- what was made of work that is due is what the operator would make, step by step
   pub takes_outcomes : (RecordFits : R → Type 0) (IsGood : O → S → Type 0) (k : Held R K S) (ledger : Ledger) (p : Operand O K S R) → IsOperandDue lang graph operators task input h channel p → IsOperand lang.meaning lang.cmp RecordFits IsGood p

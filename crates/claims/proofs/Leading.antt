@@ -1,6 +1,8 @@
 -- The records that lead a channel, and the items that stand first.
-use Rattle.std.proofs.Common.{◌≡◌, ◌<◌, ◌≤◌, ◌+◌, ℕ, zero, suc, List, [], ◌∷◌, length, map, take, Option, Some, None, slice_get, refl, sym, ap, subst, ◌∙◌, arith}
+use Rattle.std.proofs.Common.{◌≡◌, ◌<◌, ◌≤◌, ◌+◌, ◌++◌, ℕ, zero, suc, List, [], ◌∷◌, length, map, take, Option, Some, None, slice_get, refl, sym, ap, subst, ◌∙◌, arith}
 use Rattle.std.specs.List.{All}
+use Rattle.std.proofs.lemmas.List.{take_more}
+use Rattle.std.proofs.lemmas.Option.{get_or_from_slice_get, slice_get_within}
 use Rattle.std.proofs.lemmas.List.Elements.{All-nil, All-cons, All-head, All-tail}
 use Rattle.channels.specs.Items.{leading_records}
 use Rattle.channels.specs.declared.item.Item.{Item}
@@ -57,3 +59,8 @@ module _ {R : Type 0} where
   leading_fit P [] all = All-nil P
   leading_fit P (Barrier n ∷ items) all = All-nil P
   leading_fit P (Record r ∷ items) all = All-cons P r (leading_records items) (All-head (IfRecord P) (Record r) items all) (leading_fit P items (All-tail (IfRecord P) (Record r) items all))
+
+  -- a record more is taken
+  pub taken_more : (leading old new : List R) (row : R) (i : ℕ) → slice_get leading i ≡ Some row → old ≡ take i leading → new ≡ old ++ row ∷ [] → new ≡ take (i + 1) leading
+  taken_more leading old new row i at was is =
+      is ∙ ap (λ (xs : List R). xs ++ row ∷ []) was ∙ ap (λ (r : R). take i leading ++ r ∷ []) (sym (get_or_from_slice_get leading i row row at)) ∙ sym (take_more leading i row (slice_get_within leading i row at))

@@ -10,7 +10,7 @@ use Rattle.std.proofs.lemmas.Map.{NonePasses, lookup-none}
 use Rattle.std.proofs.lemmas.Map.Entries.{none_past_head}
 use Rattle.std.proofs.lemmas.Map.Keys.{IsDistinct-from_sorted}
 use Rattle.std.proofs.lemmas.List.{append-nil}
-use Rattle.std.proofs.lemmas.List.Elements.{All-head, All-tail, All-push, All-weaker}
+use Rattle.std.proofs.lemmas.List.Elements.{All-nil, All-head, All-tail, All-push, All-weaker}
 use mathlib.Core.Path.{fun_ext}
 use Rattle.abs_codec.specs.Entries.{value_at}
 use Rattle.dataflow_model.specs.Graph.{Meaning}
@@ -238,3 +238,15 @@ module _ {R K S O : Type 0} (meaning : Meaning R K S O) (cmp : K → K → Order
             (subst (All Keyed) (sym rows) (All-push Keyed p.rows.items row (All-weaker (HasItsState meaning cmp p.operator p.states) Keyed (λ r h key is. stays key (h key is)) p.rows.items was.keyed) there));
         same = same;
       }
+
+  -- nothing is carried yet
+  pub carried_none : (entries : List (K × S)) (p : Operand O K S R) → p.states ≡ [] → p.rows.items ≡ [] → IsCarried meaning cmp entries p
+  unfolding IsStrictlySortedBy
+  carried_none entries p states rows = record {
+    rising = subst (λ (ss : List (K × Option S)). IsStrictlySortedBy cmp (keys_of ss)) (sym states) tt;
+    keyed = subst (All (HasItsState meaning cmp p.operator p.states)) (sym rows) (All-nil (HasItsState meaning cmp p.operator p.states));
+    same = λ key state found. absurd (none_there key state (ap (λ (ss : List (K × Option S)). value_at cmp ss key) (sym states) ∙ found));
+  }
+    where
+      none_there : (key : K) (state : Option S) → value_at {V = Option S} cmp [] key ≡ Some state → ⊥
+      none_there key state e = cc

@@ -130,7 +130,7 @@ pub(crate) fn operand_channel<O: Operator>(
     input: u32,
     operand: &Operand<O, O::Key, O::State, O::Record>,
 ) -> Option<u32>
-    requires { Shape O.Key.cmp ⟦<O as Rules>⟧.RecordFits ⟦<O as Rules>⟧.IsGood graph.now
+    requires shape { Shape O.Key.cmp ⟦<O as Rules>⟧.RecordFits ⟦<O as Rules>⟧.IsGood graph.now
         operators.now attempt.now }
     ensures some { IfSome result (λ channel. IsOperandDue ⟦<O as Rules>⟧.lang graph.now
         operators.now task input attempt.now channel operand.now) }
@@ -188,7 +188,7 @@ pub(crate) fn is_due<O: Operator>(
     input: u32,
     given: &Given<O, O::Key, O::State, O::Record>,
 ) -> bool
-    requires { Shape O.Key.cmp ⟦<O as Rules>⟧.RecordFits ⟦<O as Rules>⟧.IsGood graph.now
+    requires shape { Shape O.Key.cmp ⟦<O as Rules>⟧.RecordFits ⟦<O as Rules>⟧.IsGood graph.now
         operators.now attempt.now }
     ensures { IsTrue result
         ↔ IsDue ⟦<O as Rules>⟧.lang graph.now operators.now task input attempt.now given.now }

@@ -102,7 +102,8 @@ fn operand_of<O: Operator>(
     channel: u32,
     count: usize,
 ) -> Result<Operand<O, O::Key, O::State, O::Record>, NoMemory>
-    requires { count ≤ length (leading_records (items_at attempt.now.channels channel)) }
+    requires within { count
+        ≤ length (leading_records (items_at attempt.now.channels channel)) }
     ensures operator { IfOk result (λ operand. operand.operator ≡ operator.now) }
     ensures rows { IfOk result (λ operand. operand.rows.items
         ≡ take count (leading_records (items_at attempt.now.channels channel))) }

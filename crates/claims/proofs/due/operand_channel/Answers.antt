@@ -7,7 +7,7 @@ use Rattle.claims.proofs.due.operand_channel.Goals as goal
 pub returns-then-has_states-clause-some : goal.returns-then-has_states-clause-some
 returns-then-has_states-clause-some g c =
     let at = (sym c.role.ensures ∙ (c.in-Some-Operator.is ∙ ap Some c.in-Some-Operator.field-0-is)) in
-    let held = c.requires.forms c.args.task (role.Operator c.in-Some-Operator.number) at in
+    let held = c.requires.shape.forms c.args.task (role.Operator c.in-Some-Operator.number) at in
     record {
       number = c.in-Some-Operator.number;
       entries = held.0;
@@ -21,4 +21,4 @@ returns-then-has_states-clause-some g c =
 
 pub is_blocked-requires : goal.is_blocked-requires
 is_blocked-requires g c =
-    within_gates c.args.graph.now c.args.attempt.now c.requires.gate_fits c.args.task c.args.input c.in-Some.channel (role.Operator c.in-Some-Operator.number) (sym c.role.ensures ∙ (c.in-Some-Operator.is ∙ ap Some c.in-Some-Operator.field-0-is)) (sym c.input_of.ensures ∙ c.in-Some.is)
+    within_gates c.args.graph.now c.args.attempt.now c.requires.shape.gate_fits c.args.task c.args.input c.in-Some.channel (role.Operator c.in-Some-Operator.number) (sym c.role.ensures ∙ (c.in-Some-Operator.is ∙ ap Some c.in-Some-Operator.field-0-is)) (sym c.input_of.ensures ∙ c.in-Some.is)
