@@ -1,0 +1,32 @@
+use Rattle.std.proofs.Common.{◌≡◌, length, map, take, ℕ, List, sym, ap, subst, ◌∙◌}
+use Rattle.job_graph.specs.declared.role.Role.TheVariants as role
+use Rattle.job_state.specs.Batch.{Turn, AreLastStates, StandFirst, rows_of, sent_by}
+use Rattle.engine_model.proofs.Numbers.{channel_in}
+use Rattle.claims.specs.Carried.{states_given}
+use Rattle.claims.proofs.Dues.{within_gates}
+use Rattle.claims.proofs.Turns.{rows_of-turns, length-turns}
+use Rattle.claims.proofs.accepts.operate.Goals as goal
+
+pub operate_some-requires : goal.operate_some-requires
+operate_some-requires g c =
+    let p = c.args.operand in
+    let graph = c.args.graph.now in
+    let attempt = c.args.attempt.now in
+    let shape = c.requires.shape.1 in
+    let due = c.requires.shape.2 in
+    let made = c.requires.outcomes in
+    let meaning = g.O.Operator.meaning in
+    let given = states_given g.O.Key.Ord.cmp p.states in
+    let is = c.requires.turns in
+    let rows : p.rows.items ≡ rows_of g.turns = sym (ap (λ (ts : List (Turn g.row.O-Record.Denot g.row.O-Key.Denot g.row.O-State.Denot)). rows_of ts) is ∙ rows_of-turns meaning p.operator p.rows.items given) in
+    record {
+      holds = (due.entries, due.was);
+      within = within_gates graph attempt shape.gate_fits c.args.task c.args.input c.args.channel (role.Operator due.number) due.is_operator due.leads;
+      logs = channel_in graph c.args.task c.args.input c.args.channel attempt.logs due.leads shape.logs;
+      channels = shape.channels;
+      counted = c.len-count.ensures ∙ sym (ap (λ (ts : List (Turn g.row.O-Record.Denot g.row.O-Key.Denot g.row.O-State.Denot)). length ts) is ∙ length-turns meaning p.operator p.rows.items given);
+      first = subst (λ rs. StandFirst c.args.channel rs attempt) rows due.first.1;
+      rising = made.rising;
+      states = subst (λ ts. AreLastStates meaning.same_key ts c.args.outcomes.states.items) (sym is) made.last;
+      sent = made.sent ∙ sym (ap (λ (ts : List (Turn g.row.O-Record.Denot g.row.O-Key.Denot g.row.O-State.Denot)). sent_by ts) is);
+    }
