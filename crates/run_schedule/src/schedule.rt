@@ -40,17 +40,33 @@ pub(crate) struct Node {
     pub(crate) inputs: Inputs,
     /// The ends of the channels that it sends on.
     pub(crate) ends: Vec<Place>,
-    /// How often it has sent since the ends were marked.
+    /// So many records that it sends are about one for each end.
+    pub(crate) spread: usize,
+    /// How many records it has worked or read since the ends were marked.
     pub(crate) sent: usize,
     /// Whether it holds a claim.
     pub(crate) is_busy: bool,
     /// Whether a source sends to it.
     pub(crate) is_fed: bool,
+    /// Whether it takes one record at a time, whatever the batch is.
+    pub(crate) is_sink: bool,
+}
+
+impl Node {
+    /// After so many records the ends are marked: about a batch for each, and no fewer than there
+    /// are ends, so that a mark costs the same however many there are.
+    fn enough(&self, batch: usize) -> usize {
+        self.ends.len().max(self.spread.saturating_mul(batch))
+    }
 }
 
 /// So many records are read ahead of the claims that are held, until a task that sources send to
 /// has been found without a record.
-const MOST_AHEAD: u32 = 64;
+const MOST_AHEAD: usize = 64;
+
+/// Where claims are of several records, so many batches are read ahead for each channel that a
+/// source sends on, if that is more.
+const BATCHES_AHEAD: usize = 4;
 
 /// What may have something, so that the next step is found in the same time whatever the number of
 /// tasks and channels. The task that stands furthest downstream comes first, so channels stay
@@ -64,7 +80,8 @@ pub struct Schedule {
     all_sources: Vec<u32>,
     /// The ranks of tasks that hold no claim and have an input that may have something.
     ready: RankSet,
-    /// The ranks of tasks that have sent since the ends of their channels were marked.
+    /// The ranks of tasks that have sent since the ends of their channels were marked, and too few
+    /// records to mark them again.
     senders: RankSet,
     /// The sources that may have a record, in turn.
     sources: VecDeque<u32>,
@@ -73,11 +90,15 @@ pub struct Schedule {
     claims: u64,
     /// How many records were read while claims were held, since a task that sources send to had
     /// none.
-    ahead: u32,
-    /// How many finishes come between triggers: 0 for any number.
+    ahead: usize,
+    /// How many may be.
+    most_ahead: usize,
+    /// A claim takes so many records at most.
+    batch: u32,
+    /// How many records are worked between triggers: 0 for any number.
     every: u64,
-    /// How many came since the last one.
-    finishes: u64,
+    /// How many were since the last one.
+    finished: u64,
     /// Whether a restart comes next.
     is_down: bool,
     /// Whether every input was marked since a step was last made.
@@ -105,8 +126,10 @@ impl Schedule {
             round,
             claims: 0,
             ahead: 0,
+            most_ahead: MOST_AHEAD,
+            batch: 1,
             every: 0,
-            finishes: 0,
+            finished: 0,
             is_down: true,
             is_searched: false,
             is_last: false,
@@ -114,9 +137,30 @@ impl Schedule {
     }
 
     /// A run begins, and a restart comes first.
-    pub(crate) fn begin(&mut self, every: u64) {
+    pub(crate) fn begin(&mut self, every: u64, batch: u32) {
         self.every = every;
+        self.batch = batch;
+        self.most_ahead = self.room_ahead();
         self.went_down();
+    }
+
+    /// How many records may be read ahead of the claims that are held.
+    fn room_ahead(&self) -> usize {
+        if self.batch <= 1 {
+            return MOST_AHEAD;
+        }
+        let mut spread: usize = 0;
+        for task in self.all_sources.iter() {
+            let more = self.nodes.get(*task as usize).map_or(0, |node| node.spread);
+            spread = spread.saturating_add(more);
+        }
+        let batches = spread.saturating_mul(BATCHES_AHEAD);
+        MOST_AHEAD.max(batches.saturating_mul(self.batch as usize))
+    }
+
+    /// How many records a claim takes at most.
+    pub(crate) fn batch(&self) -> u32 {
+        self.batch
     }
 
     /// The job is down.
@@ -152,7 +196,7 @@ impl Schedule {
     }
 
     fn is_due(&self) -> bool {
-        self.every > 0 && self.finishes >= self.every && self.round.is_none()
+        self.every > 0 && self.finished >= self.every && self.round.is_none()
     }
 
     /// A step that takes a record or a barrier, or finds out where one is.
@@ -160,7 +204,7 @@ impl Schedule {
         if let Some(place) = self.next_input() {
             return Some(Step::Work(place));
         }
-        if self.claims > 0 && self.ahead >= MOST_AHEAD {
+        if self.claims > 0 && self.ahead >= self.most_ahead {
             return None;
         }
         if let Some(task) = self.sources.front() {
@@ -212,7 +256,7 @@ impl Schedule {
         self.is_down = false;
         self.claims = 0;
         self.ahead = 0;
-        self.finishes = 0;
+        self.finished = 0;
         self.round.clear();
         for node in self.nodes.iter_mut() {
             node.is_busy = false;
@@ -295,14 +339,15 @@ impl Schedule {
         }
     }
 
-    /// A task may have sent. The ends of its channels are marked once it has sent as often as it
-    /// has channels, so that a mark costs the same however many there are.
-    fn sent(&mut self, task: u32) {
+    /// A task may have sent for so many records. The ends of its channels are marked once there may
+    /// be a batch at each.
+    fn sent(&mut self, task: u32, records: u32) {
+        let batch = self.batch as usize;
         let Some(node) = self.nodes.get_mut(task as usize) else {
             return;
         };
-        node.sent = node.sent.saturating_add(1);
-        if node.sent >= node.ends.len() {
+        node.sent = node.sent.saturating_add(records as usize);
+        if node.sent >= node.enough(batch) {
             self.mark_ends(task);
         } else {
             let rank = node.rank;
@@ -310,26 +355,27 @@ impl Schedule {
         }
     }
 
-    /// A task has taken a record from its first input.
-    pub(crate) fn worked(&mut self, task: u32) {
+    /// A task has worked the records of its claim.
+    pub(crate) fn worked(&mut self, task: u32, records: u32) {
         self.moved();
-        self.finishes = self.finishes.saturating_add(1);
-        if let Some(node) = self.nodes.get_mut(task as usize) {
-            node.inputs.turn();
-        }
-        self.judge(task);
-        self.sent(task);
+        self.finished = self.finished.saturating_add(records as u64);
+        self.sent(task, records);
     }
 
     /// A task's first input has nothing.
     pub(crate) fn had_nothing(&mut self, task: u32) {
+        self.drop_first(task);
+        self.judge(task);
+    }
+
+    /// A task's first input has nothing, or nothing any more.
+    fn drop_first(&mut self, task: u32) {
         if let Some(node) = self.nodes.get_mut(task as usize) {
             node.inputs.drop_first();
             if node.is_fed {
                 self.ahead = 0;
             }
         }
-        self.judge(task);
     }
 
     /// A task's first input waits for the barriers of others.
@@ -348,7 +394,7 @@ impl Schedule {
         }
         if let Some(task) = self.sources.pop_front() {
             let _ = self.sources.push_back(task);
-            self.sent(task);
+            self.sent(task, 1);
         }
     }
 
@@ -359,7 +405,7 @@ impl Schedule {
 
     /// A checkpoint is pending: a new one, or one that others have begun.
     pub(crate) fn triggered(&mut self, is_new: bool) {
-        self.finishes = 0;
+        self.finished = 0;
         self.is_searched = false;
         self.round.begin(&self.all_sources);
         if !is_new {
@@ -429,10 +475,25 @@ impl Schedule {
         self.round.is_pending()
     }
 
-    /// A task holds a claim.
-    pub(crate) fn claimed(&mut self, task: u32) {
+    /// A task holds a claim of so many records of its first input, which comes last now. It is left
+    /// out where the claim has all that it had, and no barrier may follow.
+    pub(crate) fn claimed(&mut self, task: u32, records: u32) {
         self.claims = self.claims.saturating_add(1);
+        if self.takes_all(task, records) {
+            self.drop_first(task);
+        } else if let Some(node) = self.nodes.get_mut(task as usize) {
+            node.inputs.turn();
+        }
         self.set_busy(task, true);
+    }
+
+    /// Whether a claim of so many records has all that its input had, and no barrier may follow.
+    fn takes_all(&self, task: u32, records: u32) -> bool {
+        let is_sink = self
+            .nodes
+            .get(task as usize)
+            .is_some_and(|node| node.is_sink);
+        records < self.batch && !is_sink && !self.is_pending()
     }
 
     /// A task's claim has ended.

@@ -259,7 +259,7 @@ impl<
     pub(crate) fn begin(&mut self, workers: usize, every: u64, turns: u64, restarts: u64)
         ensures { self.new ≡ self.old }
     {
-        self.turns.begin(workers as u64, every, turns, restarts);
+        self.turns.begin(workers as u64, every, turns, restarts, 1);
     }
 
     /// A worker wants to rest. Whether it may.
@@ -300,7 +300,7 @@ impl<
     pub(crate) fn finished(&mut self, task: u32, outcome: Result<(), CoreFault>)
         ensures { self.new ≡ self.old }
     {
-        self.turns.finished(task, outcome);
+        self.turns.finished(task, outcome, 1);
     }
 
     /// The job is down: a run was refused before it began.
@@ -390,7 +390,7 @@ fn claim<O: Operator, S: SnapshotStore, X: Transactions, P: Partitions<Record = 
 {
     match core.claim(place.task, place.input) {
         Ok(job) => {
-            turns.claimed(place.task);
+            turns.claimed(place.task, 1);
             Next::Run(place.task, job)
         }
         Err(CoreFault::NotReady) if turns.awaits_barriers() => {
