@@ -97,6 +97,7 @@ fn run_line<R: Threads + Wait + Clock + Sync>(
             workers,
             every,
             turns,
+            batch: _,
         } => {
             let options = Options {
                 workers: *workers,
