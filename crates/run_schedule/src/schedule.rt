@@ -1,5 +1,7 @@
 //! Which step comes next.
 
+ghost use Rattle.std.specs.Prelude.{◌≤◌};
+
 use crate::inputs::{Inputs, Place};
 use crate::rank_set::RankSet;
 use crate::round::{Need, Round};
@@ -105,6 +107,7 @@ pub struct Schedule {
     is_searched: bool,
     /// Whether the checkpoint that was triggered last is of a job at rest.
     is_last: bool,
+    ghost some: { 1 ≤ batch },
 }
 
 impl Schedule {
@@ -137,7 +140,9 @@ impl Schedule {
     }
 
     /// A run begins, and a restart comes first.
-    pub(crate) fn begin(&mut self, every: u64, batch: u32) {
+    pub(crate) fn begin(&mut self, every: u64, batch: u32)
+        requires { 1 ≤ batch }
+    {
         self.every = every;
         self.batch = batch;
         self.most_ahead = self.room_ahead();
@@ -159,7 +164,9 @@ impl Schedule {
     }
 
     /// How many records a claim takes at most.
-    pub(crate) fn batch(&self) -> u32 {
+    pub(crate) fn batch(&self) -> u32
+        ensures { 1 ≤ result }
+    {
         self.batch
     }
 
@@ -341,7 +348,7 @@ impl Schedule {
 
     /// A task may have sent for so many records. The ends of its channels are marked once there may
     /// be a batch at each.
-    fn sent(&mut self, task: u32, records: u32) {
+    fn sent(&mut self, task: u32, records: u64) {
         let batch = self.batch as usize;
         let Some(node) = self.nodes.get_mut(task as usize) else {
             return;
@@ -356,9 +363,9 @@ impl Schedule {
     }
 
     /// A task has worked the records of its claim.
-    pub(crate) fn worked(&mut self, task: u32, records: u32) {
+    pub(crate) fn worked(&mut self, task: u32, records: u64) {
         self.moved();
-        self.finished = self.finished.saturating_add(records as u64);
+        self.finished = self.finished.saturating_add(records);
         self.sent(task, records);
     }
 
@@ -477,7 +484,7 @@ impl Schedule {
 
     /// A task holds a claim of so many records of its first input, which comes last now. It is left
     /// out where the claim has all that it had, and no barrier may follow.
-    pub(crate) fn claimed(&mut self, task: u32, records: u32) {
+    pub(crate) fn claimed(&mut self, task: u32, records: u64) {
         self.claims = self.claims.saturating_add(1);
         if self.takes_all(task, records) {
             self.drop_first(task);
@@ -488,12 +495,12 @@ impl Schedule {
     }
 
     /// Whether a claim of so many records has all that its input had, and no barrier may follow.
-    fn takes_all(&self, task: u32, records: u32) -> bool {
+    fn takes_all(&self, task: u32, records: u64) -> bool {
         let is_sink = self
             .nodes
             .get(task as usize)
             .is_some_and(|node| node.is_sink);
-        records < self.batch && !is_sink && !self.is_pending()
+        records < self.batch as u64 && !is_sink && !self.is_pending()
     }
 
     /// A task's claim has ended.

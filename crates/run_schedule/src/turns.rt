@@ -1,5 +1,7 @@
 //! The turns of a run: what is done at each, and what its outcome means for the next.
 
+ghost use Rattle.std.specs.Prelude.{◌≤◌};
+
 use crate::fault::RunFault;
 use crate::inputs::Place;
 use crate::schedule::{Schedule, Step};
@@ -35,7 +37,9 @@ impl Turns {
     /// A run of so many turns and restarts begins, by so many workers, all of whom are awake. A
     /// checkpoint is triggered after every so many records that were worked, or at the end alone
     /// where that is 0. A claim takes so many records at most.
-    pub fn begin(&mut self, workers: u64, every: u64, turns: u64, restarts: u64, batch: u32) {
+    pub fn begin(&mut self, workers: u64, every: u64, turns: u64, restarts: u64, batch: u32)
+        requires { 1 ≤ batch }
+    {
         self.schedule.begin(every, batch);
         self.left = turns;
         self.restarts = restarts;
@@ -61,7 +65,9 @@ impl Turns {
     }
 
     /// How many records a claim takes at most.
-    pub fn batch(&self) -> u32 {
+    pub fn batch(&self) -> u32
+        ensures { 1 ≤ result }
+    {
         self.schedule.batch()
     }
 
@@ -115,12 +121,12 @@ impl Turns {
     }
 
     /// A task holds a claim of so many records, of the input that was chosen.
-    pub fn claimed(&mut self, task: u32, records: u32) {
+    pub fn claimed(&mut self, task: u32, records: u64) {
         self.schedule.claimed(task, records);
     }
 
     /// What came of a task's job of so many records. A result that comes too late is dropped.
-    pub fn finished(&mut self, task: u32, outcome: Result<(), CoreFault>, records: u32) {
+    pub fn finished(&mut self, task: u32, outcome: Result<(), CoreFault>, records: u64) {
         match outcome {
             Ok(()) => {
                 self.schedule.unclaimed(task);
