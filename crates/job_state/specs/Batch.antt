@@ -15,6 +15,11 @@ pub record Turn (R K S : Type 0) : Type 0 where
   pub state : S
   pub sent : List (ℕ × R)
 
+-- the states by key once these are kept
+abbrev pub put_all : {K S : Type 0} → (K → K → Bool) → List (K × S) → (K → Option S) → K → Option S
+put_all same_key [] states = states
+put_all same_key (entry ∷ entries) states = put_all same_key entries (kept_under same_key (Some entry.0) entry.1 states)
+
 module _ {R K S : Type 0} where
   -- what all of them send, in order
   abbrev pub sent_by : List (Turn R K S) → List (ℕ × R)
@@ -25,11 +30,6 @@ module _ {R K S : Type 0} where
   abbrev pub kept_by : (K → K → Bool) → List (Turn R K S) → (K → Option S) → K → Option S
   kept_by same_key [] states = states
   kept_by same_key (turn ∷ turns) states = kept_by same_key turns (kept_under same_key turn.key turn.state states)
-
-  -- the states by key once these are kept
-  abbrev pub put_all : (K → K → Bool) → List (K × S) → (K → Option S) → K → Option S
-  put_all same_key [] states = states
-  put_all same_key (entry ∷ entries) states = put_all same_key entries (kept_under same_key (Some entry.0) entry.1 states)
 
   -- these are the last states that they leave, whatever was there before
   abbrev pub AreLastStates : (K → K → Bool) → List (Turn R K S) → List (K × S) → Type 0
