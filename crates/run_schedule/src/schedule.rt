@@ -67,7 +67,8 @@ impl Node {
 const MOST_AHEAD: usize = 64;
 
 /// Where claims are of several records, so many batches are read ahead for each channel that a
-/// source sends on, if that is more.
+/// source sends on, if that is more, until no claim is held and no input is marked: a sink takes
+/// one record at a time, so a task that sends to it may have none long before the sink has.
 const BATCHES_AHEAD: usize = 4;
 
 /// What may have something, so that the next step is found in the same time whatever the number of
@@ -90,8 +91,7 @@ pub struct Schedule {
     round: Round,
     /// How many claims are held.
     claims: u64,
-    /// How many records were read while claims were held, since a task that sources send to had
-    /// none.
+    /// How many records were read while claims were held, since reading ahead began anew.
     ahead: usize,
     /// How many may be.
     most_ahead: usize,
@@ -211,6 +211,7 @@ impl Schedule {
         if let Some(place) = self.next_input() {
             return Some(Step::Work(place));
         }
+        self.has_no_input();
         if self.claims > 0 && self.ahead >= self.most_ahead {
             return None;
         }
@@ -236,6 +237,14 @@ impl Schedule {
             return Step::Look;
         }
         self.at_rest()
+    }
+
+    /// No input of a task without a claim is marked. Where claims are of several records, and none
+    /// is held, reading ahead begins anew.
+    fn has_no_input(&mut self) {
+        if self.batch > 1 && self.claims == 0 {
+            self.ahead = 0;
+        }
     }
 
     /// The first input of the task that stands furthest downstream.
@@ -379,7 +388,7 @@ impl Schedule {
     fn drop_first(&mut self, task: u32) {
         if let Some(node) = self.nodes.get_mut(task as usize) {
             node.inputs.drop_first();
-            if node.is_fed {
+            if node.is_fed && self.batch <= 1 {
                 self.ahead = 0;
             }
         }
