@@ -56,17 +56,17 @@ module _ {R K S O : Type 0} where
       pub fit : All RecordFits p.rows.items
       pub good : (key : K) (state : S) → value_at cmp p.states key ≡ Some (Some state) → IsGood p.operator state
 
+    abbrev pub IsGiven : Given O K S R → Type 0
+    IsGiven (given.Operator operand) = IsOperand operand
+    IsGiven (given.Sink row) = Unit {0}
+
+  module _ (meaning : Meaning R K S O) (cmp : K → K → Ordering) where
     -- what is carried so far, of a task that has these entries
     pub record IsCarried (entries : List (K × S)) (p : Operand O K S R) : Type 0 where
       pub rising : IsStrictlySortedBy cmp (keys_of p.states)
       pub keyed : All (HasItsState meaning cmp p.operator p.states) p.rows.items
       pub same : AreStatesOf cmp entries p.states
 
-    abbrev pub IsGiven : Given O K S R → Type 0
-    IsGiven (given.Operator operand) = IsOperand operand
-    IsGiven (given.Sink row) = Unit {0}
-
-  module _ (meaning : Meaning R K S O) (cmp : K → K → Ordering) where
     -- The outcomes are what the operator makes of the records, one after another: all that is sent, and the last state of each key, by
     -- rising keys.
     pub record IsOutcome (p : Operand O K S R) (outcomes : Outcomes K S R) : Type 0 where

@@ -1,10 +1,10 @@
 //! What a task has at its inputs.
 
-ghost use Rattle.std.specs.Prelude.{◌≡◌, ◌<◌, length, slice_get, IfOk, IfErr};
+ghost use Rattle.std.specs.Prelude.{◌≡◌, ◌<◌, length, IfOk, IfErr};
 ghost use Rattle.channels.specs.Items.{leading_records};
 ghost use Rattle.job_state.specs.Held.{gate_at};
 ghost use Rattle.job_state.specs.Sending.{items_at};
-ghost use Rattle.engine_model.specs.Calls.{input_at, IsBlocked, IsRecordDue};
+ghost use Rattle.engine_model.specs.Calls.{input_at, IsRecordDue};
 ghost use Rattle.claims.specs.Tasks.{RefusesRecord};
 
 use channels::Item;
@@ -41,8 +41,8 @@ pub(crate) fn first_record<O: Operator>(
     }
 }
 
-/// How many records may be taken from an input, which is this channel: all before the first
-/// barrier, at least one.
+/// How many records may be taken from an input, which is this channel: all that stand before the
+/// first barrier, at least one.
 pub(crate) fn free_records<O: Operator>(
     attempt: &Attempt<O>,
     task: u32,
@@ -50,18 +50,12 @@ pub(crate) fn free_records<O: Operator>(
     channel: u32,
 ) -> Result<usize, CoreFault>
     requires { input < length (gate_at attempt.now task).inputs }
-    ensures free { IfOk result (λ count. ¬ IsBlocked task input attempt.now) }
+    ensures due { IfOk result (λ count. (row : O.Record)
+        × IsRecordDue task input attempt.now channel row) }
     ensures all { IfOk result (λ count. count
         ≡ length (leading_records (items_at attempt.now.channels channel))) }
-    ensures some { IfOk result (λ count. 0 < count) }
     ensures err { IfErr result (RefusesRecord task input channel attempt.now) }
 {
-    if attempt.is_blocked(task, input) {
-        return Err(CoreFault::ChannelBlocked);
-    }
-    let count = attempt.before_barrier(channel);
-    if count == 0 {
-        return Err(CoreFault::NotReady);
-    }
-    Ok(count)
+    first_record(attempt, task, input, channel)?;
+    Ok(attempt.before_barrier(channel))
 }

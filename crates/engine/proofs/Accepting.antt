@@ -50,6 +50,7 @@ module _ {R K S O : Type 0} (lang : Language R K S O) (graph : Expanded) (operat
   either (made.Operator operand outcomes) (Ok u) e = inl (operand, refl, refl, e)
   either (made.Operator operand outcomes) (Err WrongResult) e = inr (inr (inl refl, e.1, e.2))
   either (made.Operator operand outcomes) (Err Memory) e = inr (inr (inr refl, e.1, e.2))
+  either (made.Operator operand outcomes) (Err Device) e = absurd e
   either (made.Operator operand outcomes) (Err other) e = absurd e
   either (made.Sink row bytes) (Ok u) e = inr (inl (refl, e.1))
   either (made.Sink row bytes) (Err Device) e = inr (inl (refl, e.1))
@@ -120,7 +121,7 @@ module _ {R K S O : Type 0} (lang : Language R K S O) (RecordFits : R → Type 0
         let steps : StepsOften (records_of (given.Operator operand)) lang (Work task e.channel) s (left ledger n) =
         works_left is e.stays (λ (x : State O R K S). StepsOften (length operand.rows.items) lang (Work task e.channel) s x)
         (plain_operates_on lang RecordFits IsGood n task e.due.number input e.channel operand.operator (goes_on operand.operator) operand.rows.items s h k keeps was e.due.is_operator e.due.same_operator e.due.leads e.works) in
-        subst (Moves result) (sym e.due.leads)
+        subst (λ (c : Option ℕ). Moves result c) (sym e.due.leads)
         (subst (λ (r : Result Unit CoreFault). Moves r (Some e.channel)) (sym is)
         (subst (λ (g : Given O K S R). StepsOften (records_of g) lang (Work task e.channel) s (left ledger n)) (sym of) steps))
 

@@ -1,0 +1,9 @@
+use Rattle.std.proofs.Common.{◌≡◌, ◌↔◌, List, Some, slice_get}
+use Rattle.std.specs.List.{All}
+use Rattle.job_state.specs.declared.holding.Holding.TheVariants as holds
+use Rattle.claims.proofs.Working.{Has}
+use Rattle.claims.proofs.due.has_states.Given as goal
+
+abbrev pub invariant-loop-key : goal.invariant-loop-key
+invariant-loop-key g l =
+    (entries : List (g.O.Operator.Key × g.O.Operator.State)) → slice_get l.attempt.tasks l.task ≡ Some (holds.Operator entries) → All (Has g.O.Key.Ord.cmp entries) l.key-iterator ↔ All (Has g.O.Key.Ord.cmp entries) l.states
