@@ -62,14 +62,9 @@ impl Node {
     }
 }
 
-/// So many records are read ahead of the claims that are held, until a task that sources send to
-/// has been found without a record.
-const MOST_AHEAD: usize = 64;
-
-/// Where claims are of several records, so many batches are read ahead for each channel that a
-/// source sends on, if that is more, until no claim is held and no input is marked: a sink takes
-/// one record at a time, so a task that sends to it may have none long before the sink has.
-const BATCHES_AHEAD: usize = 4;
+/// Where claims are of one record, so many are read ahead of the claims that are held, until a task
+/// that sources send to has been found without a record.
+const MOST_AHEAD: u32 = 64;
 
 /// What may have something, so that the next step is found in the same time whatever the number of
 /// tasks and channels. The task that stands furthest downstream comes first, so channels stay
@@ -91,10 +86,11 @@ pub struct Schedule {
     round: Round,
     /// How many claims are held.
     claims: u64,
-    /// How many records were read while claims were held, since reading ahead began anew.
-    ahead: usize,
-    /// How many may be.
-    most_ahead: usize,
+    /// The ranks of tasks that have a full input.
+    full: RankSet,
+    /// How many records were read while claims were held, since a task that sources send to had
+    /// none.
+    ahead: u32,
     /// A claim takes so many records at most.
     batch: u32,
     /// How many records are worked between triggers: 0 for any number.
@@ -128,8 +124,8 @@ impl Schedule {
             sources,
             round,
             claims: 0,
+            full: RankSet::new(),
             ahead: 0,
-            most_ahead: MOST_AHEAD,
             batch: 1,
             every: 0,
             finished: 0,
@@ -145,22 +141,7 @@ impl Schedule {
     {
         self.every = every;
         self.batch = batch;
-        self.most_ahead = self.room_ahead();
         self.went_down();
-    }
-
-    /// How many records may be read ahead of the claims that are held.
-    fn room_ahead(&self) -> usize {
-        if self.batch <= 1 {
-            return MOST_AHEAD;
-        }
-        let mut spread: usize = 0;
-        for task in self.all_sources.iter() {
-            let more = self.nodes.get(*task as usize).map_or(0, |node| node.spread);
-            spread = spread.saturating_add(more);
-        }
-        let batches = spread.saturating_mul(BATCHES_AHEAD);
-        MOST_AHEAD.max(batches.saturating_mul(self.batch as usize))
     }
 
     /// How many records a claim takes at most.
@@ -211,8 +192,7 @@ impl Schedule {
         if let Some(place) = self.next_input() {
             return Some(Step::Work(place));
         }
-        self.has_no_input();
-        if self.claims > 0 && self.ahead >= self.most_ahead {
+        if self.claims > 0 && self.is_far_ahead() {
             return None;
         }
         if let Some(task) = self.sources.front() {
@@ -239,12 +219,14 @@ impl Schedule {
         self.at_rest()
     }
 
-    /// No input of a task without a claim is marked. Where claims are of several records, and none
-    /// is held, reading ahead begins anew.
-    fn has_no_input(&mut self) {
-        if self.batch > 1 && self.claims == 0 {
-            self.ahead = 0;
+    /// Whether enough was read ahead of the claims that are held. Where these are of several
+    /// records, an input may be full long after a task that sources send to was without a record: a
+    /// sink takes one at a time.
+    fn is_far_ahead(&self) -> bool {
+        if self.batch > 1 {
+            return self.full.greatest().is_some();
         }
+        self.ahead >= MOST_AHEAD
     }
 
     /// The first input of the task that stands furthest downstream.
@@ -286,6 +268,7 @@ impl Schedule {
         self.is_searched = true;
         self.ready.clear();
         self.senders.clear();
+        self.full.clear();
         for node in self.nodes.iter_mut() {
             node.sent = 0;
             node.inputs.mark_all();
@@ -338,16 +321,21 @@ impl Schedule {
 
     fn mark(&mut self, place: Place) {
         if let Some(node) = self.nodes.get_mut(place.task as usize) {
-            node.inputs.mark(place.input);
+            node.inputs.fill(place.input);
         }
         self.judge(place.task);
     }
 
-    /// Whether a task is ready is said anew.
+    /// Whether a task is ready, and whether it has a full input, is said anew.
     fn judge(&mut self, task: u32) {
         let Some(node) = self.nodes.get(task as usize) else {
             return;
         };
+        if node.inputs.is_full() {
+            self.full.insert(node.rank);
+        } else {
+            self.full.remove(node.rank);
+        }
         if node.is_busy || node.inputs.is_empty() {
             self.ready.remove(node.rank);
         } else {
@@ -388,7 +376,7 @@ impl Schedule {
     fn drop_first(&mut self, task: u32) {
         if let Some(node) = self.nodes.get_mut(task as usize) {
             node.inputs.drop_first();
-            if node.is_fed && self.batch <= 1 {
+            if node.is_fed {
                 self.ahead = 0;
             }
         }
