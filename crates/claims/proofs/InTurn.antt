@@ -32,12 +32,16 @@ module _ {R K S O : Type 0} (lang : Language R K S O) (operator : O) (graph : Ex
       let still : ¬ IsBlocked task input next = λ blocked. free (sym (ap (λ (h : Held R K S). is_blocked (gate_at h task) input) moved.ends) ∙ blocked) in
       let then = ap (λ (h : Held R K S). slice_get h.tasks task) moved.ends ∙ get_set_same old.tasks task (holds.Operator moved.kept) (slice_get_within old.tasks task (holds.Operator entries) was) in
       let from = ap (value_at lang.cmp) (sym (same_entries entries moved.entries (sym was ∙ moved.was))) ∙ same in
-      let goes_on = fun_ext (λ q. moved.keeps q ∙ ap (λ (f : K → Option S). kept_under lang.meaning.same_key key (worked states).state f q) from) in
-      (next, record {
-        row = row;
-        entries = entries;
-        free = free;
-        head = each.1;
-        was = was;
-        operates = subst (λ (f : K → Option S). Operates lang.meaning lang.cmp graph task input channel row key (worked f).state (worked f).sent old next) (sym same) moved;
-      }, refl, worked_in_turn rows (kept_under lang.meaning.same_key key (worked states).state states) moved.kept next new still then goes_on each.3)
+      let goes_on = fun_ext (λ q. moved.keeps q ∙ ap (λ (f : K → Option S). kept_under lang.meaning.same_key key (worked states).state f q) from) in (
+        next,
+        record {
+          row = row;
+          entries = entries;
+          free = free;
+          head = each.1;
+          was = was;
+          operates = subst (λ (f : K → Option S). Operates lang.meaning lang.cmp graph task input channel row key (worked f).state (worked f).sent old next) (sym same) moved;
+        },
+        refl,
+        worked_in_turn rows (kept_under lang.meaning.same_key key (worked states).state states) moved.kept next new still then goes_on each.3,
+      )

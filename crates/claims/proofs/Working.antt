@@ -10,7 +10,7 @@ use Rattle.std.proofs.lemmas.Map.{NonePasses, lookup-none}
 use Rattle.std.proofs.lemmas.Map.Entries.{none_past_head}
 use Rattle.std.proofs.lemmas.Map.Keys.{IsDistinct-from_sorted}
 use Rattle.std.proofs.lemmas.List.{append-nil}
-use Rattle.std.proofs.lemmas.List.Elements.{All-head, All-tail}
+use Rattle.std.proofs.lemmas.List.Elements.{All-head, All-tail, All-push, All-weaker}
 use mathlib.Core.Path.{fun_ext}
 use Rattle.abs_codec.specs.Entries.{value_at}
 use Rattle.dataflow_model.specs.Graph.{Meaning}
@@ -153,13 +153,13 @@ Has cmp entries place = value_at cmp entries place.0 ≡ place.1
 module _ {K S : Type 0} {cmp : K → K → Ordering} (exact : OrderIsExact cmp) (entries : List (K × S)) where
   pub same_by_place : (states : List (K × Option S)) → All (Has cmp entries) states → AreStatesOf cmp entries states
   same_by_place [] all key state found = absurd cc
-  same_by_place (e ∷ states) all key state found = by (is_at (cmp key) e.0) refl found
+  same_by_place (e ∷ states) all key state found = by (is_at (cmp key) e.0) refl found (same_by_place states (All-tail (Has cmp entries) e states all) key state)
     where
-      by : (b : Bool) → is_at (cmp key) e.0 ≡ b → cond b (Some e.1) (value_at cmp states key) ≡ Some state → value_at cmp entries key ≡ state
-      by true is at =
+      by : (b : Bool) → is_at (cmp key) e.0 ≡ b → cond b (Some e.1) (value_at cmp states key) ≡ Some state → (value_at cmp states key ≡ Some state → value_at cmp entries key ≡ state) → value_at cmp entries key ≡ state
+      by true is at rest =
           let one = exact key e.0 ((Equal-is (cmp key e.0)).0 is) in
           ap (value_at cmp entries) one ∙ All-head (Has cmp entries) e states all ∙ (let same : e.1 ≡ state = cc in same)
-      by false is at = same_by_place states (All-tail (Has cmp entries) e states all) key state at
+      by false is at rest = rest at
 
   pub place_by_place : (states : List (K × Option S)) → All (λ e. value_at cmp states e.0 ≡ Some e.1) states → AreStatesOf cmp entries states → All (Has cmp entries) states
   place_by_place states found same i d less = same _ _ (found i d less)
@@ -219,3 +219,22 @@ module _ {R K S O : Type 0} (meaning : Meaning R K S O) (cmp : K → K → Order
           ap (λ (l : List (K × S)). left_over cmp l states q) same
           ∙ ap (λ (k : Option K). kept_under meaning.same_key k (made_of meaning cmp p left row).state (left_over cmp left states) q) is;
     }
+
+-- where nothing is left, all that is left is good
+pub none_good : {K S : Type 0} (cmp : K → K → Ordering) (P : S → Type 0) (left : List (K × S)) → left ≡ [] → AllGood cmp P left
+none_good cmp P [] none key state found = absurd cc
+none_good cmp P (e ∷ left) none key state found = absurd cc
+
+module _ {R K S O : Type 0} (meaning : Meaning R K S O) (cmp : K → K → Ordering) where
+  -- a record more is carried
+  pub carried_more : (entries : List (K × S)) (p q : Operand O K S R) (row : R) → q.operator ≡ p.operator → q.rows.items ≡ p.rows.items ++ row ∷ [] → IsStrictlySortedBy cmp (keys_of q.states)
+      → ((key : K) → is_some (value_at cmp p.states key) ≡ true → is_some (value_at cmp q.states key) ≡ true) → HasItsState meaning cmp p.operator q.states row → AreStatesOf cmp entries q.states → IsCarried meaning cmp entries p → IsCarried meaning cmp entries q
+  carried_more entries p q row o rows rising stays there same was =
+      let Keyed = HasItsState meaning cmp p.operator q.states in
+      record {
+        rising = rising;
+        keyed =
+            subst (λ (x : O). All (HasItsState meaning cmp x q.states) q.rows.items) (sym o)
+            (subst (All Keyed) (sym rows) (All-push Keyed p.rows.items row (All-weaker (HasItsState meaning cmp p.operator p.states) Keyed (λ r h key is. stays key (h key is)) p.rows.items was.keyed) there));
+        same = same;
+      }

@@ -13,6 +13,15 @@ use Rattle.claims.specs.declared.parts.Given.TheVariants as given
 use Rattle.claims.specs.declared.parts.Made.{Made}
 use Rattle.claims.specs.declared.parts.Made.TheVariants as made
 
+module _ {K S : Type 0} where
+  -- the states that are given, by key
+  abbrev pub states_given : (K → K → Ordering) → List (K × Option S) → K → Option S
+  states_given cmp states key = unwrap_or (value_at cmp states key) None
+
+  -- the entries have each of these states, or none where none is given
+  abbrev pub AreStatesOf : (K → K → Ordering) → List (K × S) → List (K × Option S) → Type 0
+  AreStatesOf cmp entries states = (key : K) (state : Option S) → value_at cmp states key ≡ Some state → value_at cmp entries key ≡ state
+
 module _ {R K S O : Type 0} where
   -- the work that a result was made of
   abbrev pub given_of : Made O K S R → Given O K S R
@@ -34,14 +43,6 @@ module _ {R K S O : Type 0} where
   -- these states have a place for the record's key, if it has one
   abbrev pub HasItsState : Meaning R K S O → (K → K → Ordering) → O → List (K × Option S) → R → Type 0
   HasItsState meaning cmp operator states row = (key : K) → meaning.key operator row ≡ Some key → is_some (value_at cmp states key) ≡ true
-
-  -- the states that are given, by key
-  abbrev pub states_given : (K → K → Ordering) → List (K × Option S) → K → Option S
-  states_given cmp states key = unwrap_or (value_at cmp states key) None
-
-  -- the entries have each of these states, or none where none is given
-  abbrev pub AreStatesOf : (K → K → Ordering) → List (K × S) → List (K × Option S) → Type 0
-  AreStatesOf cmp entries states = (key : K) (state : Option S) → value_at cmp states key ≡ Some state → value_at cmp entries key ≡ state
 
   -- the records of the work, worked one after another, the first on the states that are given
   abbrev pub turns_given : Meaning R K S O → (K → K → Ordering) → Operand O K S R → List (Turn R K S)

@@ -1,6 +1,8 @@
 //! Work is offered.
 
-ghost use Rattle.std.specs.Prelude.{◌≡◌, ◌<◌, ◌≤◌, ◌++◌, ◌∷◌, [], ℕ, List, Some, length, take, slice_get, OnOk, IfOk};
+ghost use Rattle.std.specs.Prelude.{◌≡◌, ◌<◌, ◌≤◌, ◌++◌, ◌∷◌, [], ℕ, List, Some, true, length, take, slice_get, is_some, OnOk, IfOk};
+ghost use Rattle.std.specs.List.Sorted.{IsStrictlySortedBy};
+ghost use Rattle.std.specs.Map.{keys_of};
 ghost use Rattle.abs_codec.specs.Entries.{value_at};
 ghost use Rattle.channels.specs.Items.{leading_records};
 ghost use Rattle.job_graph.specs.Expanded.{IsExpanded};
@@ -8,7 +10,7 @@ ghost use Rattle.job_graph.specs.PlainGraph.{HaveOperators};
 ghost use Rattle.job_state.specs.Sending.{items_at};
 ghost use Rattle.job_state.specs.declared.holding.Holding.TheVariants as Holding;
 ghost use Rattle.engine_model.specs.Keeps.{Shape};
-ghost use Rattle.claims.specs.Carried.{HasItsState, IsCarried, AreStatesOf};
+ghost use Rattle.claims.specs.Carried.{AreStatesOf, IsCarried};
 ghost use Rattle.claims.specs.Due.{EndsOffer};
 
 use crate::carried::Work;
@@ -38,7 +40,36 @@ fn state_copied<O: Operator>(
     }
 }
 
-/// A record is carried too, and the state under its key, where that is not carried yet.
+/// The state under a record's key is carried, where it is not carried yet.
+fn carry_state<O: Operator>(
+    attempt: &Attempt<O>,
+    task: u32,
+    key: Option<O::Key>,
+    states: &mut Map<O::Key, Option<O::State>>,
+) -> Result<(), NoMemory>
+    ensures rising { OnOk result (IsStrictlySortedBy O.Key.cmp (keys_of states.old)
+        → IsStrictlySortedBy O.Key.cmp (keys_of states.new)) }
+    ensures stays { OnOk result ((other : O.Key)
+        → is_some (value_at O.Key.cmp states.old other) ≡ true
+        → is_some (value_at O.Key.cmp states.new other) ≡ true) }
+    ensures there { OnOk result ((one : O.Key) → key ≡ Some one
+        → is_some (value_at O.Key.cmp states.new one) ≡ true) }
+    ensures same { OnOk result ((entries : List (O.Key × O.State))
+        → slice_get attempt.now.tasks task ≡ Some (Holding.Operator entries)
+        → AreStatesOf O.Key.cmp entries states.old → AreStatesOf O.Key.cmp entries states.new) }
+{
+    let Some(key) = key else {
+        return Ok(());
+    };
+    if states.contains_key(&key) {
+        return Ok(());
+    }
+    let state = state_copied(attempt, task, &key)?;
+    states.insert(key, state)?;
+    Ok(())
+}
+
+/// A record is carried too, and the state under its key.
 fn carry_record<O: Operator>(
     alloc: Global,
     attempt: &Attempt<O>,
@@ -55,12 +86,8 @@ fn carry_record<O: Operator>(
         → slice_get attempt.now.tasks task ≡ Some (Holding.Operator entries)
         → IsCarried O.meaning O.Key.cmp entries operand.new) }
 {
-    if let Some(key) = operand.operator.key(alloc, row)? {
-        if !operand.states.contains_key(&key) {
-            let state = state_copied(attempt, task, &key)?;
-            operand.states.insert(key, state)?;
-        }
-    }
+    let key = operand.operator.key(alloc, row)?;
+    carry_state(attempt, task, key, &mut operand.states)?;
     operand.rows.push(row.copied()?)?;
     Ok(())
 }
@@ -89,9 +116,10 @@ fn operand_of<O: Operator>(
         rows: Vec::with_capacity(alloc, count)?,
     };
     for index in 0..count {
-        if let Some(row) = attempt.record(channel, index) {
-            carry_record(alloc, attempt, task, row, &mut operand)?;
-        }
+        let Some(row) = attempt.record(channel, index) else {
+            return Err(NoMemory);
+        };
+        carry_record(alloc, attempt, task, row, &mut operand)?;
     }
     Ok(operand)
 }

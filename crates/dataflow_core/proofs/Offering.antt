@@ -16,7 +16,7 @@ use Rattle.dataflow_core.specs.CoreState.{CoreState}
 -- where records stand first, the first of them does
 first_stands : {R : Type 0} (rows : List R) (items : List (Item R)) → 0 < length rows → take (length rows) items ≡ map Record rows → (row : R) × (slice_get items 0 ≡ Some (Record row))
 first_stands [] items some stand = absurd (omega arith)
-first_stands (row ∷ rows) items some stand = (row, first items stand)
+first_stands {R = R} (row ∷ rows) items some stand = (row, first items stand)
   where
     first : (items : List (Item R)) → take (length (row ∷ rows)) items ≡ map Record (row ∷ rows) → slice_get items 0 ≡ Some (Record row)
     first [] stand = absurd cc

@@ -1,6 +1,5 @@
 -- Work of one record is the task's own work on the record that stands first.
-use Rattle.std.proofs.Common.{◌≡◌, ◌<◌, ◌≤◌, Option, Some, Result, Ok, ℕ, List, min, length, refl, sym, subst, arith}
-use Rattle.channels.specs.Items.{leading_records}
+use Rattle.std.proofs.Common.{◌≡◌, ◌<◌, Option, Some, Ok, ℕ, List, min, length, refl, sym, subst, arith}
 use Rattle.claims.specs.Carried.{given_of, records_of}
 use Rattle.claims.specs.Due.{IsDue, EndsOffer, EndsAccept}
 use Rattle.claims.specs.Tasks.{EndsWork, WorksAs}
@@ -15,7 +14,6 @@ use Rattle.job_graph.specs.declared.role.Role.TheVariants as role
 use Rattle.job_state.specs.Held.{Held}
 use Rattle.engine_model.specs.Calls.{input_at}
 use Rattle.engine_model.specs.Language.{Language}
-use Rattle.engine_model.specs.declared.fault.CoreFault.{CoreFault}
 use Rattle.engine_model.proofs.Calls.Batches.{operates_once}
 
 module _ {R K S O : Type 0} (lang : Language R K S O) (graph : Expanded) (operators : List O) (task input : ℕ) (h : Held R K S) where

@@ -1,5 +1,5 @@
 -- An operator works several records, one after another.
-use Rattle.std.proofs.Common.{◌≡◌, Option, Some, Ok, slice_get, length, ℕ, List, [], ◌∷◌, refl, sym, subst, arith}
+use Rattle.std.proofs.Common.{◌≡◌, Some, Ok, slice_get, length, ℕ, List, [], ◌∷◌, refl, sym, subst, arith}
 use Rattle.job_graph.specs.Expanded.{Expanded}
 use Rattle.job_graph.specs.declared.role.Role.TheVariants as role
 use Rattle.job_state.specs.Held.{Held}

@@ -24,12 +24,12 @@ operate_some-requires-clause-channels g c = c.requires.shape.1.channels
 pub operate_some-requires-clause-counted : goal.operate_some-requires-clause-counted
 operate_some-requires-clause-counted g c =
     let p = c.args.operand in
-    c.len-count.ensures ∙ sym (ap (λ (ts : List (Turn g.O.Operator.Record g.O.Operator.Key g.O.Operator.State)). length ts) c.requires.turns ∙ length-turns g.O.Operator.meaning p.operator p.rows.items (states_given g.O.Key.Ord.cmp p.states))
+    c.len-count.ensures ∙ sym (ap (λ (ts : List (Turn g.row.O-Record.Denot g.row.O-Key.Denot g.row.O-State.Denot)). length ts) c.requires.turns ∙ length-turns g.O.Operator.meaning p.operator p.rows.items (states_given g.O.Key.Ord.cmp p.states))
 
 pub operate_some-requires-clause-first : goal.operate_some-requires-clause-first
 operate_some-requires-clause-first g c =
     let p = c.args.operand in
-    let rows : p.rows.items ≡ rows_of g.turns = sym (ap (λ (ts : List (Turn g.O.Operator.Record g.O.Operator.Key g.O.Operator.State)). rows_of ts) c.requires.turns ∙ rows_of-turns g.O.Operator.meaning p.operator p.rows.items (states_given g.O.Key.Ord.cmp p.states)) in
+    let rows : p.rows.items ≡ rows_of g.turns = sym (ap (λ (ts : List (Turn g.row.O-Record.Denot g.row.O-Key.Denot g.row.O-State.Denot)). rows_of ts) c.requires.turns ∙ rows_of-turns g.O.Operator.meaning p.operator p.rows.items (states_given g.O.Key.Ord.cmp p.states)) in
     subst (λ rs. StandFirst c.args.channel rs c.args.attempt.now) rows c.requires.shape.2.first.1
 
 pub operate_some-requires-clause-rising : goal.operate_some-requires-clause-rising
@@ -39,4 +39,4 @@ pub operate_some-requires-clause-states : goal.operate_some-requires-clause-stat
 operate_some-requires-clause-states g c = subst (λ ts. AreLastStates g.O.Operator.meaning.same_key ts c.args.outcomes.states.items) (sym c.requires.turns) c.requires.outcomes.last
 
 pub operate_some-requires-clause-sent : goal.operate_some-requires-clause-sent
-operate_some-requires-clause-sent g c = c.requires.outcomes.sent ∙ sym (ap (λ (ts : List (Turn g.O.Operator.Record g.O.Operator.Key g.O.Operator.State)). sent_by ts) c.requires.turns)
+operate_some-requires-clause-sent g c = c.requires.outcomes.sent ∙ sym (ap (λ (ts : List (Turn g.row.O-Record.Denot g.row.O-Key.Denot g.row.O-State.Denot)). sent_by ts) c.requires.turns)

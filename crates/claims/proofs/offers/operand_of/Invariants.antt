@@ -9,5 +9,5 @@ abbrev pub invariant-loop-index : goal.invariant-loop-index
 invariant-loop-index g l = record {
   operator : l.operand.operator ≡ l.operator;
   rows : l.operand.rows.items ≡ take l.index (leading_records (items_at l.attempt.channels l.channel));
-  carried : (entries : List (g.O.Operator.Key × g.O.Operator.State)) → slice_get l.attempt.tasks l.task ≡ Some (holds.Operator entries) → IsCarried g.O.Operator.meaning g.O.Key.Ord.cmp entries l.operand;
+  carried : (entries : List (g.row.O-Key.Denot × g.row.O-State.Denot)) → slice_get l.attempt.tasks l.task ≡ Some (holds.Operator entries) → IsCarried g.O.Operator.meaning g.O.Key.Ord.cmp entries l.operand;
 }
