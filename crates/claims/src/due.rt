@@ -3,8 +3,10 @@
 ghost use Rattle.std.specs.Prelude.{◌≡◌, ◌<◌, ◌↔◌, ℕ, List, Some, length, slice_get, IsTrue, IfSome, IfNone};
 ghost use Rattle.std.specs.Option.{option_copied};
 ghost use Rattle.abs_codec.specs.Entries.{value_at};
+ghost use Rattle.channels.specs.Items.{leading_records};
 ghost use Rattle.job_state.specs.Batch.{StandFirst};
 ghost use Rattle.job_state.specs.Held.{gate_at};
+ghost use Rattle.job_state.specs.Sending.{items_at};
 ghost use Rattle.job_state.specs.declared.holding.Holding.TheVariants as Holding;
 ghost use Rattle.engine_model.specs.Calls.{IsRecordDue};
 ghost use Rattle.engine_model.specs.Keeps.{GateFits, Shape};
@@ -66,18 +68,30 @@ fn is_first<O: Operator>(
     }
 }
 
+/// Whether this record stands at a place of a channel, with no barrier before it.
+fn is_record<O: Operator>(
+    attempt: &Attempt<O>,
+    channel: u32,
+    index: usize,
+    row: &O::Record,
+) -> bool
+    ensures { IsTrue result
+        ↔ (slice_get (leading_records (items_at attempt.now.channels channel)) index
+        ≡ Some row.now) }
+{
+    match attempt.record(channel, index) {
+        Some(found) => found == row,
+        None => false,
+    }
+}
+
 /// Whether these records stand first in a channel, with no barrier before one of them.
 fn has_records<O: Operator>(attempt: &Attempt<O>, channel: u32, rows: &[O::Record]) -> bool
     ensures { IsTrue result ↔ StandFirst channel rows.now attempt.now }
 {
     for index in 0..rows.len() {
-        match attempt.record(channel, index) {
-            Some(found) => {
-                if found != &rows[index] {
-                    return false;
-                }
-            }
-            None => return false,
+        if !is_record(attempt, channel, index, &rows[index]) {
+            return false;
         }
     }
     true

@@ -9,8 +9,8 @@ use Rattle.claims.proofs.accepts.accept_outcomes.Goals as goal
 pub returns-in_default-clause-ends : goal.returns-in_default-clause-ends
 returns-in_default-clause-ends g c = λ ledger. (λ due. c.in_default.ensures.none due.0 due.1, refl, refl)
 
-pub operate-requires-clause-shape : goal.operate-requires-clause-shape
-operate-requires-clause-shape g c = (c.args.operators.now, c.requires.serves.1.shape, c.in-Some.ensures.some)
+pub operate-requires : goal.operate-requires
+operate-requires g c = λ lifetimes lives. (lives.0, (lives.1.0, (lives.1.1.0, (lives.1.1.1, ((c.args.operators.now, c.requires.serves.1.shape, c.in-Some.ensures.some), (c.requires.outcomes, refl))))))
 
 pub returns-clause-ends : goal.returns-clause-ends
 returns-clause-ends g c = λ ledger.

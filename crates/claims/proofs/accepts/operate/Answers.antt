@@ -12,21 +12,22 @@ operate_some-requires g c =
     let p = c.args.operand in
     let graph = c.args.graph.now in
     let attempt = c.args.attempt.now in
-    let shape = c.requires.shape.1 in
-    let due = c.requires.shape.2 in
-    let made = c.requires.outcomes in
+    let asked = c.requires.1.1.1.1 in
+    let shape = asked.0.1 in
+    let due = asked.0.2 in
+    let made = asked.1.0 in
     let meaning = g.O.Operator.meaning in
     let given = states_given g.O.Key.Ord.cmp p.states in
-    let is = c.requires.turns in
+    let is = asked.1.1 in
     let rows : p.rows.items ≡ rows_of g.turns = sym (ap (λ (ts : List (Turn g.row.O-Record.Denot g.row.O-Key.Denot g.row.O-State.Denot)). rows_of ts) is ∙ rows_of-turns meaning p.operator p.rows.items given) in
-    record {
-      holds = (due.entries, due.was);
-      within = within_gates graph attempt shape.gate_fits c.args.task c.args.input c.args.channel (role.Operator due.number) due.is_operator due.leads;
-      logs = channel_in graph c.args.task c.args.input c.args.channel attempt.logs due.leads shape.logs;
-      channels = shape.channels;
-      counted = c.len-count.ensures ∙ sym (ap (λ (ts : List (Turn g.row.O-Record.Denot g.row.O-Key.Denot g.row.O-State.Denot)). length ts) is ∙ length-turns meaning p.operator p.rows.items given);
-      first = subst (λ rs. StandFirst c.args.channel rs attempt) rows due.first.1;
-      rising = made.rising;
-      states = subst (λ ts. AreLastStates meaning.same_key ts c.args.outcomes.states.items) (sym is) made.last;
-      sent = made.sent ∙ sym (ap (λ (ts : List (Turn g.row.O-Record.Denot g.row.O-Key.Denot g.row.O-State.Denot)). sent_by ts) is);
-    }
+    λ lifetimes lives. (lives.0, (lives.1.0, (lives.1.1.0, (lives.1.1.1, (
+      (due.entries, due.was), (
+      within_gates graph attempt shape.gate_fits c.args.task c.args.input c.args.channel (role.Operator due.number) due.is_operator due.leads, (
+      channel_in graph c.args.task c.args.input c.args.channel attempt.logs due.leads shape.logs, (
+      shape.channels, (
+      c.len-count.ensures ∙ sym (ap (λ (ts : List (Turn g.row.O-Record.Denot g.row.O-Key.Denot g.row.O-State.Denot)). length ts) is ∙ length-turns meaning p.operator p.rows.items given), (
+      subst (λ rs. StandFirst c.args.channel rs attempt) rows due.first.1, (
+      made.rising, (
+      subst (λ ts. AreLastStates meaning.same_key ts c.args.outcomes.states.items) (sym is) made.last,
+      made.sent ∙ sym (ap (λ (ts : List (Turn g.row.O-Record.Denot g.row.O-Key.Denot g.row.O-State.Denot)). sent_by ts) is)
+    ))))))))))))

@@ -1,6 +1,7 @@
-use Rattle.std.proofs.Common.{Some, sym, ap, ◌∙◌}
+use Rattle.std.proofs.Common.{Some, sym, ap, subst, ◌∙◌}
 use Rattle.std.proofs.lemmas.Bool.{false≢true}
 use Rattle.job_graph.specs.declared.role.Role.TheVariants as role
+use Rattle.job_state.specs.Batch.{StandFirst}
 use Rattle.claims.proofs.Dues.{within_gates}
 use Rattle.claims.proofs.due.operand_channel.Goals as goal
 
@@ -14,7 +15,7 @@ returns-then-has_states-clause-some g c =
       is_operator = at;
       same_operator = c.is_operator.ensures.0 c.if-is_operator.true;
       leads = sym c.input_of.ensures ∙ c.in-Some.is;
-      first = (λ blocked. false≢true (sym c.if-not-is_blocked.true ∙ c.is_blocked.ensures ∙ blocked), c.has_records.ensures.0 c.if-has_records.true);
+      first = (λ blocked. false≢true (sym c.if-not-is_blocked.true ∙ c.is_blocked.ensures ∙ blocked), subst (λ rows. StandFirst c.in-Some.channel rows c.args.attempt.now) c.deref.ensures.value (c.has_records.ensures.0 c.if-has_records.true));
       was = held.1;
       same_states = (c.has_states.ensures held.0 held.1).0 c.if-has_states.true;
     }
