@@ -1,5 +1,5 @@
 -- Several records of one input, worked one after another.
-use Rattle.std.specs.Prelude.{◌≡◌, ℕ, Bool, List, [], ◌∷◌, ◌++◌, length, map, take, slice_get, Option, Some, None}
+use Rattle.std.specs.Prelude.{◌≡◌, ℕ, Bool, List, [], ◌∷◌, ◌++◌, length, map, take, slice_get, Option, Some}
 use Rattle.std.specs.declared.cmp.Ordering.{Ordering}
 use Rattle.channels.specs.declared.item.Item.TheVariants.{Record}
 use Rattle.dataflow_model.specs.Graph.{Meaning}

@@ -7,7 +7,8 @@ use crate::attempt::Attempt;
 use crate::gates::is_logged;
 use crate::logs::{drop_last, log_copy, log_taken, reserve_log};
 use crate::sending::{first, pass_on, reserve_deliveries, send_records, take_head};
-use crate::tasks::{advance, keep};
+use crate::taking::pass_on_all;
+use crate::tasks::{advance, keep, keep_all};
 use abs_codec::NoMemory;
 use channels::Item;
 use job_graph::Graph;
@@ -69,7 +70,7 @@ impl<O: Operator> Attempt<O> {
         ensures err { OnErr result (self.new ≡ self.old) }
     {
         let logged = is_logged(&self.gates, task, input);
-        reserve_log(&mut self.logs, channel, logged)?;
+        reserve_log(&mut self.logs, channel, logged, 1)?;
         let puts = reserve_deliveries::<O>(self.alloc, &mut self.channels, graph, task, sent)?;
         keep::<O>(&mut self.tasks, task, key, state)?;
         let taken = pass_on(&mut self.channels, channel, puts);
@@ -106,8 +107,28 @@ impl<O: Operator> Attempt<O> {
             turns self.old self.new) }
         ensures err { OnErr result (self.new ≡ self.old) }
     {
-        let _ = (graph, task, input, channel, count, states, sent);
-        Err(NoMemory)
+        if count == 0 {
+            return Ok(());
+        }
+        let logged = is_logged(&self.gates, task, input);
+        reserve_log(&mut self.logs, channel, logged, count)?;
+        let deliveries = reserve_deliveries::<O>(
+            self.alloc,
+            &mut self.channels,
+            graph,
+            task,
+            sent,
+        )?;
+        keep_all(&mut self.tasks, task, states)?;
+        pass_on_all(
+            &mut self.channels,
+            &mut self.logs,
+            channel,
+            logged,
+            count,
+            deliveries,
+        );
+        Ok(())
     }
 
     /// Logs a copy of the record at the head of an input, which is this channel, where the task's
