@@ -256,8 +256,8 @@ impl<
         book.audit(share);
     }
 
-    /// A run of so many turns and restarts begins, by so many workers, each of whose claims takes so
-    /// many records at most.
+    /// A run of so many turns and restarts begins, by so many workers. A claim takes so many records
+    /// at most.
     pub(crate) fn begin(
         &mut self,
         workers: usize,
