@@ -49,7 +49,7 @@ pub(crate) fn free_records<O: Operator>(
     input: u32,
     channel: u32,
 ) -> Result<usize, CoreFault>
-    requires within { input < length (gate_at attempt.now task).inputs }
+    requires { input < length (gate_at attempt.now task).inputs }
     ensures due { IfOk result (λ count. (row : O.Record)
         × IsRecordDue task input attempt.now channel row) }
     ensures all { IfOk result (λ count. count
