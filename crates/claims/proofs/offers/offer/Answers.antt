@@ -15,7 +15,7 @@ pub returns-in_default-operator_of : goal.returns-in_default-operator_of
 returns-in_default-operator_of g c =
     absurd (operator_found c.args.graph.now c.args.operators.now c.requires.expanded c.requires.given c.args.task c.in-Some-Operator.number (sym c.role.ensures ∙ (c.in-Some-Operator.is ∙ ap Some c.in-Some-Operator.field-0-is)) (sym c.operator_of.ensures ∙ ap option_copied c.in_default-operator_of.is))
 
-pub free_records-requires : goal.free_records-requires-clause-within
+pub free_records-requires : goal.free_records-requires
 free_records-requires g c = within_gates c.args.graph.now c.args.attempt.now c.requires.shape.gate_fits c.args.task c.args.input c.in-Some.channel (role.Operator c.in-Some-Operator.number) (sym c.role.ensures ∙ (c.in-Some-Operator.is ∙ ap Some c.in-Some-Operator.field-0-is)) (sym c.input_of.ensures ∙ c.in-Some.is)
 
 pub first_record-requires : goal.first_record-requires
