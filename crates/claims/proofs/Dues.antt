@@ -1,5 +1,5 @@
 -- Which work is due, as the calls find it.
-use Rattle.std.proofs.Common.{◌≡◌, ◌<◌, ◌≤◌, ◌↔◌, min, take, map, Option, Some, None, IsTrue, IfSome, IfNone, Ok, slice_get, length, unwrap_or, is_some, ℕ, List, refl, sym, ap, subst, ◌∙◌, arith}
+use Rattle.std.proofs.Common.{◌≡◌, ◌<◌, ◌≤◌, ◌↔◌, min, take, map, Option, Some, None, IsTrue, IfSome, IfNone, Ok, slice_get, length, is_some, ℕ, List, refl, sym, ap, subst, ◌∙◌, arith}
 use Rattle.std.specs.List.{All}
 use Rattle.std.proofs.lemmas.List.{length-take-le}
 use Rattle.std.proofs.lemmas.List.Elements.{All-take}

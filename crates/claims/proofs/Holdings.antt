@@ -1,5 +1,5 @@
 -- What a task holds, and its logs.
-use Rattle.std.proofs.Common.{◌≡◌, ◌++◌, ℕ, Bool, true, false, Option, Some, None, Err, List, [], ◌∷◌, slice_get, length, unwrap_or, refl}
+use Rattle.std.proofs.Common.{◌≡◌, ◌++◌, ℕ, Bool, true, false, Option, Err, List, [], ◌∷◌, slice_get, length, unwrap_or, refl}
 use Rattle.commit_sink.specs.Ledger.{Ledger, Ends}
 use Rattle.commit_sink.specs.declared.transactions.TransactionFault.{TransactionFault}
 use Rattle.commit_sink.specs.declared.transactions.TransactionFault.TheVariants.{Memory}

@@ -1,11 +1,10 @@
 -- Records that are worked one after another.
-use Rattle.std.proofs.Common.{◌≡◌, ◌<◌, ◌+◌, ◌-◌, ℕ, suc, Bool, true, false, cond, List, [], ◌∷◌, ◌++◌, length, map, Option, Some, None, Ordering, refl, sym, ap, subst, ◌∙◌, append_assoc, arith, if◌then◌else◌}
+use Rattle.std.proofs.Common.{◌≡◌, Bool, true, false, List, [], ◌∷◌, length, Option, Some, None, refl, ap, ◌∙◌, arith, if◌then◌else◌}
 use Rattle.std.specs.List.{All}
 use Rattle.std.proofs.lemmas.List.Elements.{All-head, All-tail}
 use Rattle.dataflow_model.specs.Graph.{Meaning}
 use Rattle.dataflow_model.specs.Machine.{kept_under, state_under}
 use Rattle.job_state.specs.Batch.{Turn, turns_of, rows_of}
-use mathlib.Core.Path.{fun_ext}
 
 module _ {R K S O : Type 0} (meaning : Meaning R K S O) (operator : O) where
   pub rows_of-turns : (rows : List R) (states : K → Option S) → rows_of (turns_of meaning operator rows states) ≡ rows

@@ -1,5 +1,5 @@
 -- An operator's records while they are worked: what is sent so far, and the states that are left.
-use Rattle.std.proofs.Common.{◌≡◌, ◌<◌, ◌+◌, ℕ, Bool, true, false, cond, List, [], ◌∷◌, ◌++◌, length, Option, Some, None, Ordering, refl, sym, ap, subst, ◌∙◌, append_assoc, arith, unwrap_or, is_some}
+use Rattle.std.proofs.Common.{◌≡◌, ◌<◌, ℕ, Bool, true, false, cond, List, [], ◌∷◌, ◌++◌, length, Option, Some, None, Ordering, refl, sym, ap, subst, ◌∙◌, append_assoc, unwrap_or, is_some}
 use Rattle.std.specs.BTreeMap.{is_at}
 use Rattle.std.specs.Cmp.{IsTotalOrder, Equal-is, eq_by_cmp_equiv}
 use Rattle.std.specs.List.{All}
@@ -15,7 +15,7 @@ use mathlib.Core.Path.{fun_ext}
 use Rattle.abs_codec.specs.Entries.{value_at}
 use Rattle.dataflow_model.specs.Graph.{Meaning}
 use Rattle.dataflow_model.specs.Machine.{kept_under, state_under}
-use Rattle.job_state.specs.Batch.{Turn, turns_of, sent_by, kept_by, put_all}
+use Rattle.job_state.specs.Batch.{turns_of, sent_by, kept_by, put_all}
 use Rattle.operators.specs.Operator.{OrderIsExact}
 use Rattle.claims.proofs.Turns.{turns_same}
 use Rattle.claims.specs.Carried.{states_given, turns_given, HasItsState, AreStatesOf, IsCarried, IsOperand, IsOutcome}

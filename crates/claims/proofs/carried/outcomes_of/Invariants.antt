@@ -1,4 +1,4 @@
-use Rattle.std.proofs.Common.{◌≡◌, drop}
+use Rattle.std.proofs.Common.{drop}
 use Rattle.abs_codec.specs.Spelling.{Fits}
 use Rattle.operators.specs.Operator.{IsGoodState}
 use Rattle.claims.specs.Left.{AllGood}

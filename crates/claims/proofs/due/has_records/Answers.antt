@@ -1,4 +1,4 @@
-use Rattle.std.proofs.Common.{◌≡◌, ◌<◌, Some, slice_get, length, refl, sym, ◌∙◌, below_more, arith}
+use Rattle.std.proofs.Common.{◌<◌, length, refl, sym, ◌∙◌, below_more, arith}
 use Rattle.std.proofs.lemmas.Bool.{false≢true}
 use Rattle.std.proofs.lemmas.Option.{slice_get_read}
 use Rattle.job_state.specs.Sending.{items_at}
