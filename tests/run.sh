@@ -19,9 +19,9 @@ programs=()
 cd "$(dirname "$0")/.."
 
 # The stages of conformance/ whose steps are all served; and those of which some are not, each script of which is run up to the first of these, or whole
-# where it has none. (Of stage12 `claim T I K` is not; 119 of its scripts have none.)
-served="stage08"
-begun="stage12"
+# where it has none. (Of none today.)
+served="stage08 stage12"
+begun=""
 
 # A script and a job have at most so many bytes.
 most_bytes=16777216
@@ -119,6 +119,18 @@ expect_long_line() {
   expect_run "$work/long" "$work/long" job.json 0.jsonl
 }
 
+# expect_batches WORD..: a count of 3,000 rows of three keys in one task, with these words, and claims of 1, 7 and 1,024 records.
+expect_batches() {
+  rm -rf "$work/batches"
+  mkdir "$work/batches"
+  cat > "$work/batches/job.json" <<'JOB'
+{"vertices":[{"name":"s","kind":"source"},{"name":"c","kind":"count"},{"name":"out","kind":"sink"}],"edges":[{"from":"s","to":"c","route":"hash"},{"from":"c","to":"out"}]}
+JOB
+  for ((row = 0; row < 3000; row++)); do printf '{"k":"k%d","v":%d}\n' $((row % 3)) $row; done > "$work/batches/0.jsonl"
+  { echo 'sink 0 rows 3000'; for ((row = 0; row < 3000; row++)); do printf '{"k":"k%d","v":%d}\n' $((row % 3)) $((row / 3 + 1)); done; } > "$work/batches/out"
+  for batch in 1 7 1024; do expect_run "$work/batches" "$work/batches" job.json 0.jsonl "$@" --batch $batch; done
+}
+
 # expect_full: rows that can't be written end with status 1, and that is said.
 expect_full() {
   local folder=tests/runs/line_of_two_rows ended
@@ -165,6 +177,7 @@ for program in "${programs[@]}"; do
   expect_long_line 1048576 out 'sink 0 rows 1\n{"k":"a","v":11}\n'
   expect_long_line 1048577 err 'input 0 line 1: bad row\n'
   expect_long_line 50000000 err 'input 0 line 1: bad row\n'
+  for workers in 1 4; do expect_batches --workers $workers; done
   expect_full
 
   count_told tests/crashes.py "$program" tests/crashes/*.json

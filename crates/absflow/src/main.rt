@@ -2,6 +2,8 @@
 //! word at all runs the script on standard input.
 #![tactic(auto)]
 
+ghost use Rattle.command_line.specs.Line.{AsksInRange};
+
 use absflow_run::{check, script};
 use command_line::{Line, parse_line};
 use job_runner::{Input, Options, run_job};
@@ -87,7 +89,9 @@ fn run_line<R: Threads + Wait + Clock + Sync>(
     rt: &HostRuntime,
     threads: &R,
     line: &Line<'_>,
-) -> io::Result<ExitCode> {
+) -> io::Result<ExitCode>
+    requires { AsksInRange line.now }
+{
     match line {
         Line::Script(name) => run_on(rt, Command::Script, name),
         Line::Check(name) => run_on(rt, Command::Check, name),
@@ -97,11 +101,13 @@ fn run_line<R: Threads + Wait + Clock + Sync>(
             workers,
             every,
             turns,
+            batch,
         } => {
             let options = Options {
                 workers: *workers,
                 every: *every,
                 turns: *turns,
+                batch: *batch as u32,
             };
             run_files(rt, threads, job, inputs, options)
         }

@@ -39,7 +39,7 @@ asks_for_some other = false
 abbrev pub Works : {R K S O : Type 0} → Language R K S O → (task input : ℕ) → CoreState O R K S → CoreState O R K S → Reply → Type 0
 Works {R} {K} {S} {O} lang task input old new reply =
     ((middle : CoreState O R K S) × (job : ClaimedJob O K S R) × (made : Made O K S R)
-    × Claims old task input lang middle job.attempt job.serial job.work × (given_of made ≡ job.work)
+    × Claims old task input 1 lang middle job.attempt job.serial job.work × (given_of made ≡ job.work)
     × Tells accepted_as reply (EndsFinish middle lang new job.attempt job.serial made))
     ⊎ ((fault : CoreFault) × (reply ≡ Refused fault) × Refuses old task input fault × (new ≡ old))
 

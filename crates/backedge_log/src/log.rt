@@ -64,13 +64,13 @@ impl<R: Drop> Log<R> {
         self.is_open = false;
     }
 
-    pub fn reserve(&mut self) -> Result<(), NoMemory>
-        ensures ok { OnOk result (0 < self.new.room) }
-        ensures refused { OnErr result (self.old.room ≡ 0) }
+    pub fn reserve(&mut self, count: usize) -> Result<(), NoMemory>
+        ensures ok { OnOk result (count ≤ self.new.room) }
+        ensures refused { OnErr result (self.old.room < count) }
         ensures room { self.old.room ≤ self.new.room }
         ensures same { self.new ≡ record self.old { room = self.new.room } }
     {
-        self.records.reserve(1)?;
+        self.records.reserve(count)?;
         Ok(())
     }
 

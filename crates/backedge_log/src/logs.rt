@@ -90,16 +90,16 @@ impl<R: Drop> Logs<R> {
         self.logs[channel as usize].close();
     }
 
-    /// Takes room for a record in the channel's log.
-    pub fn reserve(&mut self, channel: u32) -> Result<(), NoMemory>
+    /// Takes room for so many records in the channel's log.
+    pub fn reserve(&mut self, channel: u32, count: usize) -> Result<(), NoMemory>
         requires { channel < length self.old }
-        ensures ok { OnOk result (0 < (log_at self.new channel).room) }
-        ensures refused { OnErr result ((log_at self.old channel).room ≡ 0) }
+        ensures ok { OnOk result (count ≤ (log_at self.new channel).room) }
+        ensures refused { OnErr result ((log_at self.old channel).room < count) }
         ensures room { (log_at self.old channel).room ≤ (log_at self.new channel).room }
         ensures same { self.new ≡ slice_set self.old channel
             (record (log_at self.old channel) { room = (log_at self.new channel).room }) }
     {
-        self.logs[channel as usize].reserve()
+        self.logs[channel as usize].reserve(count)
     }
 
     /// Logs a record. It takes no memory.

@@ -1,48 +1,82 @@
 -- What a claim carries.
-use Rattle.std.specs.Prelude.{◌≡◌, ℕ, List, Option, Some, None, IfSome}
+use Rattle.std.specs.Prelude.{◌≡◌, ◌<◌, ℕ, true, List, All, length, Option, Some, None, is_some, unwrap_or}
+use Rattle.std.specs.List.Sorted.{IsStrictlySortedBy}
+use Rattle.std.specs.Map.{keys_of}
+use Rattle.std.specs.declared.cmp.Ordering.{Ordering}
+use Rattle.abs_codec.specs.Entries.{value_at}
 use Rattle.dataflow_model.specs.Graph.{Meaning}
-use Rattle.operators.specs.declared.operator.Outcome.{Outcome}
+use Rattle.job_state.specs.Batch.{Turn, turns_of, sent_by, AreLastStates}
 use Rattle.claims.specs.declared.parts.Operand.{Operand}
+use Rattle.claims.specs.declared.parts.Outcomes.{Outcomes}
 use Rattle.claims.specs.declared.parts.Given.{Given}
 use Rattle.claims.specs.declared.parts.Given.TheVariants as given
 use Rattle.claims.specs.declared.parts.Made.{Made}
 use Rattle.claims.specs.declared.parts.Made.TheVariants as made
 
+module _ {K S : Type 0} where
+  -- the states that are given, by key
+  abbrev pub states_given : (K → K → Ordering) → List (K × Option S) → K → Option S
+  states_given cmp states key = unwrap_or (value_at cmp states key) None
+
+  -- the entries have each of these states, or none where none is given
+  abbrev pub AreStatesOf : (K → K → Ordering) → List (K × S) → List (K × Option S) → Type 0
+  AreStatesOf cmp entries states = (key : K) (state : Option S) → value_at cmp states key ≡ Some state → value_at cmp entries key ≡ state
+
 module _ {R K S O : Type 0} where
   -- the work that a result was made of
   abbrev pub given_of : Made O K S R → Given O K S R
-  given_of (made.Operator operand outcome) = given.Operator operand
+  given_of (made.Operator operand outcomes) = given.Operator operand
   given_of (made.Sink row bytes) = given.Sink row
   given_of (made.Refused work) = work
 
   -- the result is none: memory was refused
   abbrev pub IsRefused : Made O K S R → Type 0
-  IsRefused (made.Operator operand outcome) = ⊥
+  IsRefused (made.Operator operand outcomes) = ⊥
   IsRefused (made.Sink row bytes) = ⊥
   IsRefused (made.Refused work) = Unit {0}
 
-  -- the state that the operator works in: that under the key, or a fresh one
-  abbrev pub state_worked : Meaning R K S O → O → Option S → S
-  state_worked meaning operator None = meaning.fresh operator
-  state_worked meaning operator (Some state) = state
+  -- how many records the work takes
+  abbrev pub records_of : Given O K S R → ℕ
+  records_of (given.Operator operand) = length operand.rows.items
+  records_of (given.Sink row) = 1
 
-  module _ (meaning : Meaning R K S O) (RecordFits : R → Type 0) (IsGood : O → S → Type 0) where
-    -- the key is the record's, the record fits, and the state is good
-    abbrev pub IsOperand : Operand O K S R → Type 0
-    IsOperand p = (p.key ≡ meaning.key p.operator p.row) × RecordFits p.row × IfSome p.state (IsGood p.operator)
+  -- these states have a place for the record's key, if it has one
+  abbrev pub HasItsState : Meaning R K S O → (K → K → Ordering) → O → List (K × Option S) → R → Type 0
+  HasItsState meaning cmp operator states row = (key : K) → meaning.key operator row ≡ Some key → is_some (value_at cmp states key) ≡ true
+
+  -- the records of the work, worked one after another, the first on the states that are given
+  abbrev pub turns_given : Meaning R K S O → (K → K → Ordering) → Operand O K S R → List (Turn R K S)
+  turns_given meaning cmp p = turns_of meaning p.operator p.rows.items (states_given cmp p.states)
+
+  module _ (meaning : Meaning R K S O) (cmp : K → K → Ordering) (RecordFits : R → Type 0) (IsGood : O → S → Type 0) where
+    -- Each record's key has its place among the states, which stand by rising keys; the records fit, and the states are good.
+    pub record IsOperand (p : Operand O K S R) : Type 0 where
+      pub rising : IsStrictlySortedBy cmp (keys_of p.states)
+      pub keyed : All (HasItsState meaning cmp p.operator p.states) p.rows.items
+      pub some : 0 < length p.rows.items
+      pub fit : All RecordFits p.rows.items
+      pub good : (key : K) (state : S) → value_at cmp p.states key ≡ Some (Some state) → IsGood p.operator state
 
     abbrev pub IsGiven : Given O K S R → Type 0
     IsGiven (given.Operator operand) = IsOperand operand
     IsGiven (given.Sink row) = Unit {0}
 
-  -- the outcome is what the operator makes of the record
-  abbrev pub IsOutcome : Meaning R K S O → Operand O K S R → Outcome S R → Type 0
-  IsOutcome meaning p outcome =
-      let means = meaning.apply p.operator (state_worked meaning p.operator p.state) p.row in
-      (outcome.state ≡ means.state) × (outcome.sent.items ≡ means.sent)
+  module _ (meaning : Meaning R K S O) (cmp : K → K → Ordering) where
+    -- what is carried so far, of a task that has these entries
+    pub record IsCarried (entries : List (K × S)) (p : Operand O K S R) : Type 0 where
+      pub rising : IsStrictlySortedBy cmp (keys_of p.states)
+      pub keyed : All (HasItsState meaning cmp p.operator p.states) p.rows.items
+      pub same : AreStatesOf cmp entries p.states
 
-  -- what was made is what the work means: an operator's outcome, or the spelling of a sink's record
-  abbrev pub IsMade : Meaning R K S O → (RecordFits : R → Type 0) → (IsGood : O → S → Type 0) → (R → List ℕ) → Made O K S R → Type 0
-  IsMade meaning RecordFits IsGood spelling (made.Operator operand outcome) = IsOperand meaning RecordFits IsGood operand × IsOutcome meaning operand outcome
-  IsMade meaning RecordFits IsGood spelling (made.Sink row bytes) = bytes.items ≡ spelling row
-  IsMade meaning RecordFits IsGood spelling (made.Refused work) = IsGiven meaning RecordFits IsGood work
+    -- The outcomes are what the operator makes of the records, one after another: all that is sent, and the last state of each key, by
+    -- rising keys.
+    pub record IsOutcome (p : Operand O K S R) (outcomes : Outcomes K S R) : Type 0 where
+      pub sent : outcomes.sent.items ≡ sent_by (turns_given meaning cmp p)
+      pub last : AreLastStates meaning.same_key (turns_given meaning cmp p) outcomes.states.items
+      pub rising : IsStrictlySortedBy cmp (keys_of outcomes.states.items)
+
+    -- what was made is what the work means: an operator's outcomes, or the spelling of a sink's record
+    abbrev pub IsMade : (RecordFits : R → Type 0) → (IsGood : O → S → Type 0) → (R → List ℕ) → Made O K S R → Type 0
+    IsMade RecordFits IsGood spelling (made.Operator operand outcomes) = IsOperand meaning cmp RecordFits IsGood operand × IsOutcome operand outcomes
+    IsMade RecordFits IsGood spelling (made.Sink row bytes) = bytes.items ≡ spelling row
+    IsMade RecordFits IsGood spelling (made.Refused work) = IsGiven meaning cmp RecordFits IsGood work

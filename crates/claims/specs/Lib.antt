@@ -1,3 +1,4 @@
 pub mod Carried
 pub mod Due
+pub mod Left
 pub mod Tasks

@@ -1,40 +1,77 @@
 //! A result is taken.
 
-ghost use Rattle.std.specs.Prelude.{◌≡◌, ◌≢◌, ◌<◌, List, Err, None, Some, length, slice_get};
+ghost use Rattle.std.specs.Prelude.{◌≡◌, ◌≢◌, ◌<◌, List, Err, None, Some, length, slice_get, OnOk, OnErr};
 ghost use Rattle.commit_sink.specs.Ledger.{Ledger, open_refusal};
 ghost use Rattle.commit_sink.specs.Sink.{Sinking};
+ghost use Rattle.job_state.specs.Batch.{Turn, OperatesEach};
 ghost use Rattle.job_state.specs.Held.{gate_at};
 ghost use Rattle.job_state.specs.declared.holding.Holding.TheVariants as Holding;
 ghost use Rattle.engine_model.specs.declared.fault.CoreFault.TheVariants as CoreFault;
 ghost use Rattle.engine_model.specs.Calls.{IsRecordDue, EndsPutOut};
-ghost use Rattle.claims.specs.Carried.{IsOperand, IsOutcome, IsGiven};
-ghost use Rattle.claims.specs.Due.{EndsTaking, EndsRefused, EndsAccept};
+ghost use Rattle.engine_model.specs.Keeps.{Shape};
+ghost use Rattle.claims.specs.Carried.{IsOperand, IsOutcome, turns_given};
+ghost use Rattle.claims.specs.Due.{IsOperandDue, EndsTaking, EndsAccept};
 ghost use Rattle.claims.specs.Tasks.{Serves};
 ghost use Rattle.claims.specs.declared.parts.Given.TheVariants as Given;
 
 use crate::carried::Worked;
 use crate::due::{is_due, operand_channel, row_channel};
-use crate::parts::{Given, Made, Operand};
+use crate::parts::{Given, Made, Operand, Outcomes};
+use abs_codec::NoMemory;
 use commit_sink::{TransactionFault, Transactions};
 use engine_model::{CoreFault, Rules};
 use job_graph::Graph;
 use job_state::Attempt;
-use operators::{Operator, Outcome};
+use operators::Operator;
 
-/// An operator's outcome is taken.
-fn accept_outcome<O: Operator>(
+/// An operator's records are taken, which are due, with what it made of them.
+fn operate<O: Operator>(
+    attempt: &mut Attempt<O>,
+    graph: &Graph,
+    task: u32,
+    input: u32,
+    channel: u32,
+    operand: Operand<O, O::Key, O::State, O::Record>,
+    outcomes: Outcomes<O::Key, O::State, O::Record>,
+) -> Result<(), NoMemory>
+    ghost turns: { List (Turn O.Record O.Key O.State) }
+    requires shape { (operators : List O) × Shape O.Key.cmp ⟦<O as Rules>⟧.RecordFits
+        ⟦<O as Rules>⟧.IsGood graph.now operators attempt.old
+        × IsOperandDue ⟦<O as Rules>⟧.lang graph.now operators task input attempt.old channel
+        operand }
+    requires outcomes { IsOutcome O.meaning O.Key.cmp operand outcomes }
+    requires turns { turns ≡ turns_given O.meaning O.Key.cmp operand }
+    ensures ok { OnOk result (OperatesEach O.meaning O.Key.cmp graph.now task input channel turns
+        attempt.old attempt.new) }
+    ensures err { OnErr result (attempt.new ≡ attempt.old) }
+{
+    let count = operand.rows.len();
+    attempt.operate_some(
+        graph,
+        task,
+        input,
+        channel,
+        count,
+        outcomes.states,
+        outcomes.sent,
+    )
+}
+
+/// An operator's outcomes are taken.
+fn accept_outcomes<O: Operator>(
     attempt: &mut Attempt<O>,
     graph: &Graph,
     operators: &[O],
     task: u32,
     input: u32,
     operand: Operand<O, O::Key, O::State, O::Record>,
-    outcome: Outcome<O::State, O::Record>,
+    outcomes: Outcomes<O::Key, O::State, O::Record>,
 ) -> Result<(), CoreFault>
     requires serves { (ledger : Ledger) × Serves O.Key.cmp ⟦<O as Rules>⟧.RecordFits
         ⟦<O as Rules>⟧.IsGood graph.now operators.now ledger attempt.old }
-    requires operand { IsOperand O.meaning ⟦<O as Rules>⟧.RecordFits ⟦<O as Rules>⟧.IsGood operand }
-    requires outcome { IsOutcome O.meaning operand outcome }
+    requires operand { IsOperand O.meaning O.Key.cmp ⟦<O as Rules>⟧.RecordFits
+        ⟦<O as Rules>⟧.IsGood operand }
+    requires outcomes { IsOutcome O.meaning O.Key.cmp operand outcomes }
     ensures told { result ≢ Err CoreFault.Device }
     ensures ends { (ledger : Ledger) → EndsTaking ⟦<O as Rules>⟧.lang graph.now operators.now task
         input attempt.old attempt.new ledger ledger (Given.Operator operand) result }
@@ -42,15 +79,7 @@ fn accept_outcome<O: Operator>(
     let Some(channel) = operand_channel(attempt, graph, operators, task, input, &operand) else {
         return Err(CoreFault::WrongResult);
     };
-    attempt.operate(
-        graph,
-        task,
-        input,
-        channel,
-        operand.key,
-        outcome.state,
-        outcome.sent,
-    )?;
+    operate(attempt, graph, task, input, channel, operand, outcomes)?;
     Ok(())
 }
 
@@ -124,8 +153,8 @@ fn accept_row<O: Operator, X: Transactions>(
 }
 
 /// Takes what was made of a task's work. `K7` is told exactly where that work is not due: the
-/// operator, the state or the record is another one, or nothing may be taken from the input.
-/// Nothing is copied.
+/// operator, a state or a record is another one, or nothing may be taken from the input. An
+/// operator's records are all taken, in so many steps, or none is. Nothing is copied.
 pub fn accept<O: Operator, X: Transactions>(
     attempt: &mut Attempt<O>,
     graph: &Graph,
@@ -145,8 +174,8 @@ pub fn accept<O: Operator, X: Transactions>(
         → X.fault_count transactions.new ≡ X.fault_count transactions.old }
 {
     match worked.made {
-        Made::Operator(operand, outcome) => {
-            accept_outcome(attempt, graph, operators, task, input, operand, outcome)
+        Made::Operator(operand, outcomes) => {
+            accept_outcomes(attempt, graph, operators, task, input, operand, outcomes)
         }
         Made::Sink(row, bytes) => accept_row(
             attempt,

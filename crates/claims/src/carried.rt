@@ -1,18 +1,23 @@
 //! Work, and what was made of it.
 
-ghost use Rattle.std.specs.Prelude.{◌≡◌, IfOk, IfErr};
+ghost use Rattle.std.specs.Prelude.{◌≡◌, List, IfOk, IfErr, OnOk};
+ghost use Rattle.std.specs.List.Sorted.{IsStrictlySortedBy};
+ghost use Rattle.std.specs.Map.{keys_of};
+ghost use Rattle.std.specs.Option.{option_copied};
 ghost use Rattle.engine_model.specs.declared.fault.CoreFault.TheVariants as CoreFault;
 ghost use Rattle.claims.specs.declared.parts.Given.TheVariants as Given;
-ghost use Rattle.claims.specs.Carried.{IsOperand, IsOutcome, given_of};
+ghost use Rattle.claims.specs.Carried.{IsOperand, IsOutcome, given_of, records_of};
+ghost use Rattle.claims.specs.Left.{AllGood, WorksRow, made_of, state_left};
 
-use crate::parts::{Given, Made, Operand};
-use abs_codec::{Codec, NoMemory};
+use crate::parts::{Given, Made, Operand, Outcomes};
+use abs_codec::{Codec, Map, NoMemory};
 use engine_model::{CoreFault, Rules};
 use operators::{Operator, Outcome};
 use std::alloc::Global;
 use std::marker::Model;
 
-/// A task's work on a record, with all that it needs: it can be done by anyone, at any time.
+/// A task's work on the first records of an input, with all that it needs: it can be done by
+/// anyone, at any time.
 #[derive(Drop)]
 pub struct Work<O: Operator> {
     pub(crate) given: Given<O, O::Key, O::State, O::Record>,
@@ -28,7 +33,8 @@ impl<O: Operator> Model for Work<O> {
 
     ghost view = { λ w. w.given };
 
-    ghost invariant = { λ w. IsGiven O.meaning (Fits O.Record.HasSpelling O.Record.spelling)
+    ghost invariant = { λ w. IsGiven O.meaning O.Key.cmp
+        (Fits O.Record.HasSpelling O.Record.spelling)
         (IsGoodState (Fits O.State.HasSpelling O.State.spelling) O.Suits) w.given };
 }
 
@@ -48,26 +54,114 @@ impl<O: Operator> Model for Worked<O> {
 
     ghost view = { λ w. w.made };
 
-    ghost invariant = { λ w. IsMade O.meaning (Fits O.Record.HasSpelling O.Record.spelling)
+    ghost invariant = { λ w. IsMade O.meaning O.Key.cmp
+        (Fits O.Record.HasSpelling O.Record.spelling)
         (IsGoodState (Fits O.State.HasSpelling O.State.spelling) O.Suits)
         O.Record.spelling w.made };
 }
 
-/// What an operator makes of its record.
+/// The state under a record's key: the one that was left, or else the one that was given.
+fn state_under<'a, O: Operator>(
+    operand: &'a Operand<O, O::Key, O::State, O::Record>,
+    left: &'a Map<O::Key, O::State>,
+    key: &Option<O::Key>,
+) -> Option<&'a O::State>
+    ensures { option_copied result
+        ≡ state_left O.Key.cmp operand.now.states left.now key.now }
+{
+    let key = key.as_ref()?;
+    match left.get(key) {
+        Some(state) => Some(state),
+        None => operand.states.get(key)?.as_ref(),
+    }
+}
+
+/// What an operator makes of a record, in the state that was left under its key.
 fn outcome_of<O: Operator>(
     alloc: Global,
     operand: &Operand<O, O::Key, O::State, O::Record>,
+    left: &Map<O::Key, O::State>,
+    key: &Option<O::Key>,
+    row: &O::Record,
 ) -> Result<Outcome<O::State, O::Record>, NoMemory>
-    requires { IsOperand O.meaning ⟦<O as Rules>⟧.RecordFits ⟦<O as Rules>⟧.IsGood operand.now }
-    ensures { IfOk result (IsOutcome O.meaning operand.now) }
+    requires key { key.now ≡ O.meaning.key operand.now.operator row.now }
+    requires operand { IsOperand O.meaning O.Key.cmp ⟦<O as Rules>⟧.RecordFits
+        ⟦<O as Rules>⟧.IsGood operand.now }
+    requires fits { ⟦<O as Rules>⟧.RecordFits row.now }
+    requires good { AllGood O.Key.cmp (⟦<O as Rules>⟧.IsGood operand.now.operator) left.now }
+    ensures state { IfOk result (λ outcome. outcome.state
+        ≡ (made_of O.meaning O.Key.cmp operand.now left.now row.now).state) }
+    ensures sent { IfOk result (λ outcome. outcome.sent.items
+        ≡ (made_of O.meaning O.Key.cmp operand.now left.now row.now).sent) }
+    ensures good { IfOk result (λ outcome.
+        ⟦<O as Rules>⟧.IsGood operand.now.operator outcome.state) }
 {
-    let Some(state) = &operand.state else {
+    let Some(state) = state_under::<O>(operand, left, key) else {
         let fresh = operand.operator.fresh(alloc)?;
-        let outcome = operand.operator.apply(alloc, &fresh, &operand.row)?;
-        return Ok(outcome);
+        return operand.operator.apply(alloc, &fresh, row);
     };
-    let outcome = operand.operator.apply(alloc, state, &operand.row)?;
-    Ok(outcome)
+    operand.operator.apply(alloc, state, row)
+}
+
+/// An operator works a record: its key's state is left, and what is sent is put last.
+fn work_row<O: Operator>(
+    alloc: Global,
+    operand: &Operand<O, O::Key, O::State, O::Record>,
+    row: &O::Record,
+    left: &mut Map<O::Key, O::State>,
+    sent: &mut Vec<(u32, O::Record)>,
+) -> Result<(), NoMemory>
+    requires operand { IsOperand O.meaning O.Key.cmp ⟦<O as Rules>⟧.RecordFits
+        ⟦<O as Rules>⟧.IsGood operand.now }
+    requires fits { ⟦<O as Rules>⟧.RecordFits row.now }
+    requires good { AllGood O.Key.cmp (⟦<O as Rules>⟧.IsGood operand.now.operator) left.old }
+    ensures works { OnOk result (WorksRow O.meaning O.Key.cmp operand.now left.old row.now
+        left.new sent.old.items sent.new.items) }
+    ensures good { OnOk result
+        (AllGood O.Key.cmp (⟦<O as Rules>⟧.IsGood operand.now.operator) left.new) }
+{
+    let key = operand.operator.key(alloc, row)?;
+    let mut outcome = outcome_of(alloc, operand, left, &key, row)?;
+    sent.append(&mut outcome.sent)?;
+    if let Some(key) = key {
+        left.insert(key, outcome.state)?;
+    }
+    Ok(())
+}
+
+/// The entries of a map, by rising keys.
+fn entries_of<K: Ord + Drop, S: Drop>(
+    alloc: Global,
+    map: Map<K, S>,
+) -> Result<Vec<(K, S)>, NoMemory>
+    ensures entries { IfOk result (λ entries. entries.items ≡ map) }
+    ensures rising { IsStrictlySortedBy K.cmp (keys_of map) }
+{
+    let mut entries = Vec::with_capacity(alloc, map.len())?;
+    let mut rest = map.into_btree_map();
+    while let Some(entry) = rest.pop_first() {
+        entries.push(entry)?;
+    }
+    Ok(entries)
+}
+
+/// What an operator makes of its records, from the first to the last, each in the state that the
+/// former left under its key.
+fn outcomes_of<O: Operator>(
+    alloc: Global,
+    operand: &Operand<O, O::Key, O::State, O::Record>,
+) -> Result<Outcomes<O::Key, O::State, O::Record>, NoMemory>
+    requires { IsOperand O.meaning O.Key.cmp ⟦<O as Rules>⟧.RecordFits ⟦<O as Rules>⟧.IsGood
+        operand.now }
+    ensures { IfOk result (IsOutcome O.meaning O.Key.cmp operand.now) }
+{
+    let mut left = Map::new(alloc);
+    let mut sent = Vec::new(alloc);
+    for row in &operand.rows {
+        work_row(alloc, operand, row, &mut left, &mut sent)?;
+    }
+    let states = entries_of(alloc, left)?;
+    Ok(Outcomes { states, sent })
 }
 
 /// An operator's work is done.
@@ -75,12 +169,13 @@ fn worked_operand<O: Operator>(
     alloc: Global,
     operand: Operand<O, O::Key, O::State, O::Record>,
 ) -> Worked<O>
-    requires { IsOperand O.meaning ⟦<O as Rules>⟧.RecordFits ⟦<O as Rules>⟧.IsGood operand }
+    requires { IsOperand O.meaning O.Key.cmp ⟦<O as Rules>⟧.RecordFits ⟦<O as Rules>⟧.IsGood
+        operand }
     ensures { given_of result ≡ Given.Operator operand }
 {
-    match outcome_of(alloc, &operand) {
-        Ok(outcome) => Worked {
-            made: Made::Operator(operand, outcome),
+    match outcomes_of(alloc, &operand) {
+        Ok(outcomes) => Worked {
+            made: Made::Operator(operand, outcomes),
         },
         Err(_) => Worked {
             made: Made::Refused(Given::Operator(operand)),
@@ -114,18 +209,52 @@ fn worked_row<O: Operator>(alloc: Global, row: O::Record) -> Worked<O>
     }
 }
 
+/// How many records work takes.
+fn count_of<O, K: Ord, S, R>(given: &Given<O, K, S, R>) -> usize
+    ensures { result ≡ records_of given.now }
+{
+    match given {
+        Given::Operator(operand) => operand.rows.len(),
+        Given::Sink(_) => 1,
+    }
+}
+
 impl<O: Operator> Work<O> {
     ghost use Rattle.std.specs.Prelude.{◌≡◌};
-    ghost use Rattle.claims.specs.Carried.{given_of};
+    ghost use Rattle.claims.specs.Carried.{given_of, records_of};
 
-    /// Does the work. It waits for nobody and copies nothing. What is made carries the work, also
-    /// where memory was refused.
+    /// How many records the work takes: one, where it is a sink's.
+    pub fn records(&self) -> usize
+        ensures { result ≡ records_of self.now }
+    {
+        count_of(&self.given)
+    }
+
+    /// Does the work: an operator works its records from the first to the last, each in the state
+    /// that the former left under its key. It waits for nobody, and copies no record and no state.
+    /// What is made carries the work, also where memory was refused.
     pub fn run(self, alloc: Global) -> Worked<O>
         ensures { given_of result ≡ self }
     {
         match self.given {
             Given::Operator(operand) => worked_operand(alloc, operand),
             Given::Sink(row) => worked_row(alloc, row),
+        }
+    }
+}
+
+impl<O: Operator> Worked<O> {
+    ghost use Rattle.std.specs.Prelude.{◌≡◌};
+    ghost use Rattle.claims.specs.Carried.{given_of, records_of};
+
+    /// How many records the work takes that this was made of.
+    pub fn records(&self) -> usize
+        ensures { result ≡ records_of (given_of self.now) }
+    {
+        match &self.made {
+            Made::Operator(operand, _) => operand.rows.len(),
+            Made::Sink(_, _) => 1,
+            Made::Refused(given) => count_of(given),
         }
     }
 }

@@ -2,15 +2,20 @@
 
 ghost use Rattle.std.specs.Prelude.{◌≡◌, ◌<◌, ◌↔◌, ℕ, List, Some, length, slice_get, IsTrue, IfSome, IfNone};
 ghost use Rattle.std.specs.Option.{option_copied};
+ghost use Rattle.abs_codec.specs.Entries.{value_at};
+ghost use Rattle.channels.specs.Items.{leading_records};
+ghost use Rattle.job_state.specs.Batch.{StandFirst};
 ghost use Rattle.job_state.specs.Held.{gate_at};
+ghost use Rattle.job_state.specs.Sending.{items_at};
 ghost use Rattle.job_state.specs.declared.holding.Holding.TheVariants as Holding;
-ghost use Rattle.engine_model.specs.Calls.{state_of, IsRecordDue};
+ghost use Rattle.engine_model.specs.Calls.{IsRecordDue};
 ghost use Rattle.engine_model.specs.Keeps.{GateFits, Shape};
-ghost use Rattle.claims.specs.Carried.{IsGiven};
+ghost use Rattle.claims.specs.Carried.{AreStatesOf};
 ghost use Rattle.claims.specs.Due.{WorksFrom, IsOperandDue, IsRowDue, IsDue};
 
-use crate::inputs::{first_record, input_of, state_at};
+use crate::inputs::{first_record, input_of};
 use crate::parts::{Given, Operand};
+use abs_codec::Map;
 use engine_model::Rules;
 use job_graph::{Graph, Role};
 use job_state::Attempt;
@@ -63,18 +68,42 @@ fn is_first<O: Operator>(
     }
 }
 
+/// Whether this record stands at a place of a channel, with no barrier before it.
+fn is_record<O: Operator>(attempt: &Attempt<O>, channel: u32, index: usize, row: &O::Record) -> bool
+    ensures { IsTrue result
+        ↔ (slice_get (leading_records (items_at attempt.now.channels channel)) index
+        ≡ Some row.now) }
+{
+    match attempt.record(channel, index) {
+        Some(found) => found == row,
+        None => false,
+    }
+}
+
+/// Whether these records stand first in a channel, with no barrier before one of them.
+fn has_records<O: Operator>(attempt: &Attempt<O>, channel: u32, rows: &[O::Record]) -> bool
+    ensures { IsTrue result ↔ StandFirst channel rows.now attempt.now }
+{
+    for index in 0..rows.len() {
+        if !is_record(attempt, channel, index, &rows[index]) {
+            return false;
+        }
+    }
+    true
+}
+
 /// Whether a task has this state under a key, or has none where none is given.
 fn has_state<O: Operator>(
     attempt: &Attempt<O>,
     task: u32,
-    key: &Option<O::Key>,
+    key: &O::Key,
     state: &Option<O::State>,
 ) -> bool
     ensures { (entries : List (O.Key × O.State))
         → slice_get attempt.now.tasks task ≡ Some (Holding.Operator entries) → IsTrue result
-        ↔ (state_of O.Key.cmp entries key.now ≡ state.now) }
+        ↔ (value_at O.Key.cmp entries key.now ≡ state.now) }
 {
-    match state_at(attempt, task, key) {
+    match attempt.state(task, key) {
         Some(found) => match state {
             Some(state) => found == state,
             None => false,
@@ -83,7 +112,25 @@ fn has_state<O: Operator>(
     }
 }
 
-/// The channel from which a task is to take an operator's record, where that work is due.
+/// Whether a task has these states.
+fn has_states<O: Operator>(
+    attempt: &Attempt<O>,
+    task: u32,
+    states: &Map<O::Key, Option<O::State>>,
+) -> bool
+    ensures { (entries : List (O.Key × O.State))
+        → slice_get attempt.now.tasks task ≡ Some (Holding.Operator entries) → IsTrue result
+        ↔ AreStatesOf O.Key.cmp entries states.now }
+{
+    for (key, state) in states.iter() {
+        if !has_state(attempt, task, key, state) {
+            return false;
+        }
+    }
+    true
+}
+
+/// The channel from which a task is to take an operator's records, where that work is due.
 pub(crate) fn operand_channel<O: Operator>(
     attempt: &Attempt<O>,
     graph: &Graph,
@@ -94,7 +141,6 @@ pub(crate) fn operand_channel<O: Operator>(
 ) -> Option<u32>
     requires shape { Shape O.Key.cmp ⟦<O as Rules>⟧.RecordFits ⟦<O as Rules>⟧.IsGood graph.now
         operators.now attempt.now }
-    requires key { operand.now.key ≡ O.meaning.key operand.now.operator operand.now.row }
     ensures some { IfSome result (λ channel. IsOperandDue ⟦<O as Rules>⟧.lang graph.now
         operators.now task input attempt.now channel operand.now) }
     ensures none { IfNone result ((channel : ℕ) → ¬ IsOperandDue ⟦<O as Rules>⟧.lang graph.now
@@ -107,8 +153,9 @@ pub(crate) fn operand_channel<O: Operator>(
         return None;
     };
     if is_operator(operators, number, &operand.operator)
-        && is_first(attempt, task, input, channel, &operand.row)
-        && has_state(attempt, task, &operand.key, &operand.state)
+        && !attempt.is_blocked(task, input)
+        && has_records(attempt, channel, &operand.rows)
+        && has_states(attempt, task, &operand.states)
     {
         Some(channel)
     } else {
@@ -152,7 +199,6 @@ pub(crate) fn is_due<O: Operator>(
 ) -> bool
     requires shape { Shape O.Key.cmp ⟦<O as Rules>⟧.RecordFits ⟦<O as Rules>⟧.IsGood graph.now
         operators.now attempt.now }
-    requires given { IsGiven O.meaning ⟦<O as Rules>⟧.RecordFits ⟦<O as Rules>⟧.IsGood given.now }
     ensures { IsTrue result
         ↔ IsDue ⟦<O as Rules>⟧.lang graph.now operators.now task input attempt.now given.now }
 {

@@ -1,10 +1,10 @@
 //! What a task has at its inputs.
 
-ghost use Rattle.std.specs.Prelude.{◌≡◌, ◌<◌, List, Some, length, slice_get, IfOk, IfErr};
-ghost use Rattle.std.specs.Option.{option_copied};
+ghost use Rattle.std.specs.Prelude.{◌≡◌, ◌<◌, length, IfOk, IfErr};
+ghost use Rattle.channels.specs.Items.{leading_records};
 ghost use Rattle.job_state.specs.Held.{gate_at};
-ghost use Rattle.job_state.specs.declared.holding.Holding.TheVariants as Holding;
-ghost use Rattle.engine_model.specs.Calls.{input_at, state_of, IsRecordDue};
+ghost use Rattle.job_state.specs.Sending.{items_at};
+ghost use Rattle.engine_model.specs.Calls.{input_at, IsRecordDue};
 ghost use Rattle.claims.specs.Tasks.{RefusesRecord};
 
 use channels::Item;
@@ -18,19 +18,6 @@ pub fn input_of(graph: &Graph, task: u32, input: u32) -> Option<u32>
     ensures { result ≡ input_at graph.now task input }
 {
     graph.inputs(task).get(input as usize).copied()
-}
-
-/// The state under a record's key, if there is one.
-pub(crate) fn state_at<'a, O: Operator>(
-    attempt: &'a Attempt<O>,
-    task: u32,
-    key: &Option<O::Key>,
-) -> Option<&'a O::State>
-    ensures { (entries : List (O.Key × O.State))
-        → slice_get attempt.now.tasks task ≡ Some (Holding.Operator entries)
-        → option_copied result ≡ state_of O.Key.cmp entries key.now }
-{
-    attempt.state(task, key.as_ref()?)
 }
 
 /// The record at the head of an input, which is this channel, where it may be taken.
@@ -52,4 +39,23 @@ pub(crate) fn first_record<O: Operator>(
         Some(Item::Barrier(_)) => Err(CoreFault::NotReady),
         None => Err(CoreFault::NotReady),
     }
+}
+
+/// How many records may be taken from an input, which is this channel: all that stand before the
+/// first barrier, at least one.
+pub(crate) fn free_records<O: Operator>(
+    attempt: &Attempt<O>,
+    task: u32,
+    input: u32,
+    channel: u32,
+) -> Result<usize, CoreFault>
+    requires { input < length (gate_at attempt.now task).inputs }
+    ensures due { IfOk result (λ count. (row : O.Record)
+        × IsRecordDue task input attempt.now channel row) }
+    ensures all { IfOk result (λ count. count
+        ≡ length (leading_records (items_at attempt.now.channels channel))) }
+    ensures err { IfErr result (RefusesRecord task input channel attempt.now) }
+{
+    first_record(attempt, task, input, channel)?;
+    Ok(attempt.before_barrier(channel))
 }

@@ -1,8 +1,14 @@
-//! What a claim carries: a task's work on the record at the head of an input, which is done outside
-//! the engine, with no lock held, and handed in later. Proved: a result carries the work that it
-//! was made of, and is what that work means; work is offered exactly where a task could do it now;
-//! and a result is taken, as the task's own work would end, exactly where its work is what the task
-//! would do now (`K7` where it is not).
+//! What a claim carries: a task's work on the first records of an input, which is done outside the
+//! engine, with no lock held, and handed in later. Proved: a result carries the work that it was
+//! made of, and is what that work means, record by record; work is offered exactly where a task
+//! could do it now; and a result is taken, as so many steps of the task's own work would end,
+//! exactly where its work is what the task would do now (`K7` where it is not).
+//!
+//! An operator's work carries the records that stand before the first barrier, as many as are asked
+//! for, and of each of their keys the present state, once. A sink's work is one record. With n
+//! records of m keys, offering takes n + m copies, and running and taking take no more; each of
+//! them takes n times a time logarithmic in m, and taking m times one logarithmic in the task's
+//! keys too.
 #![tactic(auto)]
 
 mod accepts;
@@ -17,4 +23,4 @@ pub use carried::{Work, Worked};
 pub use due::{channel_of, operator_of};
 pub use inputs::input_of;
 pub use offers::offer;
-pub use parts::{Given, Made, Operand};
+pub use parts::{Given, Made, Operand, Outcomes};

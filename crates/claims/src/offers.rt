@@ -1,22 +1,23 @@
 //! Work is offered.
 
-ghost use Rattle.std.specs.Prelude.{◌≡◌, ◌<◌, ℕ, List, Some, length, slice_get, IfOk, IfErr};
+ghost use Rattle.std.specs.Prelude.{◌≡◌, ◌<◌, ◌≤◌, ◌++◌, ◌∷◌, [], ℕ, List, Some, true, length, take, slice_get, is_some, OnOk, IfOk};
+ghost use Rattle.std.specs.List.Sorted.{IsStrictlySortedBy};
+ghost use Rattle.std.specs.Map.{keys_of};
 ghost use Rattle.abs_codec.specs.Entries.{value_at};
+ghost use Rattle.channels.specs.Items.{leading_records};
 ghost use Rattle.job_graph.specs.Expanded.{IsExpanded};
 ghost use Rattle.job_graph.specs.PlainGraph.{HaveOperators};
-ghost use Rattle.job_state.specs.Held.{gate_at};
+ghost use Rattle.job_state.specs.Sending.{items_at};
 ghost use Rattle.job_state.specs.declared.holding.Holding.TheVariants as Holding;
-ghost use Rattle.engine_model.specs.declared.fault.CoreFault.TheVariants as CoreFault;
-ghost use Rattle.engine_model.specs.Calls.{state_of, IsRecordDue};
-ghost use Rattle.engine_model.specs.Keeps.{AllFit, Shape};
-ghost use Rattle.claims.specs.Carried.{IsOperand};
+ghost use Rattle.engine_model.specs.Keeps.{Shape};
+ghost use Rattle.claims.specs.Carried.{AreStatesOf, IsCarried};
 ghost use Rattle.claims.specs.Due.{EndsOffer};
 
 use crate::carried::Work;
 use crate::due::operator_of;
-use crate::inputs::{first_record, input_of, state_at};
+use crate::inputs::{first_record, free_records, input_of};
 use crate::parts::{Given, Operand};
-use abs_codec::{Codec, NoMemory};
+use abs_codec::{Codec, Map, NoMemory};
 use engine_model::{CoreFault, Rules};
 use job_graph::{Graph, Role};
 use job_state::Attempt;
@@ -27,55 +28,106 @@ use std::alloc::Global;
 fn state_copied<O: Operator>(
     attempt: &Attempt<O>,
     task: u32,
-    key: &Option<O::Key>,
+    key: &O::Key,
 ) -> Result<Option<O::State>, NoMemory>
     ensures { IfOk result (λ state. (entries : List (O.Key × O.State))
         → slice_get attempt.now.tasks task ≡ Some (Holding.Operator entries)
-        → state_of O.Key.cmp entries key.now ≡ state) }
+        → value_at O.Key.cmp entries key.now ≡ state) }
 {
-    match state_at(attempt, task, key) {
+    match attempt.state(task, key) {
         Some(state) => Ok(Some(state.copied()?)),
         None => Ok(None),
     }
 }
 
-/// An operator's work on a record: one copy each of the operator, the state and the record, and the
-/// record's key.
+/// The state under a record's key is carried, where it is not carried yet.
+fn carry_state<O: Operator>(
+    attempt: &Attempt<O>,
+    task: u32,
+    key: Option<O::Key>,
+    states: &mut Map<O::Key, Option<O::State>>,
+) -> Result<(), NoMemory>
+    ensures rising { OnOk result (IsStrictlySortedBy O.Key.cmp (keys_of states.old)
+        → IsStrictlySortedBy O.Key.cmp (keys_of states.new)) }
+    ensures stays { OnOk result ((other : O.Key)
+        → is_some (value_at O.Key.cmp states.old other) ≡ true
+        → is_some (value_at O.Key.cmp states.new other) ≡ true) }
+    ensures there { OnOk result ((one : O.Key) → key ≡ Some one
+        → is_some (value_at O.Key.cmp states.new one) ≡ true) }
+    ensures same { OnOk result ((entries : List (O.Key × O.State))
+        → slice_get attempt.now.tasks task ≡ Some (Holding.Operator entries)
+        → AreStatesOf O.Key.cmp entries states.old → AreStatesOf O.Key.cmp entries states.new) }
+{
+    let Some(key) = key else {
+        return Ok(());
+    };
+    if states.contains_key(&key) {
+        return Ok(());
+    }
+    let state = state_copied(attempt, task, &key)?;
+    states.insert(key, state)?;
+    Ok(())
+}
+
+/// A record is carried too, and the state under its key.
+fn carry_record<O: Operator>(
+    alloc: Global,
+    attempt: &Attempt<O>,
+    task: u32,
+    row: &O::Record,
+    operand: &mut Operand<O, O::Key, O::State, O::Record>,
+) -> Result<(), NoMemory>
+    requires { (entries : List (O.Key × O.State))
+        → slice_get attempt.now.tasks task ≡ Some (Holding.Operator entries)
+        → IsCarried O.meaning O.Key.cmp entries operand.old }
+    ensures operator { operand.new.operator ≡ operand.old.operator }
+    ensures rows { OnOk result (operand.new.rows.items ≡ operand.old.rows.items ++ row.now ∷ []) }
+    ensures carried { OnOk result ((entries : List (O.Key × O.State))
+        → slice_get attempt.now.tasks task ≡ Some (Holding.Operator entries)
+        → IsCarried O.meaning O.Key.cmp entries operand.new) }
+{
+    let key = operand.operator.key(alloc, row)?;
+    carry_state(attempt, task, key, &mut operand.states)?;
+    operand.rows.push(row.copied()?)?;
+    Ok(())
+}
+
+/// An operator's work on the first records of a channel: one copy each of the operator, of the
+/// records, and of the state under each of their keys.
 fn operand_of<O: Operator>(
     alloc: Global,
     attempt: &Attempt<O>,
     operator: &O,
     task: u32,
-    row: &O::Record,
+    channel: u32,
+    count: usize,
 ) -> Result<Operand<O, O::Key, O::State, O::Record>, NoMemory>
-    requires fits { ⟦<O as Rules>⟧.RecordFits row.now }
-    requires holds { (entries : List (O.Key × O.State))
-        × (slice_get attempt.now.tasks task ≡ Some (Holding.Operator entries)) }
-    requires good { (entries : List (O.Key × O.State)) (key : O.Key) (state : O.State)
-        → slice_get attempt.now.tasks task ≡ Some (Holding.Operator entries)
-        → value_at O.Key.cmp entries key ≡ Some state → ⟦<O as Rules>⟧.IsGood operator.now state }
-    ensures whole { IfOk result (IsOperand O.meaning ⟦<O as Rules>⟧.RecordFits
-        ⟦<O as Rules>⟧.IsGood) }
+    requires within { count
+        ≤ length (leading_records (items_at attempt.now.channels channel)) }
     ensures operator { IfOk result (λ operand. operand.operator ≡ operator.now) }
-    ensures row { IfOk result (λ operand. operand.row ≡ row.now) }
-    ensures state { IfOk result (λ operand. (entries : List (O.Key × O.State))
+    ensures rows { IfOk result (λ operand. operand.rows.items
+        ≡ take count (leading_records (items_at attempt.now.channels channel))) }
+    ensures carried { IfOk result (λ operand. (entries : List (O.Key × O.State))
         → slice_get attempt.now.tasks task ≡ Some (Holding.Operator entries)
-        → state_of O.Key.cmp entries (O.meaning.key operator.now row.now) ≡ operand.state) }
+        → IsCarried O.meaning O.Key.cmp entries operand) }
 {
-    let key = operator.key(alloc, row)?;
-    let state = state_copied(attempt, task, &key)?;
-    let row = row.copied()?;
-    let operator = operator.copy()?;
-    Ok(Operand {
-        operator,
-        key,
-        state,
-        row,
-    })
+    let mut operand = Operand {
+        operator: operator.copy()?,
+        states: Map::new(alloc),
+        rows: Vec::with_capacity(alloc, count)?,
+    };
+    for index in 0..count {
+        let Some(row) = attempt.record(channel, index) else {
+            return Err(NoMemory);
+        };
+        carry_record(alloc, attempt, task, row, &mut operand)?;
+    }
+    Ok(operand)
 }
 
-/// Offers the work that a task is to do at an input now. It copies the operator, the state under
-/// the record's key and the record, each once, and no more. `K2` comes before `K4`, that before
+/// Offers the work that a task is to do at an input now: an operator's on the records before the
+/// first barrier, at most so many, and a sink's on one. It copies the operator, the records and the
+/// state under each of their keys, each once, and no more. `K2` comes before `K4`, that before
 /// `K3`, and `K11` last.
 pub fn offer<O: Operator>(
     alloc: Global,
@@ -84,12 +136,15 @@ pub fn offer<O: Operator>(
     operators: &[O],
     task: u32,
     input: u32,
+    most: usize,
 ) -> Result<Work<O>, CoreFault>
+    requires some { 0 < most }
     requires expanded { IsExpanded graph.now }
     requires given { HaveOperators graph.now operators.now }
     requires shape { Shape O.Key.cmp ⟦<O as Rules>⟧.RecordFits ⟦<O as Rules>⟧.IsGood graph.now
         operators.now attempt.now }
-    ensures { EndsOffer ⟦<O as Rules>⟧.lang graph.now operators.now task input attempt.now result }
+    ensures { EndsOffer ⟦<O as Rules>⟧.lang graph.now operators.now task input attempt.now most
+        result }
 {
     match graph.role(task) {
         Some(Role::Operator(number)) => {
@@ -99,8 +154,8 @@ pub fn offer<O: Operator>(
             let Some(operator) = operator_of(operators, number) else {
                 return Err(CoreFault::NoSuchTask);
             };
-            let row = first_record(attempt, task, input, channel)?;
-            let operand = operand_of(alloc, attempt, operator, task, row)?;
+            let count = free_records(attempt, task, input, channel)?.min(most);
+            let operand = operand_of(alloc, attempt, operator, task, channel, count)?;
             Ok(Work {
                 given: Given::Operator(operand),
             })

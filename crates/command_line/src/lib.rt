@@ -30,6 +30,8 @@ pub enum Line<'a> {
         every: u64,
         /// The turns after which the run is given up: 1 to 2^40.
         turns: u64,
+        /// The records that a worker takes at a time, at most: 1 to 1,024.
+        batch: u64,
     },
     /// Judge the job in this file.
     Check(&'a str),
@@ -43,6 +45,8 @@ const MAX_WORKERS: u64 = 64;
 const MAX_EVERY: u64 = 1_000_000;
 
 const MAX_TURNS: u64 = 1_099_511_627_776;
+
+const MAX_BATCH: u64 = 1024;
 
 /// An option with a number, and what `--help` says of it.
 struct NumberOption<'a> {
@@ -101,6 +105,19 @@ fn turns_option<'a>(alloc: Global) -> Arg<'a> {
     )
 }
 
+fn batch_option<'a>(alloc: Global) -> Arg<'a> {
+    number_option(
+        alloc,
+        &NumberOption {
+            id: "batch",
+            low: 1,
+            high: MAX_BATCH,
+            default: "1",
+            help: "Records that a worker takes at a time at most, 1 to 1024",
+        },
+    )
+}
+
 fn file_argument<'a>(alloc: Global, id: &'a str, help: &'a str) -> Arg<'a> {
     Arg::new(alloc, id).required(true).help(help)
 }
@@ -125,7 +142,8 @@ fn run_command<'a>(alloc: Global) -> Result<Command<'a>, Error> {
             .arg(inputs_argument(alloc))?
             .arg(workers_option(alloc))?
             .arg(every_option(alloc))?
-            .arg(turns_option(alloc))?,
+            .arg(turns_option(alloc))?
+            .arg(batch_option(alloc))?,
     )
 }
 
@@ -213,6 +231,7 @@ fn run_line<'a>(alloc: Global, matches: &ArgMatches<'a>) -> Result<Line<'a>, Err
         workers: number_of(alloc, matches, "workers", 1, MAX_WORKERS)?,
         every: number_of(alloc, matches, "every", 0, MAX_EVERY)?,
         turns: number_of(alloc, matches, "turns", 1, MAX_TURNS)?,
+        batch: number_of(alloc, matches, "batch", 1, MAX_BATCH)?,
     })
 }
 

@@ -1,11 +1,11 @@
 -- What is counted of a core's finishes.
-use Rattle.std.specs.Prelude.{◌≡◌, ℕ, ◌+◌, ◌≤◌, Result, MatchResult, length}
+use Rattle.std.specs.Prelude.{◌≡◌, ℕ, ◌+◌, ◌*◌, ◌^◌, ◌≤◌, Result, MatchResult, length}
 use Rattle.engine_model.specs.declared.fault.CoreFault.{CoreFault}
 use Rattle.dataflow_core.specs.CoreState.{CoreState}
 
--- each claim adds one at most, and once it has ended
+-- each claim adds fewer than 2^64, and once it has ended
 abbrev pub Within : {O R K S : Type 0} → ℕ → CoreState O R K S → Type 0
-Within total core = total + length core.claims ≤ core.serials
+Within total core = total + 2 ^ 64 * length core.claims ≤ 2 ^ 64 * core.serials
 
 -- a claim ends where a result is taken, and none is made
 abbrev pub EndsAClaim : {O R K S : Type 0} → CoreState O R K S → CoreState O R K S → Result Unit CoreFault → Type 0

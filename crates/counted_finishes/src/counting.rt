@@ -1,6 +1,7 @@
 //! A job's result is taken by the core, and counted in a book.
 
 ghost use Rattle.std.specs.Prelude.{◌≡◌, ◌+◌, ◌<◌, ◌^◌, MatchResult};
+ghost use Rattle.claims.specs.Carried.{given_of, records_of};
 ghost use Rattle.dataflow_core.specs.Claims.{EndsFinish, FinishMoves};
 ghost use Rattle.dataflow_core.specs.Steps.{IsStep};
 ghost use Rattle.counted_finishes.specs.Counting.{EndsAClaim, Within};
@@ -12,8 +13,8 @@ use snapshot_store::SnapshotStore;
 use source_log::Partitions;
 use std::sync::ledger::{Book, Ledger, Share};
 
-/// Takes what was done of a job, as the core's own `finish` does, and adds one to the share and the
-/// book where it is taken.
+/// Takes what was done of a job, as the core's own `finish` does, and adds the number of its
+/// records to the share and the book where it is taken.
 pub fn finish_counted<
     O: Operator,
     S: SnapshotStore,
@@ -34,17 +35,18 @@ pub fn finish_counted<
     ensures step { IsStep ⟦<O as Rules>⟧.lang ⟦<O as Rules>⟧.RecordFits core.old.engine
         core.new.engine }
     ensures plain { FinishMoves core.old ⟦<O as Rules>⟧.lang core.new done.attempt
-        done.serial result }
-    ensures total { MatchResult result (λ _. book.new.total ≡ book.old.total + 1)
-        (λ _. book.new.total ≡ book.old.total) }
-    ensures amount { MatchResult result (λ _. share.new.amount ≡ share.old.amount + 1)
-        (λ _. share.new.amount ≡ share.old.amount) }
-    ensures bound { share.new.amount < 2 ^ 64 }
+        done.serial done.worked result }
+    ensures total { MatchResult result (λ _. book.new.total ≡ book.old.total
+        + records_of (given_of done.worked)) (λ _. book.new.total ≡ book.old.total) }
+    ensures amount { MatchResult result (λ _. share.new.amount ≡ share.old.amount
+        + records_of (given_of done.worked)) (λ _. share.new.amount ≡ share.old.amount) }
+    ensures bound { share.new.amount < 2 ^ 128 }
     ensures parts { share.new.parts ≡ share.old.parts }
 {
+    let records = done.records();
     let finished = finish(core, done);
     if finished.is_ok() {
-        book.add(share, 1);
+        book.add(share, records);
     }
     core.serials_bound();
     book.audit(share);
@@ -61,7 +63,7 @@ fn finish<O: Operator, S: SnapshotStore, X: Transactions, P: Partitions<Record =
     ensures step { IsStep ⟦<O as Rules>⟧.lang ⟦<O as Rules>⟧.RecordFits core.old.engine
         core.new.engine }
     ensures plain { FinishMoves core.old ⟦<O as Rules>⟧.lang core.new done.attempt
-        done.serial result }
+        done.serial done.worked result }
     ensures claims { EndsAClaim core.old core.new result }
 {
     core.finish(done)

@@ -1,6 +1,7 @@
-//! A finish that is counted: what the core's own `finish` does, and one more in a worker's share and
-//! in a book of totals exactly where the result is taken. Proved, beside what the core proves of the
-//! call: no more was counted than claims have ended, so no share reaches 2^64.
+//! A finish that is counted: what the core's own `finish` does, and the number of the result's
+//! records in a worker's share and in a book of totals exactly where it is taken. Proved, beside
+//! what the core proves of the call: of each claim that has ended fewer than 2^64 were counted, so
+//! no share reaches 2^128.
 #![tactic(auto)]
 
 mod counting;

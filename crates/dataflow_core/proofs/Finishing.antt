@@ -1,5 +1,6 @@
 -- A result that is taken.
 use Rattle.std.proofs.Common.{◌≡◌, ◌≢◌, ◌⊎◌, inr, ℕ, Option, Some, None, Result, Ok, Err, MatchOption, List, refl, subst}
+use Rattle.claims.specs.Carried.{given_of, records_of}
 use Rattle.claims.specs.Due.{EndsAccept}
 use Rattle.claims.specs.declared.parts.Made.{Made}
 use Rattle.claims.specs.declared.parts.Made.TheVariants as made
@@ -9,7 +10,7 @@ use Rattle.engine_model.specs.Language.{Language}
 use Rattle.engine_model.specs.State.{State}
 use Rattle.engine_model.specs.declared.fault.CoreFault.{CoreFault}
 use Rattle.engine_model.specs.declared.fault.CoreFault.TheVariants.{NotRunning}
-use Rattle.engine_plain.specs.Plain.{StepsIfOk, Stays}
+use Rattle.engine_plain.specs.Plain.{StepsOftenIfOk, Stays}
 use Rattle.dataflow_model.specs.Machine as machine
 use Rattle.engine.specs.Running.{OnTransactions}
 use Rattle.job_graph.specs.Expanded.{Expanded}
@@ -21,7 +22,7 @@ use Rattle.dataflow_core.specs.declared.held.Claim.{Claim}
 module _ {R K S O : Type 0} (lang : Language R K S O) where
   -- work that is taken is due, from its input's channel
   leads : (graph : Expanded) (operators : List O) (task input : ℕ) (h k : Held R K S) (old new : Ledger) (made : Made O K S R) (u : Unit) → EndsAccept lang graph operators task input h k old new made (Ok u) → (channel : ℕ) × (input_at graph task input ≡ Some channel)
-  leads graph operators task input h k old new (made.Operator operand outcome) u e = (e.0.0, e.0.1.leads)
+  leads graph operators task input h k old new (made.Operator operand outcomes) u e = (e.channel, e.due.leads)
   leads graph operators task input h k old new (made.Sink row bytes) u e = (e.0.0, e.0.1.leads)
   leads graph operators task input h k old new (made.Refused work) u e = absurd e
 
@@ -41,7 +42,7 @@ module _ {R K S O : Type 0} (lang : Language R K S O) where
         running _ _ _ old.engine.held some (at, claim, held, (takes, λ i. record { engine = engine; claims = same i; serials = old.serials }))
 
     abbrev Plain : Result Unit CoreFault → Option ℕ → Type 0
-    Plain result channel = MatchOption channel (Stays lang old.engine engine) (λ c. StepsIfOk result lang (machine.Work claim.task c) old.engine engine)
+    Plain result channel = MatchOption channel (Stays lang old.engine engine) (λ c. StepsOftenIfOk result (records_of (given_of made)) lang (machine.Work claim.task c) old.engine engine)
 
     stays_by : (fault : CoreFault) (channel : Option ℕ) → Plain (Err fault) channel → Stays lang old.engine engine
     stays_by fault (Some c) plain = plain
@@ -52,7 +53,7 @@ module _ {R K S O : Type 0} (lang : Language R K S O) where
     channel_of u (Some h) e = leads old.engine.graph old.engine.operators claim.task claim.input h e.0 old.engine.ledger engine.ledger made u e.1
     channel_of u None e = (let never : ◌≡◌ {A = Result Unit CoreFault} (Ok u) (Err NotRunning) = e.0 in cc)
 
-    pub moves : (result : Result Unit CoreFault) → Takes result → Plain result (input_at old.engine.graph claim.task claim.input) → FinishMoves old lang new attempt serial result
+    pub moves : (result : Result Unit CoreFault) → Takes result → Plain result (input_at old.engine.graph claim.task claim.input) → FinishMoves old lang new attempt serial made result
     moves (Ok u) takes plain =
         let c = channel_of u old.engine.held takes in
         (at, c.0, claim, held, c.1, subst (λ (o : Option ℕ). Plain (Ok u) o) c.1 plain)

@@ -1,7 +1,10 @@
 -- What may be claimed, and why a claim is refused.
-use Rattle.std.proofs.Common.{◌≡◌, ◌<◌, ◌≤◌, ◌^◌, ℕ, Option, Some, None, Result, Ok, Err, IfOk, IfErr, MatchOption, refl, subst, sym}
+use Rattle.std.proofs.Common.{◌≡◌, ◌<◌, ◌≤◌, ◌^◌, ℕ, List, [], ◌∷◌, length, take, map, slice_get, Option, Some, None, Result, Ok, Err, IfOk, IfErr, MatchOption, refl, subst, sym, arith}
+use Rattle.channels.specs.declared.item.Item.{Item}
+use Rattle.channels.specs.declared.item.Item.TheVariants.{Record}
 use Rattle.job_state.specs.Held.{Held}
-use Rattle.claims.specs.Due.{IsWorker, IsDue, EndsOffer}
+use Rattle.job_state.specs.Sending.{items_at}
+use Rattle.claims.specs.Due.{IsWorker, EndsOffer}
 use Rattle.claims.specs.declared.parts.Given.{Given}
 use Rattle.claims.specs.declared.parts.Given.TheVariants as given
 use Rattle.engine_model.specs.Language.{Language}
@@ -10,19 +13,31 @@ use Rattle.engine_model.specs.declared.fault.CoreFault.TheVariants.{NotRunning, 
 use Rattle.dataflow_core.specs.Claims.{IsBusy, HasRecord, RefusesClaim, Refuses, MayClaim, spent_as}
 use Rattle.dataflow_core.specs.CoreState.{CoreState}
 
-module _ {R K S O : Type 0} (lang : Language R K S O) (s : CoreState O R K S) (task input : ℕ) where
-  -- where work is due there is a record to take
-  due_there : (h : Held R K S) (work : Given O K S R) → IsDue lang s.engine.graph s.engine.operators task input h work → HasRecord s task input h
-  due_there h (given.Operator p) due = (due.0, p.row, (subst IsWorker (sym due.1.is_operator) tt, due.1.leads), due.1.first)
-  due_there h (given.Sink row) due = (due.0, row, (subst IsWorker (sym due.1.is_sink) tt, due.1.leads), due.1.first)
+-- where records stand first, the first of them does
+first_stands : {R : Type 0} (rows : List R) (items : List (Item R)) → 0 < length rows → take (length rows) items ≡ map Record rows → (row : R) × (slice_get items 0 ≡ Some (Record row))
+first_stands [] items some stand = absurd (omega arith)
+first_stands {R = R} (row ∷ rows) items some stand = (row, first items stand)
+  where
+    first : (items : List (Item R)) → take (length (row ∷ rows)) items ≡ map Record (row ∷ rows) → slice_get items 0 ≡ Some (Record row)
+    first [] stand = absurd cc
+    first (item ∷ items) stand = cc
+
+module _ {R K S O : Type 0} (lang : Language R K S O) (s : CoreState O R K S) (task input most : ℕ) where
+  -- where work is offered there is a record to take
+  offer_there : (h : Held R K S) (work : Given O K S R) → EndsOffer lang s.engine.graph s.engine.operators task input h most (Ok work) → HasRecord s task input h
+  offer_there h (given.Operator p) e =
+      let due = e.0 in
+      let row = first_stands p.rows.items (items_at h.channels due.0) e.1.0 due.1.first.1 in
+      (due.0, row.0, (subst IsWorker (sym due.1.is_operator) tt, due.1.leads), (due.1.first.0, row.1))
+  offer_there h (given.Sink row) e = (e.0.0, row, (subst IsWorker (sym e.0.1.is_sink) tt, e.0.1.leads), e.0.1.first)
 
   -- how a task's asking for work ends
   abbrev Answers : Held R K S → Result (Given O K S R) CoreFault → Type 0
-  Answers h (Ok work) = ¬ IsBusy task s.claims × IsDue lang s.engine.graph s.engine.operators task input h work × (s.serials < 2 ^ 63)
+  Answers h (Ok work) = ¬ IsBusy task s.claims × EndsOffer lang s.engine.graph s.engine.operators task input h most (Ok work) × (s.serials < 2 ^ 63)
   Answers h (Err fault) = RefusesClaim s task input h fault
 
   abbrev Offered : Held R K S → Result (Given O K S R) CoreFault → Type 0
-  Offered h offered = EndsOffer lang s.engine.graph s.engine.operators task input h offered
+  Offered h offered = EndsOffer lang s.engine.graph s.engine.operators task input h most offered
 
   module _ (free : ¬ IsBusy task s.claims) where
     answers : (h : Held R K S) → s.serials < 2 ^ 63 → (offered : Result (Given O K S R) CoreFault) → Offered h offered → Answers h offered
@@ -44,7 +59,7 @@ module _ {R K S O : Type 0} (lang : Language R K S O) (s : CoreState O R K S) (t
     answers h left (Err BadSnapshot) e = absurd e
 
     answers_spent : (h : Held R K S) → 2 ^ 63 ≤ s.serials → (offered : Result (Given O K S R) CoreFault) → Offered h offered → Answers h (spent_as offered)
-    answers_spent h spent (Ok work) e = (free, due_there h work e, spent)
+    answers_spent h spent (Ok work) e = (free, offer_there h work e, spent)
     answers_spent h spent (Err Memory) e = (free, e, spent)
     answers_spent h spent (Err NoSuchTask) e = e
     answers_spent h spent (Err ChannelBlocked) e = (free, e)
@@ -61,7 +76,7 @@ module _ {R K S O : Type 0} (lang : Language R K S O) (s : CoreState O R K S) (t
     answers_spent h spent (Err NumbersSpent) e = absurd e
     answers_spent h spent (Err BadSnapshot) e = absurd e
 
-    ok_of : (h : Held R K S) (r : Result (Given O K S R) CoreFault) → Answers h r → IfOk r (λ work. ¬ IsBusy task s.claims × IsDue lang s.engine.graph s.engine.operators task input h work × (s.serials < 2 ^ 63))
+    ok_of : (h : Held R K S) (r : Result (Given O K S R) CoreFault) → Answers h r → IfOk r (λ work. ¬ IsBusy task s.claims × EndsOffer lang s.engine.graph s.engine.operators task input h most (Ok work) × (s.serials < 2 ^ 63))
     ok_of h (Ok work) a = a
     ok_of h (Err fault) a = tt
 
@@ -73,7 +88,7 @@ module _ {R K S O : Type 0} (lang : Language R K S O) (s : CoreState O R K S) (t
       abbrev Offers : Option (Held R K S) → Type 0
       Offers held = MatchOption held (offered ≡ Err NotRunning) (λ h. Offered h offered)
 
-      ok_by : s.serials < 2 ^ 63 → (held : Option (Held R K S)) → Offers held → IfOk offered (λ work. MatchOption held ⊥ (λ h. ¬ IsBusy task s.claims × IsDue lang s.engine.graph s.engine.operators task input h work × (s.serials < 2 ^ 63)))
+      ok_by : s.serials < 2 ^ 63 → (held : Option (Held R K S)) → Offers held → IfOk offered (λ work. MatchOption held ⊥ (λ h. ¬ IsBusy task s.claims × EndsOffer lang s.engine.graph s.engine.operators task input h most (Ok work) × (s.serials < 2 ^ 63)))
       ok_by left (Some h) e = ok_of h offered (answers h left offered e)
       ok_by left None e = subst (λ (r : Result (Given O K S R) CoreFault). IfOk r (λ work. ⊥)) (sym e) tt
 
@@ -85,7 +100,7 @@ module _ {R K S O : Type 0} (lang : Language R K S O) (s : CoreState O R K S) (t
       spent_by spent (Some h) e = err_of h (spent_as offered) (answers_spent h spent offered e)
       spent_by spent None e = subst (λ (r : Result (Given O K S R) CoreFault). IfErr (spent_as r) (λ fault. fault ≡ NotRunning)) (sym e) refl
 
-      pub offers_ok : s.serials < 2 ^ 63 → Offers s.engine.held → IfOk offered (MayClaim s task input lang)
+      pub offers_ok : s.serials < 2 ^ 63 → Offers s.engine.held → IfOk offered (MayClaim s task input most lang)
       offers_ok left e = ok_by left s.engine.held e
 
       pub offers_err : s.serials < 2 ^ 63 → Offers s.engine.held → IfErr offered (Refuses s task input)

@@ -1,15 +1,16 @@
--- Claims: a task's hold on the record at the head of an input.
+-- Claims: a task's hold on the first records of an input.
 use Rattle.std.specs.Prelude.{◌≡◌, ◌≢◌, ◌⊎◌, ◌+◌, ◌<◌, ◌≤◌, ◌^◌, ◌++◌, ℕ, List, [], ◌∷◌, Some, None, Result, Ok, Err, MatchOption, slice_get}
 use Rattle.std.specs.List.{remove}
 use Rattle.alignment.specs.declared.input.Effect.{Effect}
-use Rattle.claims.specs.Due.{WorksFrom, IsDue, EndsAccept}
+use Rattle.claims.specs.Carried.{given_of, records_of}
+use Rattle.claims.specs.Due.{WorksFrom, EndsOffer, EndsAccept}
 use Rattle.claims.specs.declared.parts.Given.{Given}
 use Rattle.claims.specs.declared.parts.Made.{Made}
 use Rattle.engine_model.specs.Calls.{input_at, IsBlocked, NoRecord, IsRecordDue}
 use Rattle.engine_model.specs.Language.{Language}
 use Rattle.engine_model.specs.declared.fault.CoreFault.{CoreFault}
 use Rattle.engine_model.specs.declared.fault.CoreFault.TheVariants.{NotRunning, NoSuchTask, Busy, ChannelBlocked, NotReady, NumbersSpent, Memory, Stale, WrongResult}
-use Rattle.engine_plain.specs.Plain.{StepsBy, Stays}
+use Rattle.engine_plain.specs.Plain.{StepsOften, Stays}
 use Rattle.dataflow_model.specs.Machine as machine
 use Rattle.engine.specs.Running.{OnTransactions}
 use Rattle.job_state.specs.Held.{Held}
@@ -68,14 +69,14 @@ module _ {R K S O : Type 0} (old : CoreState O R K S) where
     abbrev pub Refuses : CoreFault → Type 0
     Refuses fault = MatchOption old.engine.held (fault ≡ NotRunning) (λ h. RefusesClaim h fault)
 
-    -- the task may claim, and this work is due
-    abbrev pub MayClaim : Language R K S O → Given O K S R → Type 0
-    MayClaim lang work = MatchOption old.engine.held ⊥ (λ h. ¬ IsBusy task old.claims × IsDue lang old.engine.graph old.engine.operators task input h work × (old.serials < 2 ^ 63))
+    -- the task may claim so many records at most, and this is the work on them, which is due
+    abbrev pub MayClaim : (most : ℕ) → Language R K S O → Given O K S R → Type 0
+    MayClaim most lang work = MatchOption old.engine.held ⊥ (λ h. ¬ IsBusy task old.claims × EndsOffer lang old.engine.graph old.engine.operators task input h most (Ok work) × (old.serials < 2 ^ 63))
 
     -- a claim is kept, of the next serial, for the work that is due; nothing else changes
-    abbrev pub Claims : Language R K S O → CoreState O R K S → (attempt serial : ℕ) → Given O K S R → Type 0
-    Claims lang new attempt serial work =
-        MayClaim lang work × (attempt ≡ old.engine.attempts) × (serial ≡ old.serials)
+    abbrev pub Claims : (most : ℕ) → Language R K S O → CoreState O R K S → (attempt serial : ℕ) → Given O K S R → Type 0
+    Claims most lang new attempt serial work =
+        MayClaim most lang work × (attempt ≡ old.engine.attempts) × (serial ≡ old.serials)
         × (new ≡ record old { claims = old.claims ++ record { serial = old.serials; task = task; input = input } ∷ []; serials = old.serials + 1 })
 
     -- the task holds a claim, so it takes no barrier
@@ -100,8 +101,9 @@ module _ {R K S O : Type 0} (old : CoreState O R K S) where
         ((result ≡ Err Stale) × ¬ IsFreshTicket attempt serial × (new ≡ old))
         ⊎ ((at : ℕ) × (claim : Claim) × IsHeldAt attempt serial at claim × EndsClaimed at claim made result))
 
-    -- a result that is taken is one plain step, of the claim's task and input, and one that is refused is none
-    abbrev pub FinishMoves : Result Unit CoreFault → Type 0
-    FinishMoves (Ok u) =
-        (at channel : ℕ) × (claim : Claim) × IsHeldAt attempt serial at claim × (input_at old.engine.graph claim.task claim.input ≡ Some channel) × StepsBy lang (machine.Work claim.task channel) old.engine new.engine
-    FinishMoves (Err fault) = Stays lang old.engine new.engine
+    -- a result that is taken is as many plain steps as its work has records, of the claim's task and input, and one that is refused is none
+    abbrev pub FinishMoves : Made O K S R → Result Unit CoreFault → Type 0
+    FinishMoves made (Ok u) =
+        (at channel : ℕ) × (claim : Claim) × IsHeldAt attempt serial at claim × (input_at old.engine.graph claim.task claim.input ≡ Some channel)
+        × StepsOften (records_of (given_of made)) lang (machine.Work claim.task channel) old.engine new.engine
+    FinishMoves made (Err fault) = Stays lang old.engine new.engine

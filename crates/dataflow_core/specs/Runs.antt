@@ -16,7 +16,7 @@ use Rattle.dataflow_core.specs.Unclaimed.{Settles, Drains}
 use Rattle.dataflow_core.specs.declared.replies.Reply.{Reply}
 use Rattle.dataflow_core.specs.declared.replies.Reply.TheVariants.{NoJob, Number, Refused, Source}
 use Rattle.engine_steps.specs.declared.step.Step.{Step}
-use Rattle.engine_steps.specs.declared.step.Step.TheVariants.{Read, Claim, Finish, Barrier, Trigger, Inject, Persist, PersistSome, Complete, Commit, Settle, Drain, Fail, Restart, Append}
+use Rattle.engine_steps.specs.declared.step.Step.TheVariants.{Read, Claim, ClaimSome, Finish, Barrier, Trigger, Inject, Persist, PersistSome, Complete, Commit, Settle, Drain, Fail, Restart, Append}
 
 -- a reply tells an outcome of which this holds
 abbrev pub Tells : {T E : Type 0} → (Result T E → Reply) → Reply → (Result T E → Type 0) → Type 0
@@ -32,9 +32,9 @@ module _ {R K S O : Type 0} (old : CoreState O R K S) (desk : DeskJobs O K S R) 
   TellsApart told Ends = TellsCall told Ends × (new ≡ record old { engine = new.engine })
 
   -- the job is put last at the desk, under the number that is told, or the claim is refused
-  abbrev pub EndsClaim : Language R K S O → (task input : ℕ) → Type 0
-  EndsClaim lang task input =
-      ((job : ClaimedJob O K S R) × (reply ≡ Number (length desk)) × Claims old task input lang new job.attempt job.serial job.work × (left ≡ desk ++ Some job ∷ []))
+  abbrev pub EndsClaim : Language R K S O → (task input most : ℕ) → Type 0
+  EndsClaim lang task input most =
+      ((job : ClaimedJob O K S R) × (reply ≡ Number (length desk)) × Claims old task input most lang new job.attempt job.serial job.work × (left ≡ desk ++ Some job ∷ []))
       ⊎ ((fault : CoreFault) × (reply ≡ Refused fault) × Refuses old task input fault × (new ≡ old) × (left ≡ desk))
 
   -- what was made of the job's work is handed in, and the job leaves the desk
@@ -60,7 +60,8 @@ module _ {R K S O : Type 0} (lang : Language R K S O) (KeyFits : K → Type 0) (
   -- the step may lead from the core and the desk to these, with this reply
   abbrev pub EndsStep : Step R → CoreState O R K S → DeskJobs O K S R → CoreState O R K S → DeskJobs O K S R → Reply → Type 0
   EndsStep (Read task) old desk new left reply = TellsApart old desk new left reply accepted_as (Reads old.engine new.engine lang task)
-  EndsStep (Claim task input) old desk new left reply = EndsClaim old desk new left reply lang task input
+  EndsStep (Claim task input) old desk new left reply = EndsClaim old desk new left reply lang task input 1
+  EndsStep (ClaimSome task input most) old desk new left reply = EndsClaim old desk new left reply lang task input most
   EndsStep (Finish number) old desk new left reply = EndsFinishing old desk new left reply lang number
   EndsStep (Barrier task input) old desk new left reply = TellsApart old desk new left reply copied_as (TakesBarrierUnclaimed old task input new)
   EndsStep Trigger old desk new left reply = TellsApart old desk new left reply numbered_as (Triggers old.engine new.engine)

@@ -48,31 +48,44 @@ impl<O: Operator, S: SnapshotStore, X: Transactions, P: Partitions<Record = O::R
         let _ = &self.serials;
     }
 
-    /// The work that a task may claim now.
-    pub(crate) fn offered(&self, task: u32, input: u32) -> Result<Work<O>, CoreFault>
-        ensures ok { IfOk result (MayClaim self.now task input ⟦<O as Rules>⟧.lang) }
+    /// The work that a task may claim now, on so many records at most.
+    pub(crate) fn offered(&self, task: u32, input: u32, most: u32) -> Result<Work<O>, CoreFault>
+        requires { 0 < most }
+        ensures ok { IfOk result (MayClaim self.now task input most ⟦<O as Rules>⟧.lang) }
         ensures err { IfErr result (Refuses self.now task input) }
     {
         self.engine.has_input(task, input)?;
         if is_busy(&self.claims, task) {
             return Err(CoreFault::Busy);
         }
-        let offered = self.engine.offer(task, input);
+        let offered = self.engine.offer(task, input, most as usize);
         if self.serials >= SERIALS {
             return spent(offered);
         }
         offered
     }
 
-    /// A task claims the record at the head of its input, which stays there. The job carries all
-    /// that its work needs. Serials are below 2^63, and rise over all attempts.
+    /// A task claims the record at the head of its input, as `claim_some` with one record at most.
     pub fn claim(&mut self, task: u32, input: u32) -> Result<Job<O>, CoreFault>
-        ensures ok { IfOk result (λ job. Claims self.old task input ⟦<O as Rules>⟧.lang self.new
+        ensures ok { IfOk result (λ job. Claims self.old task input 1 ⟦<O as Rules>⟧.lang self.new
             job.attempt job.serial job.work) }
         ensures err { IfErr result (λ fault. Refuses self.old task input fault
             × (self.new ≡ self.old)) }
     {
-        let work = self.offered(task, input)?;
+        self.claim_some(task, input, 1)
+    }
+
+    /// A task claims records of its input, which stay there: an operator all that stand before the
+    /// first barrier, or the first `most` of them, and a sink the first. The job carries all that
+    /// its work needs. Serials are below 2^63, and rise over all attempts.
+    pub fn claim_some(&mut self, task: u32, input: u32, most: u32) -> Result<Job<O>, CoreFault>
+        requires { 0 < most }
+        ensures ok { IfOk result (λ job. Claims self.old task input most ⟦<O as Rules>⟧.lang
+            self.new job.attempt job.serial job.work) }
+        ensures err { IfErr result (λ fault. Refuses self.old task input fault
+            × (self.new ≡ self.old)) }
+    {
+        let work = self.offered(task, input, most)?;
         let Core {
             alloc,
             engine,
@@ -118,17 +131,17 @@ impl<O: Operator, S: SnapshotStore, X: Transactions, P: Partitions<Record = O::R
         }
     }
 
-    /// Takes what was done of a job: the record is taken, and the claim ends. A result that is no
-    /// fresh ticket is stale. One whose operator, state or record differ from the core's is wrong,
-    /// and leaves the claim. Where memory was refused the claim ends, and its record is still at
-    /// the head.
+    /// Takes what was done of a job: its records are taken, each in a step of its own, and the
+    /// claim ends. A result that is no fresh ticket is stale. One whose operator, states or records
+    /// differ from the core's is wrong, and leaves the claim. Where memory was refused the claim
+    /// ends with no step made, and its records still stand first.
     pub fn finish(&mut self, done: Done<O>) -> Result<(), CoreFault>
         ensures ends { EndsFinish self.old ⟦<O as Rules>⟧.lang self.new
             done.attempt done.serial done.worked result }
         ensures step { IsStep ⟦<O as Rules>⟧.lang ⟦<O as Rules>⟧.RecordFits self.old.engine
             self.new.engine }
         ensures plain { FinishMoves self.old ⟦<O as Rules>⟧.lang self.new done.attempt
-            done.serial result }
+            done.serial done.worked result }
         ensures counted { IsCounted self.old.engine.faults self.new.engine.faults result }
     {
         let Done {

@@ -8,7 +8,7 @@ ghost use Rattle.dataflow_core.specs.CoreState.{claims_after};
 
 use engine_model::CoreFault;
 
-/// A task's hold on the record at the head of an input.
+/// A task's hold on the first records of an input.
 #[derive(Clone, Copy, Debug, PartialEq, Eq)]
 pub struct Claim {
     /// No two claims of a core ever have one number.

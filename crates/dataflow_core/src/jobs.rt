@@ -1,7 +1,7 @@
 //! Jobs, and what is done of them.
 
 ghost use Rattle.std.specs.Prelude.{◌≡◌};
-ghost use Rattle.claims.specs.Carried.{given_of};
+ghost use Rattle.claims.specs.Carried.{given_of, records_of};
 
 use claims::{Work, Worked};
 use operators::Operator;
@@ -48,6 +48,13 @@ impl<O: Operator> Job<O> {
         self.serial
     }
 
+    /// How many records the claim is on.
+    pub fn records(&self) -> u64
+        ensures { result ≡ records_of self.now.work }
+    {
+        self.work.records() as u64
+    }
+
     /// Does the work. It waits for nobody, and touches nothing shared. What is done is of the same
     /// attempt and serial, and carries the work.
     pub fn run(self) -> Done<O>
@@ -82,5 +89,12 @@ impl<O: Operator> Done<O> {
         ensures { result ≡ self.now.serial }
     {
         self.serial
+    }
+
+    /// How many records the claim is on.
+    pub fn records(&self) -> u64
+        ensures { result ≡ records_of (given_of self.now.worked) }
+    {
+        self.worked.records() as u64
     }
 }

@@ -1,12 +1,13 @@
-//! The core: an engine, and the claims on its records. A claim is a task's hold on the record at
-//! the head of an input, while its result is worked out elsewhere, with no lock held; it moves
+//! The core: an engine, and the claims on its records. A claim is a task's hold on the first
+//! records of an input, while their result is worked out elsewhere, with no lock held; it moves
 //! nothing in the plain machine. Proved, of each call: its exact change and each refusal's cause
 //! (`ends`); that it is steps of the model's engine, keeps the job, leaves a sound core sound and
-//! withdraws no committed row (`step`); that it is one plain step (`plain`) or none (`stays`); that
-//! a device's failure is counted exactly where it is told (`counted`); and what becomes of the
-//! claims (`claims`). A result is taken exactly where its attempt and serial are those of a claim
-//! that is held now (`K6` where not) and its work is what the task would do now (`K7` where not). A
-//! core over new devices is exactly once, whatever calls were made on it (`is_fresh`).
+//! withdraws no committed row (`step`); that it is one plain step, or one for each record of a
+//! claim (`plain`), or none (`stays`); that a device's failure is counted exactly where it is told
+//! (`counted`); and what becomes of the claims (`claims`). A result is taken exactly where its
+//! attempt and serial are those of a claim that is held now (`K6` where not) and its work is what
+//! the task would do now (`K7` where not). A core over new devices is exactly once, whatever calls
+//! were made on it (`is_fresh`).
 //!
 //! A task's part is put in the store in one call (`persist`), or the work on it is done some entries
 //! a call, between other calls (`persist_some`); a part's bytes are the same.

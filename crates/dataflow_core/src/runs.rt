@@ -1,6 +1,6 @@
 //! Steps, one and many.
 
-ghost use Rattle.std.specs.Prelude.{◌≡◌, [], IfOk, IfErr};
+ghost use Rattle.std.specs.Prelude.{◌≡◌, ◌<◌, [], IfOk, IfErr};
 ghost use Rattle.std.specs.List.{AllByRecursion};
 ghost use Rattle.engine_model.specs.declared.fault.CoreFault.TheVariants as CoreFault;
 ghost use Rattle.engine_model.specs.ExactlyOnce.{IsExactlyOnce};
@@ -32,23 +32,25 @@ impl<O: Operator, S: SnapshotStore, X: Transactions, P: Partitions<Record = O::R
     fn claim_refusal(&self, task: u32, input: u32) -> CoreFault
         ensures { Refuses self.now task input result }
     {
-        match self.offered(task, input) {
+        match self.offered(task, input, 1) {
             Ok(_) => CoreFault::Memory,
             Err(fault) => fault,
         }
     }
 
-    /// A task claims, and the job is put last at the desk. The desk's room is taken first.
-    fn claim_at(&mut self, desk: &mut Desk<O>, task: u32, input: u32) -> Reply
+    /// A task claims so many records at most, and the job is put last at the desk. The desk's room
+    /// is taken first.
+    fn claim_at(&mut self, desk: &mut Desk<O>, task: u32, input: u32, most: u32) -> Reply
+        requires { 0 < most }
         ensures ends { EndsClaim self.old desk.old self.new desk.new result
-            ⟦<O as Rules>⟧.lang task input }
+            ⟦<O as Rules>⟧.lang task input most }
         ensures stays { self.new.engine ≡ self.old.engine }
     {
         let Desk { jobs } = desk;
         if jobs.reserve(1).is_err() {
             return Reply::Refused(self.claim_refusal(task, input));
         }
-        match self.claim(task, input) {
+        match self.claim_some(task, input, most) {
             Ok(job) => {
                 let number = jobs.len() as u64;
                 jobs.push_reserved(Some(job));
@@ -84,9 +86,10 @@ impl<O: Operator, S: SnapshotStore, X: Transactions, P: Partitions<Record = O::R
         }
     }
 
-    /// Makes one call. What is appended has to fit, as `append` asks. A record that finds no memory
-    /// for its copy is answered as `append` would, and a claim for which the desk finds none as
-    /// `claim` would; then nothing has changed.
+    /// Makes one call. What is appended has to fit, as `append` asks, and a claim is for one record
+    /// at least, as `claim_some` asks. A record that finds no memory for its copy is answered as
+    /// `append` would, and a claim for which the desk finds none as `claim` would; then nothing has
+    /// changed.
     pub fn step(&mut self, desk: &mut Desk<O>, step: &Step<O::Record>) -> Reply
         requires { StepFits ⟦<O as Rules>⟧.RecordFits step.now }
         ensures ends { EndsStep ⟦<O as Rules>⟧.lang ⟦<O as Rules>⟧.KeyFits ⟦<O as Rules>⟧.RecordFits
@@ -97,7 +100,8 @@ impl<O: Operator, S: SnapshotStore, X: Transactions, P: Partitions<Record = O::R
     {
         match step {
             Step::Read(task) => accepted(self.read(*task)),
-            Step::Claim(task, input) => self.claim_at(desk, *task, *input),
+            Step::Claim(task, input) => self.claim_at(desk, *task, *input, 1),
+            Step::ClaimSome(task, input, most) => self.claim_at(desk, *task, *input, *most),
             Step::Finish(number) => self.finish_at(desk, *number),
             Step::Barrier(task, input) => copied(self.take_barrier(*task, *input)),
             Step::Trigger => numbered(self.trigger()),

@@ -1,6 +1,6 @@
 //! A task's work in two halves: what is to be done is offered, and what was made of it is taken.
 
-ghost use Rattle.std.specs.Prelude.{◌≡◌, ◌≢◌, ◌↔◌, ℕ, Err, None, Some, slice_get, IsTrue, MatchOption};
+ghost use Rattle.std.specs.Prelude.{◌≡◌, ◌≢◌, ◌<◌, ◌↔◌, ℕ, Err, None, Some, slice_get, IsTrue, MatchOption};
 ghost use Rattle.commit_sink.specs.Ledger.{committed_rows};
 ghost use Rattle.dataflow_model.specs.Graph.{Begins};
 ghost use Rattle.dataflow_model.specs.Machine as machine;
@@ -9,7 +9,8 @@ ghost use Rattle.engine_model.specs.declared.fault.CoreFault.TheVariants as Core
 ghost use Rattle.engine_model.specs.Calls.{input_at};
 ghost use Rattle.engine_model.specs.Goes.{Goes};
 ghost use Rattle.engine_model.specs.Sound.{IsSound};
-ghost use Rattle.engine_plain.specs.Plain.{StepsIfOk, Stays};
+ghost use Rattle.engine_plain.specs.Plain.{StepsOftenIfOk, Stays};
+ghost use Rattle.claims.specs.Carried.{given_of, records_of};
 ghost use Rattle.claims.specs.Due.{EndsAsking, EndsOffer, EndsAccept};
 ghost use Rattle.engine.specs.Running.{IsCounted, IsSameJob, OnTransactions};
 
@@ -56,10 +57,12 @@ impl<O: Operator, S: SnapshotStore, X: Transactions, P: Partitions<Record = O::R
         }
     }
 
-    /// Offers the work that a task is to do at an input now, and changes nothing.
-    pub fn offer(&self, task: u32, input: u32) -> Result<Work<O>, CoreFault>
+    /// Offers the work that a task is to do at an input now, of so many records at most, and
+    /// changes nothing.
+    pub fn offer(&self, task: u32, input: u32, most: usize) -> Result<Work<O>, CoreFault>
+        requires { 0 < most }
         ensures { MatchOption self.now.held (result ≡ Err CoreFault.NotRunning) (λ h. EndsOffer
-            ⟦<O as Rules>⟧.lang self.now.graph self.now.operators task input h result) }
+            ⟦<O as Rules>⟧.lang self.now.graph self.now.operators task input h most result) }
     {
         let Some(attempt) = &self.attempt else {
             return Err(CoreFault::NotRunning);
@@ -71,12 +74,13 @@ impl<O: Operator, S: SnapshotStore, X: Transactions, P: Partitions<Record = O::R
             &self.operators,
             task,
             input,
+            most,
         )
     }
 
-    /// Takes what was made of a task's work, which ends as the task's own work would. Where that
-    /// work is not what the task is to do now, it is refused by `K7`, and where memory was refused
-    /// for it by `K11`; then nothing has changed.
+    /// Takes what was made of a task's work: its records are worked in turn. Where that work is not
+    /// what the task is to do now, it is refused by `K7`, and where memory was refused for it by
+    /// `K11`; then nothing has changed.
     pub fn accept(&mut self, task: u32, input: u32, worked: Worked<O>) -> Result<(), CoreFault>
         ensures ends { OnTransactions self.old self.new (λ h k. EndsAccept ⟦<O as Rules>⟧.lang
             self.old.graph self.old.operators task input h k self.old.ledger self.new.ledger worked)
@@ -89,8 +93,8 @@ impl<O: Operator, S: SnapshotStore, X: Transactions, P: Partitions<Record = O::R
             (committed_rows self.new.ledger subtask) }
         ensures plain { MatchOption (input_at self.old.graph task input)
             (Stays ⟦<O as Rules>⟧.lang self.old self.new)
-            (λ channel. StepsIfOk result ⟦<O as Rules>⟧.lang (machine.Work task channel)
-            self.old self.new) }
+            (λ channel. StepsOftenIfOk result (records_of (given_of worked)) ⟦<O as Rules>⟧.lang
+            (machine.Work task channel) self.old self.new) }
         ensures counted { IsCounted self.old.faults self.new.faults result }
         ensures same { IsSameJob self.old self.new }
     {

@@ -4,6 +4,7 @@ pub mod Runs
 pub mod Reads
 pub mod Tasks
 pub mod Operates
+pub mod Batches
 pub mod Injects
 pub mod Barriers
 pub mod Sinks

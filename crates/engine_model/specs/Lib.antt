@@ -1,3 +1,4 @@
+pub mod Batch
 pub mod Language
 pub mod State
 pub mod View

@@ -4,3 +4,4 @@ pub mod Waiting
 pub mod Resting
 pub mod Taking
 pub mod Turning
+pub mod One

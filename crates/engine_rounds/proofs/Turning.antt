@@ -1,7 +1,7 @@
 -- One turn of a task.
 use Rattle.std.proofs.Common.{◌≡◌, ◌≢◌, ◌⊎◌, ◌≤◌, inl, inr, Option, Some, None, Result, Ok, Err, MatchOption, ℕ, List, [], ◌∷◌, slice_get, length, refl, sym, ap, subst, ◌∙◌}
 use Rattle.std.proofs.lemmas.Option.{none-some, same_Some, MatchOption-at_some}
-use Rattle.claims.specs.Carried.{given_of}
+use Rattle.claims.specs.Carried.{given_of, records_of}
 use Rattle.claims.specs.Due.{IsWorker, WorksFrom, IsDue, EndsOffer, EndsAccept}
 use Rattle.claims.specs.declared.parts.Given.{Given}
 use Rattle.claims.specs.declared.parts.Given.TheVariants as given
@@ -25,12 +25,14 @@ use Rattle.engine_model.specs.State.{State}
 use Rattle.engine_model.specs.declared.fault.CoreFault.{CoreFault}
 use Rattle.engine_model.specs.declared.fault.CoreFault.TheVariants.{NoSuchTask, NotRunning, NotReady, ChannelBlocked, Memory, Device, WrongResult}
 use Rattle.engine_model.proofs.Calls.Goes.{after}
-use Rattle.engine_plain.specs.Plain.{Stays, StepsBy, StepsIfOk}
+use Rattle.engine_plain.specs.Plain.{Stays, StepsBy, StepsOften, StepsIfOk, StepsOftenIfOk}
+use Rattle.engine_plain.proofs.PlainBatches.{once_often}
 use Rattle.engine.specs.Running.{IsCounted, OnAttempt, OnTransactions}
 use Rattle.engine_rounds.specs.Idle.{IsIdle, HasNothing, HasNothingIn}
 use Rattle.engine_rounds.specs.Turns.{turned_as, EndsTurn, EndsWorkAt}
 use Rattle.engine_rounds.specs.Works.{MovesBy, Works}
 use Rattle.engine_rounds.proofs.Many.{IsLike, ran, like, stays_down, moves_none, moves_one, works_none}
+use Rattle.engine_rounds.proofs.One.{offered_one}
 
 same_source : {a b : ℕ} → ◌≡◌ {A = Role} (role.Source a) (role.Source b) → a ≡ b
 same_source e = cc
@@ -114,13 +116,13 @@ module _ {R K S O : Type 0} (lang : Language R K S O) (RecordFits : R → Type 0
     fails f = Err f
 
     abbrev Moves : Result Unit CoreFault → Type 0
-    Moves r = MatchOption (input_at old.graph task input) (Stays lang old new) (λ channel. StepsIfOk r lang (Work task channel) old new)
+    Moves r = MatchOption (input_at old.graph task input) (Stays lang old new) (λ channel. StepsOftenIfOk r (records_of (given_of worked)) lang (Work task channel) old new)
 
     -- no step was made
     stays_of : (f : CoreFault) → Moves (Err f) → Stays lang old new
     stays_of f = of (input_at old.graph task input)
       where
-        of : (o : Option ℕ) → MatchOption o (Stays lang old new) (λ channel. StepsIfOk (fails f) lang (Work task channel) old new) → Stays lang old new
+        of : (o : Option ℕ) → MatchOption o (Stays lang old new) (λ channel. StepsOftenIfOk (fails f) (records_of (given_of worked)) lang (Work task channel) old new) → Stays lang old new
         of None s = s
         of (Some channel) s = s
 
@@ -128,8 +130,11 @@ module _ {R K S O : Type 0} (lang : Language R K S O) (RecordFits : R → Type 0
     leads_of h (given.Operator operand) due = (due.0, due.1.leads)
     leads_of h (given.Sink row) due = (due.0, due.1.leads)
 
-    step_of : (channel : ℕ) → input_at old.graph task input ≡ Some channel → Moves (Ok tt) → StepsBy lang (Work task channel) old new
-    step_of channel leads m = MatchOption-at_some (Stays lang old new) (λ c. StepsBy lang (Work task c) old new) channel leads m
+    step_of : records_of (given_of worked) ≡ 1 → (channel : ℕ) → input_at old.graph task input ≡ Some channel → Moves (Ok tt) → StepsBy lang (Work task channel) old new
+    step_of one channel leads m =
+        once_often lang (Work task channel) old new
+        (subst (λ (count : ℕ). StepsOften count lang (Work task channel) old new) one
+        (MatchOption-at_some (Stays lang old new) (λ c. StepsOften (records_of (given_of worked)) lang (Work task c) old new) channel leads m))
 
     -- a result of work that is due is refused for want of memory, or where a device failed
     due_only : (h k : Held R K S) (w : Made O K S R) (f : CoreFault) → IsDue lang old.graph old.operators task input h (given_of w) → EndsAccept lang old.graph old.operators task input h k old.ledger new.ledger w (Err f) → (f ≡ Memory) ⊎ (f ≡ Device)
@@ -145,7 +150,7 @@ module _ {R K S O : Type 0} (lang : Language R K S O) (RecordFits : R → Type 0
     due_only h k (made.Refused work) Memory due e = inl refl
     due_only h k (made.Refused work) other due e = absurd e
 
-    module _ (due : MatchOption old.held ⊥ (λ h. IsDue lang old.graph old.operators task input h (given_of worked))) where
+    module _ (due : MatchOption old.held ⊥ (λ h. IsDue lang old.graph old.operators task input h (given_of worked))) (one : records_of (given_of worked) ≡ 1) where
       due_at : (h : Held R K S) → old.held ≡ Some h → IsDue lang old.graph old.operators task input h (given_of worked)
       due_at h was = MatchOption-at_some ⊥ (λ x. IsDue lang old.graph old.operators task input x (given_of worked)) h was due
 
@@ -168,7 +173,7 @@ module _ {R K S O : Type 0} (lang : Language R K S O) (RecordFits : R → Type 0
             Work task l.0,
             refl,
             (
-              works_of calls (Work task l.0 ∷ []) (like old new EndsTaken (Ok u) (kept (Ok u)) e (λ k. refl)) (stays_down old new EndsTaken (Ok u) (kept (Ok u)) e) (moves_one lang (Work task l.0) old new (step_of l.0 l.1 m)),
+              works_of calls (Work task l.0 ∷ []) (like old new EndsTaken (Ok u) (kept (Ok u)) e (λ k. refl)) (stays_down old new EndsTaken (Ok u) (kept (Ok u)) e) (moves_one lang (Work task l.0) old new (step_of one l.0 l.1 m)),
               still_held a.k (ap (λ (x : State O R K S). x.held) a.is),
             ),
           )
@@ -181,24 +186,36 @@ module _ {R K S O : Type 0} (lang : Language R K S O) (RecordFits : R → Type 0
   nothing_at : (h : Held R K S) → old.held ≡ Some h → HasNothing old.graph h task input → HasNothingIn old task input
   nothing_at h was n = subst (λ (o : Option (Held R K S)). MatchOption o ⊥ (λ h. HasNothing old.graph h task input)) (sym was) n
 
-  offer_at : (h : Held R K S) → old.held ≡ Some h → (f : CoreFault) → EndsOffer lang old.graph old.operators task input h (Err f) → EndsWorkAt lang RecordFits old old task input (turned_as (Err f))
+  offer_at : (h : Held R K S) → old.held ≡ Some h → (f : CoreFault) → EndsOffer lang old.graph old.operators task input h 1 (Err f) → EndsWorkAt lang RecordFits old old task input (turned_as (Err f))
   offer_at h was NoSuchTask e = absurd (e asked.0 asked.1)
   offer_at h was ChannelBlocked e = (nothing_at h was (e.0, e.1, inl e.2), refl)
   offer_at h was NotReady e = (nothing_at h was (e.0, e.1, inr e.3), refl)
   offer_at h was Memory e = (works_none lang RecordFits old old refl, running)
   offer_at h was other e = absurd e
 
-  pub offer_turns : (f : CoreFault) → MatchOption old.held (◌≡◌ {A = Result (Given O K S R) CoreFault} (Err f) (Err NotRunning)) (λ h. EndsOffer lang old.graph old.operators task input h (Err f)) → EndsWorkAt lang RecordFits old old task input (turned_as (Err f))
+  pub offer_turns : (f : CoreFault) → MatchOption old.held (◌≡◌ {A = Result (Given O K S R) CoreFault} (Err f) (Err NotRunning)) (λ h. EndsOffer lang old.graph old.operators task input h 1 (Err f)) → EndsWorkAt lang RecordFits old old task input (turned_as (Err f))
   offer_turns f e = of old.held refl e
     where
-      of : (o : Option (Held R K S)) → old.held ≡ o → MatchOption o (◌≡◌ {A = Result (Given O K S R) CoreFault} (Err f) (Err NotRunning)) (λ h. EndsOffer lang old.graph old.operators task input h (Err f)) → EndsWorkAt lang RecordFits old old task input (turned_as (Err f))
+      of : (o : Option (Held R K S)) → old.held ≡ o → MatchOption o (◌≡◌ {A = Result (Given O K S R) CoreFault} (Err f) (Err NotRunning)) (λ h. EndsOffer lang old.graph old.operators task input h 1 (Err f)) → EndsWorkAt lang RecordFits old old task input (turned_as (Err f))
       of None none e = absurd (running none)
       of (Some h) some e = offer_at h some f e
 
-  -- work that is offered is due
-  pub offered_due : (work : Given O K S R) → MatchOption old.held (◌≡◌ {A = Result (Given O K S R) CoreFault} (Ok work) (Err NotRunning)) (λ h. EndsOffer lang old.graph old.operators task input h (Ok work)) → MatchOption old.held ⊥ (λ h. IsDue lang old.graph old.operators task input h work)
+  -- what is offered
+  abbrev Offers : Given O K S R → Option (Held R K S) → Type 0
+  Offers work o = MatchOption o (◌≡◌ {A = Result (Given O K S R) CoreFault} (Ok work) (Err NotRunning)) (λ h. EndsOffer lang old.graph old.operators task input h 1 (Ok work))
+
+  -- work that is offered is due,
+  pub offered_due : (work : Given O K S R) → Offers work old.held → MatchOption old.held ⊥ (λ h. IsDue lang old.graph old.operators task input h work)
   offered_due work e = of old.held refl e
     where
-      of : (o : Option (Held R K S)) → old.held ≡ o → MatchOption o (◌≡◌ {A = Result (Given O K S R) CoreFault} (Ok work) (Err NotRunning)) (λ h. EndsOffer lang old.graph old.operators task input h (Ok work)) → MatchOption o ⊥ (λ h. IsDue lang old.graph old.operators task input h work)
+      of : (o : Option (Held R K S)) → old.held ≡ o → Offers work o → MatchOption o ⊥ (λ h. IsDue lang old.graph old.operators task input h work)
       of None none e = absurd (running none)
-      of (Some h) some e = e
+      of (Some h) some e = e.0
+
+  -- and takes one record
+  pub offered_single : (work : Given O K S R) → Offers work old.held → records_of work ≡ 1
+  offered_single work e = of old.held refl e
+    where
+      of : (o : Option (Held R K S)) → old.held ≡ o → Offers work o → records_of work ≡ 1
+      of None none e = absurd (running none)
+      of (Some h) some e = offered_one lang old.graph old.operators task input h work e

@@ -1,8 +1,8 @@
 -- Reads and works leave the pending checkpoint.
 use Rattle.std.proofs.Common.{◌≡◌, ◌≢◌, Option, Some, None, Result, Ok, Err, OnOk, ℕ, List, refl, sym, ap, subst, ◌∙◌}
-use Rattle.claims.specs.Carried.{given_of}
-use Rattle.claims.specs.Due.{IsDue, EndsAccept}
-use Rattle.claims.specs.Tasks.{EndsWork, WorksAs}
+use Rattle.claims.specs.Carried.{given_of, records_of}
+use Rattle.claims.specs.Due.{EndsAccept}
+use Rattle.claims.specs.Tasks.{WorksAs}
 use Rattle.claims.specs.declared.parts.Made.{Made}
 use Rattle.claims.specs.declared.parts.Made.TheVariants as made
 use Rattle.commit_sink.specs.Ledger.{Ledger}
@@ -19,6 +19,7 @@ use Rattle.engine.specs.Readers.{pending_in}
 use Rattle.engine.specs.Running.{OnAttempt, OnTransactions}
 use Rattle.engine_rounds.specs.Turns.{turned_as}
 use Rattle.engine_rounds.proofs.Many.{ran}
+use Rattle.engine_rounds.proofs.One.{one_works}
 
 module _ {R K S O : Type 0} (lang : Language R K S O) (graph : Expanded) (operators : List O) (task input : ℕ) (h k : Held R K S) (old new : Ledger) where
   abbrev Same : Type 0
@@ -33,10 +34,8 @@ module _ {R K S O : Type 0} (lang : Language R K S O) (graph : Expanded) (operat
   work_waits u (Some (role.Source partition)) c e = absurd (let clash : ◌≡◌ {A = Result Unit CoreFault} (Ok u) (Err NoSuchTask) = e.0 in cc)
   work_waits u None c e = absurd (let clash : ◌≡◌ {A = Result Unit CoreFault} (Ok u) (Err NoSuchTask) = e.0 in cc)
 
-  accept_waits : (u : Unit) (w : Made O K S R) → EndsAccept lang graph operators task input h k old new w (Ok u) → Same
-  accept_waits u (made.Operator operand outcome) e = work_waits u _ _ e.1
-  accept_waits u (made.Sink row bytes) e = work_waits u _ _ e.1
-  accept_waits u (made.Refused work) e = absurd e
+  accept_waits : (u : Unit) (w : Made O K S R) → records_of (given_of w) ≡ 1 → EndsAccept lang graph operators task input h k old new w (Ok u) → Same
+  accept_waits u w one e = work_waits u _ _ (one_works lang graph operators task input h k old new u w one e)
 
   -- what is taken is never refused so
   not_ready : (w : Made O K S R) → EndsAccept lang graph operators task input h k old new w (Err NotReady) → ⊥
@@ -75,7 +74,7 @@ module _ {R K S O : Type 0} (old new : State O R K S) where
     read_turn_waits (Err ChannelBlocked) e = absurd (ran old new Reading (Err ChannelBlocked) (left (Err ChannelBlocked)) e running).ended
     read_turn_waits (Err other) e = tt
 
-  module _ (lang : Language R K S O) (task input : ℕ) (running : old.held ≢ None) (worked : Made O K S R) where
+  module _ (lang : Language R K S O) (task input : ℕ) (running : old.held ≢ None) (worked : Made O K S R) (one : records_of (given_of worked) ≡ 1) where
     abbrev Taking : Held R K S → Held R K S → Result Unit CoreFault → Type 0
     Taking h k r = EndsAccept lang old.graph old.operators task input h k old.ledger new.ledger worked r
 
@@ -86,7 +85,7 @@ module _ {R K S O : Type 0} (old new : State O R K S) where
     pub work_turn_waits : (r : Result Unit CoreFault) → OnTransactions old new Taking r → OnOk (turned_as r) Waits
     work_turn_waits (Ok u) e =
         let a = ran old new Taking (Ok u) (kept (Ok u)) e running in
-        held_waits a.h a.k a.was (ap (λ (s : State O R K S). s.held) a.is) (accept_waits lang old.graph old.operators task input a.h a.k old.ledger new.ledger u worked a.ended)
+        held_waits a.h a.k a.was (ap (λ (s : State O R K S). s.held) a.is) (accept_waits lang old.graph old.operators task input a.h a.k old.ledger new.ledger u worked one a.ended)
     work_turn_waits (Err NotReady) e = absurd (let a = ran old new Taking (Err NotReady) (kept (Err NotReady)) e running in not_ready lang old.graph old.operators task input a.h a.k old.ledger new.ledger worked a.ended)
     work_turn_waits (Err ChannelBlocked) e = absurd (let a = ran old new Taking (Err ChannelBlocked) (kept (Err ChannelBlocked)) e running in not_blocked lang old.graph old.operators task input a.h a.k old.ledger new.ledger worked a.ended)
     work_turn_waits (Err other) e = tt

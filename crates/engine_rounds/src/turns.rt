@@ -58,7 +58,7 @@ pub(crate) fn work_at<
     ensures counted { IsCounted engine.old.faults engine.new.faults result }
     ensures pending { OnOk result (pending_in engine.new.held ≡ pending_in engine.old.held) }
 {
-    match engine.offer(task, input) {
+    match engine.offer(task, input, 1) {
         Ok(work) => turned(engine.accept(task, input, work.run(alloc))),
         Err(fault) => turned(Err(fault)),
     }

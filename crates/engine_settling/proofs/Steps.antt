@@ -31,10 +31,11 @@ use Rattle.engine_model.specs.Language.{Language}
 use Rattle.engine_model.specs.declared.fault.CoreFault.{CoreFault}
 use Rattle.engine_model.specs.declared.fault.CoreFault.TheVariants.{NotReady, NoSuchTask, CommitFault}
 use Rattle.engine_model.proofs.Calls.Tasks.{LeadsTo, input_leads}
+use Rattle.claims.specs.Carried.{given_of, records_of}
 use Rattle.claims.specs.Due.{EndsAccept}
 use Rattle.claims.specs.Tasks.{TakesAs, EndsBarrier, WorksAs, EndsWork}
 use Rattle.claims.specs.declared.parts.Made.{Made}
-use Rattle.claims.specs.declared.parts.Made.TheVariants as made
+use Rattle.engine_rounds.proofs.One.{one_works}
 use Rattle.engine_settling.specs.Advancing.{Advances}
 use Rattle.engine_settling.specs.Resting.{IsStill}
 use Rattle.engine_settling.proofs.Queues.{NoRecords, none_without, none_put, taken_from, index_set_here, index_set_beside, copy_here, copy_else, copies_grow, same_everywhere, came_here, came_grows}
@@ -276,14 +277,9 @@ module _ {R K S O : Type 0} (lang : Language R K S O) (RecordFits : R → Type 0
     works_of : EndsWork lang graph operators task input h k old new (Ok u) → Works h channel k
     works_of e = works_as (slice_get graph.tasks task) (subst (λ (c : Option ℕ). WorksAs graph task input h k old new lang operators (Ok u) (slice_get graph.tasks task) c) leads e)
 
-    accepts_of : (worked : Made O K S R) → EndsAccept lang graph operators task input h k old new worked (Ok u) → Works h channel k
-    accepts_of (made.Operator operand outcome) e = works_of e.1
-    accepts_of (made.Sink row bytes) e = works_of e.1
-    accepts_of (made.Refused work) e = absurd e
-
-    module _ (worked : Made O K S R) (e : EndsAccept lang graph operators task input h k old new worked (Ok u)) where
+    module _ (worked : Made O K S R) (one : records_of (given_of worked) ≡ 1) (e : EndsAccept lang graph operators task input h k old new worked (Ok u)) where
       works : Works h channel k
-      works = accepts_of worked e
+      works = works_of (one_works lang graph operators task input h k old new u worked one e)
 
       -- no copy is made or lost
       pub work_copies : (t : ℕ) → copy_at k t ≡ copy_at h t

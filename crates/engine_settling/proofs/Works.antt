@@ -3,7 +3,7 @@ use Rattle.std.proofs.Common.{◌≡◌, ◌≢◌, ◌⊎◌, ◌<◌, inl, inr
 use Rattle.std.proofs.lemmas.Bool.{false≢true}
 use Rattle.std.proofs.lemmas.Option.{same_Some, MatchOption-at_some}
 use Rattle.channels.specs.declared.item.Item.{Item}
-use Rattle.claims.specs.Carried.{given_of}
+use Rattle.claims.specs.Carried.{given_of, records_of}
 use Rattle.claims.specs.Due.{WorksFrom, IsDue, EndsOffer, EndsAccept}
 use Rattle.claims.specs.declared.parts.Given.{Given}
 use Rattle.claims.specs.declared.parts.Made.{Made}
@@ -17,7 +17,7 @@ use Rattle.engine_model.specs.Language.{Language}
 use Rattle.engine_model.specs.State.{State}
 use Rattle.engine_model.specs.declared.fault.CoreFault.{CoreFault}
 use Rattle.engine_model.specs.declared.fault.CoreFault.TheVariants.{NotRunning, NoSuchTask, NotReady, ChannelBlocked, Memory, Device}
-use Rattle.engine_plain.specs.Plain.{Stays, StepsIfOk}
+use Rattle.engine_plain.specs.Plain.{Stays, StepsOftenIfOk}
 use Rattle.engine.specs.Readers.{HasHead}
 use Rattle.engine.specs.Running.{OnTransactions}
 use Rattle.engine_rounds.specs.Turns.{EndsWorkAt, turned_as}
@@ -70,11 +70,11 @@ module _ {R K S O : Type 0} (lang : Language R K S O) (RecordFits : R → Type 0
       is_free lang.cmp RecordFits IsGood old.graph old.operators h keeps.expanded (shape_at lang RecordFits IsGood old h was keeps) task input channel a.works.1 a.missing
 
   -- where nothing is offered
-  pub offer_part : (f : CoreFault) → Holds old (λ g h. HasHead h channel) → MatchOption old.held (◌≡◌ {A = Result (Given O K S R) CoreFault} (Err f) (Err NotRunning)) (λ h. EndsOffer lang old.graph old.operators task input h (Err f))
+  pub offer_part : (f : CoreFault) → Holds old (λ g h. HasHead h channel) → MatchOption old.held (◌≡◌ {A = Result (Given O K S R) CoreFault} (Err f) (Err NotRunning)) (λ h. EndsOffer lang old.graph old.operators task input h 1 (Err f))
       → EndsPart lang RecordFits old old {T = Unit {0}} Awaited (Err f)
   offer_part f head e = of old.held refl head e
     where
-      at : (h : Held R K S) → old.held ≡ Some h → HasHead h channel → (f : CoreFault) → EndsOffer lang old.graph old.operators task input h (Err f) → EndsPart lang RecordFits old old {T = Unit {0}} Awaited (Err f)
+      at : (h : Held R K S) → old.held ≡ Some h → HasHead h channel → (f : CoreFault) → EndsOffer lang old.graph old.operators task input h 1 (Err f) → EndsPart lang RecordFits old old {T = Unit {0}} Awaited (Err f)
       at h was head NoSuchTask e = absurd (e channel (await_at h was).works)
       at h was head ChannelBlocked e = absurd (free_at h was e.2)
       at h was head NotReady e =
@@ -83,11 +83,11 @@ module _ {R K S O : Type 0} (lang : Language R K S O) (RecordFits : R → Type 0
       at h was head Memory e = brings_same lang RecordFits old h was
       at h was head other e = absurd e
 
-      of : (o : Option (Held R K S)) → old.held ≡ o → MatchOption o ⊥ (λ h. HasHead h channel) → MatchOption o (◌≡◌ {A = Result (Given O K S R) CoreFault} (Err f) (Err NotRunning)) (λ h. EndsOffer lang old.graph old.operators task input h (Err f)) → EndsPart lang RecordFits old old {T = Unit {0}} Awaited (Err f)
+      of : (o : Option (Held R K S)) → old.held ≡ o → MatchOption o ⊥ (λ h. HasHead h channel) → MatchOption o (◌≡◌ {A = Result (Given O K S R) CoreFault} (Err f) (Err NotRunning)) (λ h. EndsOffer lang old.graph old.operators task input h 1 (Err f)) → EndsPart lang RecordFits old old {T = Unit {0}} Awaited (Err f)
       of None is head e = absurd head
       of (Some h) is head e = at h is head f e
 
-  module _ (new : State O R K S) (calls : Calls lang RecordFits old new) (worked : Made O K S R) (due : MatchOption old.held ⊥ (λ h. IsDue lang old.graph old.operators task input h (given_of worked))) where
+  module _ (new : State O R K S) (calls : Calls lang RecordFits old new) (worked : Made O K S R) (due : MatchOption old.held ⊥ (λ h. IsDue lang old.graph old.operators task input h (given_of worked))) (one : records_of (given_of worked) ≡ 1) where
     abbrev Taking : Held R K S → Held R K S → Result Unit CoreFault → Type 0
     Taking h k r = EndsAccept lang old.graph old.operators task input h k old.ledger new.ledger worked r
 
@@ -95,29 +95,29 @@ module _ {R K S O : Type 0} (lang : Language R K S O) (RecordFits : R → Type 0
     kept r k = record old { held = left_by r (Some k); ledger = new.ledger; faults = new.faults }
 
     abbrev Moves : Result Unit CoreFault → Type 0
-    Moves r = MatchOption (input_at old.graph task input) (Stays lang old new) (λ c. StepsIfOk r lang (Work task c) old new)
+    Moves r = MatchOption (input_at old.graph task input) (Stays lang old new) (λ c. StepsOftenIfOk r (records_of (given_of worked)) lang (Work task c) old new)
 
     turns : (r : Result Unit CoreFault) → OnTransactions old new Taking r → Moves r → EndsWorkAt lang RecordFits old new task input (turned_as r)
-    turns r e m = accept_turns lang RecordFits old new task input calls await_runs worked due r e m
+    turns r e m = accept_turns lang RecordFits old new task input calls await_runs worked due one r e m
 
     -- the barrier is still awaited, and one record less stands before it
     still_awaited : (h k : Held R K S) → old.held ≡ Some h → EndsAccept lang old.graph old.operators task input h k old.ledger new.ledger worked (Ok tt) → IsAwaited old.graph k task input channel
     still_awaited h k was e =
         let a = await_at h was in
         let shape = shape_at lang RecordFits IsGood old h was keeps in
-        let advances : Advances h k = work_advances lang RecordFits IsGood old.graph old.operators old.partitions h k keeps.expanded shape task input channel a.works.1 old.ledger new.ledger tt worked e in
+        let advances : Advances h k = work_advances lang RecordFits IsGood old.graph old.operators old.partitions h k keeps.expanded shape task input channel a.works.1 old.ledger new.ledger tt worked one e in
         record {
           works = a.works;
           pending = λ none. a.pending (sym advances.pending ∙ none);
           sent = λ c is. advances.copied c.sender (a.sent c is);
-          missing = work_came lang RecordFits IsGood old.graph old.operators old.partitions h k keeps.expanded shape task input channel a.works.1 old.ledger new.ledger tt worked e channel ∙ a.missing;
+          missing = work_came lang RecordFits IsGood old.graph old.operators old.partitions h k keeps.expanded shape task input channel a.works.1 old.ledger new.ledger tt worked one e channel ∙ a.missing;
         }
 
     falls_at : (h k : Held R K S) → old.held ≡ Some h → EndsAccept lang old.graph old.operators task input h k old.ledger new.ledger worked (Ok tt) → leading (items_at k.channels channel) < leading (items_at h.channels channel)
     falls_at h k was e =
         let a = await_at h was in
         let shape = shape_at lang RecordFits IsGood old h was keeps in
-        let head = work_head lang RecordFits IsGood old.graph old.operators old.partitions h k keeps.expanded shape task input channel a.works.1 old.ledger new.ledger tt worked e in
+        let head = work_head lang RecordFits IsGood old.graph old.operators old.partitions h k keeps.expanded shape task input channel a.works.1 old.ledger new.ledger tt worked one e in
         let to = input_channel old.graph task input channel a.works.1 in
         let n = number_of h a.pending in
         let one = barrier_sent lang.cmp RecordFits IsGood old.graph old.operators h keeps.expanded shape channel n.0 to.0 to.1 n.1 (a.sent to.0 to.1) a.missing in
@@ -136,8 +136,8 @@ module _ {R K S O : Type 0} (lang : Language R K S O) (RecordFits : R → Type 0
             is = is;
             moves = made.0 ∷ [];
             works = made.2.0;
-            advances = work_advances lang RecordFits IsGood old.graph old.operators old.partitions a.h a.k keeps.expanded shape task input channel (await_at a.h a.was).works.1 old.ledger new.ledger u worked a.ended;
-            still = λ still. absurd (work_not_still lang RecordFits IsGood old.graph old.operators old.partitions a.h a.k keeps.expanded shape task input channel (await_at a.h a.was).works.1 old.ledger new.ledger u worked a.ended still);
+            advances = work_advances lang RecordFits IsGood old.graph old.operators old.partitions a.h a.k keeps.expanded shape task input channel (await_at a.h a.was).works.1 old.ledger new.ledger u worked one a.ended;
+            still = λ still. absurd (work_not_still lang RecordFits IsGood old.graph old.operators old.partitions a.h a.k keeps.expanded shape task input channel (await_at a.h a.was).works.1 old.ledger new.ledger u worked one a.ended still);
           },
           holds_one new Awaited a.k is (subst (λ (g : Expanded). Awaited g a.k) (sym (ap (λ (s : State O R K S). s.graph) a.is)) (still_awaited a.h a.k a.was a.ended)),
         )

@@ -35,7 +35,7 @@ fn work_first<O: Operator, S: SnapshotStore, X: Transactions, P: Partitions<Reco
 {
     engine.is_fresh();
     let _ = channel;
-    match engine.offer(task, input) {
+    match engine.offer(task, input, 1) {
         Ok(work) => engine.accept(task, input, work.run(alloc)),
         Err(fault) => Err(fault),
     }

@@ -7,6 +7,8 @@ pub enum Step<R> {
     Read(u32),
     /// A task claims the record at the head of an input, and the job is put at the desk.
     Claim(u32, u32),
+    /// A task claims so many records of an input at most, and the job is put at the desk.
+    ClaimSome(u32, u32, u32),
     /// The job of this number leaves the desk, is done, and what was done is handed in.
     Finish(u32),
     /// A task takes the barrier at the head of an input.

@@ -1,5 +1,7 @@
 //! How a job is run.
 
+ghost use Rattle.std.specs.Prelude.{◌≤◌};
+
 /// What the command line says of a run.
 #[derive(Clone, Copy, Debug)]
 pub struct Options {
@@ -9,4 +11,7 @@ pub struct Options {
     pub every: u64,
     /// The turns after which the run is given up.
     pub turns: u64,
+    /// The records that a worker takes at a time, at most.
+    pub batch: u32,
+    ghost in_range: { (1 ≤ batch) × (batch ≤ 1024) },
 }

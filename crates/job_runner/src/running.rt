@@ -20,13 +20,13 @@ use std::sync::ledger::{Blank, Ledger};
 use std::sync::{Mutex, Wait};
 use std::thread::Threads;
 use std::time::Clock;
-use thread_runner::{NoPause, Pause, Report, Schedule, Station, run};
+use thread_runner::{NoPause, Pause, Report, Schedule, Station, run_batched};
 
 /// A job that goes down is restarted so often.
 const RESTARTS: u64 = 8;
 
 /// Takes the job of this core to rest and prints what is committed, also where the run is refused.
-/// A job that goes down is restarted so often. It answers how many jobs the workers have finished.
+/// A job that goes down is restarted so often. It answers how many records the workers have worked.
 pub fn run_core<
     O: Operator + Send,
     S: SnapshotStore + Drop + Send,
@@ -58,10 +58,11 @@ where
         workers,
         every,
         turns,
+        batch,
     } = options;
     let (station, mut share) = Station::<O, S, X, P, L, &R>::new(core, schedule, blank);
     let station = Mutex::new(station);
-    let report = run(
+    let report = run_batched(
         rt,
         alloc,
         &station,
@@ -71,6 +72,7 @@ where
         turns,
         restarts,
         pause,
+        batch,
     );
     let core = station.into_inner().into_core();
     let printed = print_committed(alloc, &core, out);

@@ -5,3 +5,5 @@ pub mod Logging
 pub mod Opening
 pub mod Standings
 pub mod Holds
+pub mod AtOnce
+pub mod Batches

@@ -1,3 +1,5 @@
+pub mod Batch
+pub mod AtOnce
 pub mod Sending
 pub mod Standing
 pub mod Held

@@ -6,14 +6,14 @@ ghost use Rattle.abs_codec.specs.Entries.{value_at};
 ghost use Rattle.alignment.specs.Inputs as gates;
 ghost use Rattle.alignment.specs.Table.{effect_of, is_blocked};
 ghost use Rattle.alignment.specs.declared.input.Phase.TheVariants.{AtRest};
-ghost use Rattle.channels.specs.Items.{item_copied};
+ghost use Rattle.channels.specs.Items.{item_copied, leading_records};
 ghost use Rattle.coordinator.specs.Coordinator.{has_acked, IsReady, ack_refusal, complete_refusal};
 
 use crate::gates::fresh_gates;
 use crate::holding::Holding;
 use crate::logs::{open_logs, reopen};
 use crate::openings::opened_channels;
-use crate::sending::first;
+use crate::sending::{before_barrier, first, record_at};
 use crate::task::Task;
 use crate::tasks::{clear, forget_oldest, fresh_tasks};
 use abs_codec::{Items, NoMemory};
@@ -125,6 +125,21 @@ impl<O: Operator> Attempt<O> {
         ensures { option_map item_copied result ≡ slice_get (items_at self.now.channels channel) 0 }
     {
         first(&self.channels, channel)
+    }
+
+    /// How many records stand in a channel before the first barrier, or the end.
+    pub fn before_barrier(&self, channel: u32) -> usize
+        ensures { result ≡ length (leading_records (items_at self.now.channels channel)) }
+    {
+        before_barrier(&self.channels, channel)
+    }
+
+    /// The record at a place of a channel, if it stands before the first barrier.
+    pub fn record(&self, channel: u32, index: usize) -> Option<&O::Record>
+        ensures { option_copied result
+            ≡ slice_get (leading_records (items_at self.now.channels channel)) index }
+    {
+        record_at(&self.channels, channel, index)
     }
 
     /// Whether a task's input is blocked: its barrier has come, and the task waits for others.

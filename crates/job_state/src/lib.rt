@@ -17,6 +17,7 @@ mod openings;
 mod records;
 mod sending;
 mod spelling;
+mod taking;
 mod task;
 mod tasks;
 

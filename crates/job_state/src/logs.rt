@@ -1,6 +1,6 @@
 //! The logs of the channels.
 
-ghost use Rattle.std.specs.Prelude.{◌≡◌, ◌<◌, [], true, false, Some, length, replicate, slice_set, slice_get, unwrap_or, OnOk, OnErr, IfOk};
+ghost use Rattle.std.specs.Prelude.{◌≡◌, ◌<◌, ◌≤◌, ◌+◌, [], true, false, Some, length, replicate, slice_set, slice_get, unwrap_or, OnOk, OnErr, IfOk};
 ghost use Rattle.backedge_log.specs.Recorded.{log_at, without_last};
 ghost use Rattle.channels.specs.declared.item.Item.TheVariants.{Record};
 ghost use Rattle.job_state.specs.Held.{log_with};
@@ -29,19 +29,20 @@ pub(crate) fn open_logs<R: Drop>(alloc: Global, count: u32) -> Result<Logs<R>, N
     Ok(logs)
 }
 
-/// Takes room in the channel's log, if a record is to be logged.
+/// Takes room in the channel's log for so many records, if they are to be logged.
 pub(crate) fn reserve_log<R: Drop>(
     logs: &mut Logs<R>,
     channel: u32,
     is_logged: bool,
+    count: usize,
 ) -> Result<(), NoMemory>
     requires { channel < length logs.old }
-    ensures room { OnOk result (is_logged ≡ true → 0 < (log_at logs.new channel).room) }
+    ensures room { OnOk result (is_logged ≡ true → count ≤ (log_at logs.new channel).room) }
     ensures came { came_of logs.new ≡ came_of logs.old }
     ensures logged { records_of logs.new ≡ records_of logs.old }
 {
     if is_logged {
-        logs.reserve(channel)?;
+        logs.reserve(channel, count)?;
     }
     Ok(())
 }
@@ -55,6 +56,7 @@ pub(crate) fn log_taken<R: Drop>(
 )
     requires within { channel < length logs.old }
     requires room { is_logged ≡ true → 0 < (log_at logs.old channel).room }
+    ensures room { (log_at logs.old channel).room ≤ (log_at logs.new channel).room + 1 }
     ensures came { came_of logs.new ≡ came_of logs.old }
     ensures logged { (row : R) → taken ≡ Some (Record row)
         → records_of logs.new ≡ log_with is_logged channel row (records_of logs.old) }
@@ -75,7 +77,7 @@ pub(crate) fn log_copy<R: Codec>(logs: &mut Logs<R>, channel: u32, row: &R) -> R
     ensures err { OnErr result (records_of logs.new ≡ records_of logs.old) }
 {
     let row = row.copied()?;
-    logs.reserve(channel)?;
+    logs.reserve(channel, 1)?;
     logs.push_reserved(channel, row);
     Ok(())
 }

@@ -7,7 +7,8 @@ use crate::attempt::Attempt;
 use crate::gates::is_logged;
 use crate::logs::{drop_last, log_copy, log_taken, reserve_log};
 use crate::sending::{first, pass_on, reserve_deliveries, send_records, take_head};
-use crate::tasks::{advance, keep};
+use crate::taking::pass_on_all;
+use crate::tasks::{advance, keep, keep_all};
 use abs_codec::NoMemory;
 use channels::Item;
 use job_graph::Graph;
@@ -17,6 +18,9 @@ impl<O: Operator> Attempt<O> {
     ghost use Rattle.job_state.specs.declared.holding.Holding.TheVariants as Holding;
     ghost use Rattle.job_state.specs.Sending.{items_at, without_head};
     ghost use Rattle.job_state.specs.Held.{Held, gate_at, Reads, Operates, record_logged};
+    ghost use Rattle.job_state.specs.Batch.{Turn, StandFirst, OperatesEach, AreLastStates, rows_of, sent_by};
+    ghost use Rattle.std.specs.List.Sorted.{IsStrictlySortedBy};
+    ghost use Rattle.std.specs.Map.{keys_of};
 
     /// A source, which holds this offset, sends its next record.
     pub fn read(
@@ -66,11 +70,64 @@ impl<O: Operator> Attempt<O> {
         ensures err { OnErr result (self.new ≡ self.old) }
     {
         let logged = is_logged(&self.gates, task, input);
-        reserve_log(&mut self.logs, channel, logged)?;
+        reserve_log(&mut self.logs, channel, logged, 1)?;
         let puts = reserve_deliveries::<O>(self.alloc, &mut self.channels, graph, task, sent)?;
         keep::<O>(&mut self.tasks, task, key, state)?;
         let taken = pass_on(&mut self.channels, channel, puts);
         log_taken(&mut self.logs, channel, logged, taken);
+        Ok(())
+    }
+
+    /// An operator takes the first records of an input, which is this channel, keeps the last state
+    /// of each key, and sends what all of them send: as it would one after another. The records are
+    /// logged where the task's gate logs the input. Nothing changes where memory is refused.
+    pub fn operate_some(
+        &mut self,
+        graph: &Graph,
+        task: u32,
+        input: u32,
+        channel: u32,
+        count: usize,
+        states: Vec<(O::Key, O::State)>,
+        sent: Vec<(u32, O::Record)>,
+    ) -> Result<(), NoMemory>
+        ghost turns: { List (Turn O.Record O.Key O.State) }
+        requires holds { (entries : List (O.Key × O.State))
+            × (slice_get self.old.tasks task ≡ Some (Holding.Operator entries)) }
+        requires within { input < length (gate_at self.old task).inputs }
+        requires logs { channel < length self.old.logs }
+        requires channels { length self.old.channels ≡ length graph.now.channels }
+        requires counted { count ≡ length turns }
+        requires first { StandFirst channel (rows_of turns) self.old }
+        // Each key stands once.
+        requires rising { IsStrictlySortedBy O.Key.cmp (keys_of states.items) }
+        requires states { AreLastStates O.meaning.same_key turns states.items }
+        requires sent { sent.items ≡ sent_by turns }
+        ensures ok { OnOk result (OperatesEach O.meaning O.Key.cmp graph.now task input channel
+            turns self.old self.new) }
+        ensures err { OnErr result (self.new ≡ self.old) }
+    {
+        if count == 0 {
+            return Ok(());
+        }
+        let logged = is_logged(&self.gates, task, input);
+        reserve_log(&mut self.logs, channel, logged, count)?;
+        let deliveries = reserve_deliveries::<O>(
+            self.alloc,
+            &mut self.channels,
+            graph,
+            task,
+            sent,
+        )?;
+        keep_all(&mut self.tasks, task, states)?;
+        pass_on_all(
+            &mut self.channels,
+            &mut self.logs,
+            channel,
+            logged,
+            count,
+            deliveries,
+        );
         Ok(())
     }
 

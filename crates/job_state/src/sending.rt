@@ -1,7 +1,8 @@
 //! What is put into channels, and taken from them.
 
 ghost use Rattle.std.specs.Prelude.{◌≡◌, ◌++◌, ◌∷◌, [], ◌<◌, ◌≤◌, ℕ, All, map, length, slice_get, option_map, OnOk, OnErr, IfOk};
-ghost use Rattle.channels.specs.Items.{item_copied};
+ghost use Rattle.std.specs.Option.{option_copied};
+ghost use Rattle.channels.specs.Items.{item_copied, leading_records};
 ghost use Rattle.deliveries.specs.Deliveries.{deliveries_of, barriers_of};
 ghost use Rattle.job_state.specs.Sending.{contents_items, items_at, put_into, room_at, HasRoom, AreChannels, Puts, barrier_into, without_head};
 ghost use Rattle.channels.specs.declared.item.Item.TheVariants.{Record};
@@ -86,6 +87,24 @@ pub(crate) fn first<R: Drop>(channels: &[Channel<R>], channel: u32) -> Option<It
         ≡ slice_get (items_at (contents_items channels.now) channel) 0 }
 {
     channels.get(channel as usize)?.head()
+}
+
+/// How many records stand in a channel before the first barrier, or the end.
+pub(crate) fn before_barrier<R: Drop>(channels: &[Channel<R>], channel: u32) -> usize
+    ensures { result ≡ length (leading_records (items_at (contents_items channels.now) channel)) }
+{
+    match channels.get(channel as usize) {
+        Some(channel) => channel.before_barrier(),
+        None => 0,
+    }
+}
+
+/// The record at a place of a channel, if it stands before the first barrier.
+pub(crate) fn record_at<R: Drop>(channels: &[Channel<R>], channel: u32, index: usize) -> Option<&R>
+    ensures { option_copied result
+        ≡ slice_get (leading_records (items_at (contents_items channels.now) channel)) index }
+{
+    channels.get(channel as usize)?.record(index)
 }
 
 /// Takes the first item of a channel, if there is one. Its room is left.

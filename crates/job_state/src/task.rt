@@ -7,6 +7,9 @@ ghost use Rattle.commit_sink.specs.Sink.{Sinking};
 ghost use Rattle.dataflow_model.specs.Machine.{kept_under};
 ghost use Rattle.task_part.specs.declared.part.Part.TheVariants as Part;
 ghost use Rattle.job_state.specs.declared.holding.Holding.TheVariants as Holding;
+ghost use Rattle.std.specs.List.Sorted.{IsStrictlySortedBy};
+ghost use Rattle.std.specs.Map.{keys_of};
+ghost use Rattle.job_state.specs.AtOnce.{KeepsAll};
 ghost use Rattle.job_state.specs.Held.{Keeps};
 
 use crate::holding::Holding;
@@ -155,6 +158,22 @@ impl<R: Codec, K: Codec + Ord, S: Codec> Task<R, K, S> {
         if let Kind::Source(at, _) = &mut self.kind {
             *at = offset;
         }
+    }
+
+    /// An operator keeps these states, whose keys rise, or none of them where memory is refused.
+    pub(crate) fn keep_all(&mut self, states: Vec<(K, S)>) -> Result<(), NoMemory>
+        requires holds { (entries : List (K × S)) × (self.old.holding
+            ≡ Holding.Operator entries) }
+        requires rising { IsStrictlySortedBy K.Ord.cmp (keys_of states.items) }
+        ensures ok { OnOk result (KeepsAll K.Ord.cmp states.items self.old.holding
+            self.new.holding) }
+        ensures copy { self.new.copy ≡ self.old.copy }
+        ensures err { OnErr result (self.new ≡ self.old) }
+    {
+        if let Kind::Operator(kept) = &mut self.kind {
+            kept.set_all(states)?;
+        }
+        Ok(())
     }
 
     /// A sink's oldest pre-committed transaction is forgotten.

@@ -7,6 +7,9 @@ ghost use Rattle.task_part.specs.declared.part.Part.TheVariants as Part;
 ghost use Rattle.task_part.specs.Spelling.{logs_now, part_spelling, PartIsSpelled};
 ghost use Rattle.job_state.specs.declared.holding.Holding.{Holding};
 ghost use Rattle.job_state.specs.declared.holding.Holding.TheVariants as Holding;
+ghost use Rattle.std.specs.List.Sorted.{IsStrictlySortedBy};
+ghost use Rattle.std.specs.Map.{keys_of};
+ghost use Rattle.job_state.specs.AtOnce.{KeepsAll};
 ghost use Rattle.job_state.specs.Held.{Keeps, with_logs};
 ghost use Rattle.job_state.specs.Inside.{holdings_of, copies_of, part_in};
 
@@ -130,6 +133,26 @@ pub(crate) fn keep<O: Operator>(
     ensures err { OnErr result (holdings_of tasks.new ≡ holdings_of tasks.old) }
 {
     task::keep::<O>(&mut tasks[task as usize], key, state)
+}
+
+/// An operator keeps these states, whose keys rise, or none of them where memory is refused.
+pub(crate) fn keep_all<R: Codec, K: Codec + Ord, S: Codec>(
+    tasks: &mut [Task<R, K, S>],
+    task: u32,
+    states: Vec<(K, S)>,
+) -> Result<(), NoMemory>
+    requires there { task < length tasks.old }
+    requires holds { (entries : List (K × S)) × (slice_get (holdings_of tasks.old) task
+        ≡ Some (Holding.Operator entries)) }
+    requires rising { IsStrictlySortedBy K.Ord.cmp (keys_of states.items) }
+    ensures ok { OnOk result ((before after : Holding K S)
+        × (slice_get (holdings_of tasks.old) task ≡ Some before)
+        × (holdings_of tasks.new ≡ slice_set (holdings_of tasks.old) task after)
+        × KeepsAll K.Ord.cmp states.items before after) }
+    ensures copies { copies_of tasks.new ≡ copies_of tasks.old }
+    ensures err { OnErr result (holdings_of tasks.new ≡ holdings_of tasks.old) }
+{
+    tasks[task as usize].keep_all(states)
 }
 
 /// A sink's oldest pre-committed transaction is forgotten.

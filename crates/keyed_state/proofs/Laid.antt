@@ -33,7 +33,7 @@ module _ {K : Type 0} {cmp : K → K → Ordering} (order : IsTotalOrder cmp) wh
   further_up a b (q ∷ ks) h all = (order.trans a b q h all.0, further_up a b ks h all.1)
 
 module _ {S : Type 0} where
-  none_is : (found : Option S) → is_some found ≡ false → found ≡ None
+  pub none_is : (found : Option S) → is_some found ≡ false → found ≡ None
   none_is None h = refl
   none_is (Some v) h = absurd (false≢true (sym h))
 

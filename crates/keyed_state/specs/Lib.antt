@@ -1,2 +1,3 @@
 pub mod KeyedMap
 pub mod Overlay
+pub mod Putting

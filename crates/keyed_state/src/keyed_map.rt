@@ -1,14 +1,17 @@
 //! A finite map, and the map as it was at `freeze`.
 
-ghost use Rattle.std.specs.Prelude.{◌≡◌, ◌≢◌, ◌≤◌, ◌+◌, ◌-◌, ◌↔◌, ℕ, [], ◌++◌, length, slice_get, option_map, is_some, Some, None, IsTrue, IsOk, OnSome, OnOk, OnErr, IfOk, IfErr, if◌then◌else◌};
-ghost use Rattle.std.specs.Option.{option_copied};
+ghost use Rattle.std.specs.Prelude.{◌≡◌, ◌≢◌, ◌≤◌, ◌+◌, ◌-◌, ◌↔◌, ℕ, [], ◌++◌, length, count_by, not, slice_get, option_map, is_some, Some, None, IsTrue, IsOk, OnSome, OnOk, OnErr, IfOk, IfErr, if◌then◌else◌};
+ghost use Rattle.std.specs.Option.{option_copied, option_or};
 ghost use Rattle.std.specs.List.Sorted.{IsStrictlySortedBy};
 ghost use Rattle.std.specs.Map.{keys_of};
 ghost use Rattle.std.specs.Map.Iter.{deref_pair};
 ghost use Rattle.std.specs.BTreeMap.{insert_entry, is_at};
 ghost use Rattle.abs_codec.specs.Entries.{value_at};
 ghost use Rattle.keyed_state.specs.KeyedMap.{entries_above, frozen_entries};
+ghost use Rattle.keyed_state.specs.Overlay.{put_over};
+ghost use Rattle.keyed_state.specs.Putting.{has_key};
 
+use crate::putting::{put_all, put_in_both};
 use abs_codec::{Codec, CodecFault, Map, NoMemory};
 use std::alloc::Global;
 use std::collections::BTreeMap;
@@ -25,6 +28,7 @@ pub struct KeyedState<K: Ord, S> {
     /// How many keys the map has that is seen.
     len: usize,
     is_frozen: bool,
+    alloc: Global,
 }
 
 impl<K: Ord, S> Model for KeyedState<K, S> {
@@ -61,6 +65,7 @@ impl<K: Ord, S> KeyedState<K, S> {
             overlay: BTreeMap::new(alloc),
             len,
             is_frozen: false,
+            alloc,
         }
     }
 
@@ -181,6 +186,50 @@ impl<K: Ord, S> KeyedState<K, S> {
 }
 
 impl<K: Codec + Ord, S: Codec> KeyedState<K, S> {
+    /// How many keys there are once these, each there once, have a state.
+    fn len_with_all(&self, entries: &[(K, S)]) -> Result<usize, NoMemory>
+        ensures len { IfOk result (λ len. len ≡ length self.now.entries
+            + count_by (λ e. not (has_key K.Ord.cmp self.now.entries e)) entries.now) }
+        // The keys rise.
+        ensures ordered { IsStrictlySortedBy K.Ord.cmp (keys_of self.now.entries) }
+    {
+        let mut len = self.len();
+        for entry in entries {
+            if self.get(&entry.0).is_none() {
+                len = len.checked_add(1).ok_or(NoMemory)?;
+            }
+        }
+        Ok(len)
+    }
+
+    /// Gives each of these keys, which rise, its state, or none of them where memory is refused.
+    /// The frozen map stays.
+    pub fn set_all(&mut self, entries: Vec<(K, S)>) -> Result<(), NoMemory>
+        requires { IsStrictlySortedBy K.Ord.cmp (keys_of entries.items) }
+        ensures entries { OnOk result
+            (self.new.entries ≡ put_over K.Ord.cmp self.old.entries entries.items) }
+        ensures states { OnOk result ((q : K) → value_at K.Ord.cmp self.new.entries q
+            ≡ option_or (value_at K.Ord.cmp entries.items q)
+            (value_at K.Ord.cmp self.old.entries q)) }
+        ensures frozen { self.new.frozen ≡ self.old.frozen }
+        // Only a frozen map has more to merge after it.
+        ensures unmerged { self.new.unmerged ≤ self.old.unmerged
+            + (if is_some self.old.frozen then length entries.items else 0) }
+        ensures none_merged { self.old.unmerged ≤ self.new.unmerged }
+        ensures ordered { IsStrictlySortedBy K.Ord.cmp (keys_of self.new.entries) }
+        ensures err { OnErr result (self.new ≡ self.old) }
+    {
+        let len = self.len_with_all(&entries)?;
+        if self.is_frozen {
+            put_all(self.alloc, &mut self.overlay, entries)?;
+            self.len = len;
+            return Ok(());
+        }
+        put_in_both(self.alloc, &mut self.base, &mut self.overlay, entries)?;
+        self.len = len;
+        Ok(())
+    }
+
     /// Keeps the map as it is now beside it, in place of what was frozen before. It takes no
     /// memory where nothing is left to merge. An `Err` leaves both maps as they were.
     pub fn freeze(&mut self) -> Result<(), NoMemory>

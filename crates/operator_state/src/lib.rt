@@ -15,8 +15,8 @@
 //! - `spell_some` of k entries takes k times a time logarithmic in n, the time and memory of their
 //!   spelling, and one copy of a key. What a call cannot spell in full, it takes back;
 //! - `spell_logs` takes the time and memory of the spelling of the logs;
-//! - `get`, `set` and `merge_some` are those of `KeyedState`, and all else takes constant time and
-//!   no memory.
+//! - `get`, `set`, `set_all` and `merge_some` are those of `KeyedState`, and all else takes constant
+//!   time and no memory.
 #![tactic(auto)]
 
 mod operator_state;

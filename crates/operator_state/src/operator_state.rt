@@ -1,7 +1,7 @@
 //! States by key, and the copy for the pending checkpoint as far as it is spelled.
 
 ghost use Rattle.std.specs.Prelude.{◌≡◌, ◌≤◌, ◌+◌, ◌-◌, ◌++◌, ℕ, List, [], take, drop, length, is_some, Some, None, IsTrue, IsOk, OnOk, OnErr, IfOk, if◌then◌else◌};
-ghost use Rattle.std.specs.Option.{option_copied};
+ghost use Rattle.std.specs.Option.{option_copied, option_or};
 ghost use Rattle.std.specs.List.Sorted.{IsStrictlySortedBy};
 ghost use Rattle.std.specs.List.{All, flat_map};
 ghost use Rattle.std.specs.Map.{keys_of};
@@ -158,6 +158,24 @@ impl<K: Codec + Ord, S: Codec> OperatorState<K, S> {
         ensures err { OnErr result (self.new ≡ self.old) }
     {
         self.states.set(key, state)
+    }
+
+    /// Gives each of these keys, which rise, its state, or none of them where memory is refused.
+    /// The copy stays.
+    pub fn set_all(&mut self, states: Vec<(K, S)>) -> Result<(), NoMemory>
+        requires { IsStrictlySortedBy K.Ord.cmp (keys_of states.items) }
+        ensures states { OnOk result ((q : K) → value_at K.Ord.cmp self.new.entries q
+            ≡ option_or (value_at K.Ord.cmp states.items q)
+            (value_at K.Ord.cmp self.old.entries q)) }
+        ensures copy { self.new.copy ≡ self.old.copy }
+        ensures unspelled { self.new.unspelled ≡ self.old.unspelled }
+        ensures unmerged { self.new.unmerged ≤ self.old.unmerged + length states.items }
+        // Only a copy that is not spelled yet has more to merge after it.
+        ensures all_spelled { self.old.unspelled ≡ 0 → self.new.unmerged ≡ self.old.unmerged }
+        ensures none_merged { self.old.unmerged ≤ self.new.unmerged }
+        ensures err { OnErr result (self.new ≡ self.old) }
+    {
+        self.states.set_all(states)
     }
 
     /// Copies the states as they are now, in place of the copy that was there. It takes no memory

@@ -12,6 +12,9 @@ pub struct Place {
     pub input: u32,
 }
 
+/// An input that was marked so often since it was last found without a record is full.
+const FULL: u32 = 4;
+
 /// A task's inputs that may have something, and those that wait for the barriers of others.
 #[derive(Drop)]
 pub(crate) struct Inputs {
@@ -21,6 +24,10 @@ pub(crate) struct Inputs {
     blocked: VecDeque<u32>,
     /// Of each input, whether it is in one of the two.
     listed: Vec<bool>,
+    /// Of each input, how often its sender has marked it since it was last found without a record.
+    batches: Vec<u32>,
+    /// How many are full.
+    full: u32,
 }
 
 impl Inputs {
@@ -28,10 +35,14 @@ impl Inputs {
     pub(crate) fn new(alloc: Global, count: usize) -> Result<Inputs, AllocError> {
         let mut listed = Vec::new(alloc);
         listed.resize(count, false)?;
+        let mut batches = Vec::new(alloc);
+        batches.resize(count, 0)?;
         Ok(Inputs {
             ready: VecDeque::with_capacity(alloc, count)?,
             blocked: VecDeque::with_capacity(alloc, count)?,
             listed,
+            batches,
+            full: 0,
         })
     }
 
@@ -54,11 +65,40 @@ impl Inputs {
         }
     }
 
-    /// Every input may have something.
+    /// The input's sender may have sent a batch.
+    pub(crate) fn fill(&mut self, input: u32) {
+        self.mark(input);
+        let Some(batches) = self.batches.get_mut(input as usize) else {
+            return;
+        };
+        *batches = batches.saturating_add(1);
+        if *batches == FULL {
+            self.full = self.full.saturating_add(1);
+        }
+    }
+
+    /// Whether an input is full.
+    pub(crate) fn is_full(&self) -> bool {
+        self.full > 0
+    }
+
+    /// The input has no record.
+    fn empty(&mut self, input: u32) {
+        let Some(batches) = self.batches.get_mut(input as usize) else {
+            return;
+        };
+        if *batches >= FULL {
+            self.full = self.full.saturating_sub(1);
+        }
+        *batches = 0;
+    }
+
+    /// Every input may have something, and none is full.
     pub(crate) fn mark_all(&mut self) {
         self.unblock();
         let count = u32::try_from(self.listed.len()).unwrap_or(u32::MAX);
         for input in 0..count {
+            self.empty(input);
             self.mark(input);
         }
     }
@@ -72,7 +112,9 @@ impl Inputs {
 
     /// The first input has nothing.
     pub(crate) fn drop_first(&mut self) {
-        let _ = self.take_first();
+        if let Some(input) = self.take_first() {
+            self.empty(input);
+        }
     }
 
     /// The first input waits for the barriers of others.

@@ -1,5 +1,7 @@
 //! Which step comes next.
 
+ghost use Rattle.std.specs.Prelude.{◌≤◌};
+
 use crate::inputs::{Inputs, Place};
 use crate::rank_set::RankSet;
 use crate::round::{Need, Round};
@@ -40,16 +42,28 @@ pub(crate) struct Node {
     pub(crate) inputs: Inputs,
     /// The ends of the channels that it sends on.
     pub(crate) ends: Vec<Place>,
-    /// How often it has sent since the ends were marked.
+    /// So many records that it sends are about one for each end.
+    pub(crate) spread: usize,
+    /// How many records it has worked or read since the ends were marked.
     pub(crate) sent: usize,
     /// Whether it holds a claim.
     pub(crate) is_busy: bool,
     /// Whether a source sends to it.
     pub(crate) is_fed: bool,
+    /// Whether it takes one record at a time, whatever the batch is.
+    pub(crate) is_sink: bool,
 }
 
-/// So many records are read ahead of the claims that are held, until a task that sources send to
-/// has been found without a record.
+impl Node {
+    /// After so many records the ends are marked: about a batch for each, and no fewer than there
+    /// are ends, so that a mark costs the same however many there are.
+    fn enough(&self, batch: usize) -> usize {
+        self.ends.len().max(self.spread.saturating_mul(batch))
+    }
+}
+
+/// Where claims are of one record, so many are read ahead of the claims that are held, until a task
+/// that sources send to has been found without a record.
 const MOST_AHEAD: u32 = 64;
 
 /// What may have something, so that the next step is found in the same time whatever the number of
@@ -64,26 +78,32 @@ pub struct Schedule {
     all_sources: Vec<u32>,
     /// The ranks of tasks that hold no claim and have an input that may have something.
     ready: RankSet,
-    /// The ranks of tasks that have sent since the ends of their channels were marked.
+    /// The ranks of tasks that have sent since the ends of their channels were marked, and too few
+    /// records to mark them again.
     senders: RankSet,
     /// The sources that may have a record, in turn.
     sources: VecDeque<u32>,
     round: Round,
     /// How many claims are held.
     claims: u64,
+    /// The ranks of tasks that have a full input.
+    full: RankSet,
     /// How many records were read while claims were held, since a task that sources send to had
     /// none.
     ahead: u32,
-    /// How many finishes come between triggers: 0 for any number.
+    /// A claim takes so many records at most.
+    batch: u32,
+    /// How many records are worked between triggers: 0 for any number.
     every: u64,
-    /// How many came since the last one.
-    finishes: u64,
+    /// How many were since the last one.
+    finished: u64,
     /// Whether a restart comes next.
     is_down: bool,
     /// Whether every input was marked since a step was last made.
     is_searched: bool,
     /// Whether the checkpoint that was triggered last is of a job at rest.
     is_last: bool,
+    ghost some: { 1 ≤ batch },
 }
 
 impl Schedule {
@@ -104,9 +124,11 @@ impl Schedule {
             sources,
             round,
             claims: 0,
+            full: RankSet::new(),
             ahead: 0,
+            batch: 1,
             every: 0,
-            finishes: 0,
+            finished: 0,
             is_down: true,
             is_searched: false,
             is_last: false,
@@ -114,9 +136,19 @@ impl Schedule {
     }
 
     /// A run begins, and a restart comes first.
-    pub(crate) fn begin(&mut self, every: u64) {
+    pub(crate) fn begin(&mut self, every: u64, batch: u32)
+        requires { 1 ≤ batch }
+    {
         self.every = every;
+        self.batch = batch;
         self.went_down();
+    }
+
+    /// How many records a claim takes at most.
+    pub(crate) fn batch(&self) -> u32
+        ensures { 1 ≤ result }
+    {
+        self.batch
     }
 
     /// The job is down.
@@ -152,7 +184,7 @@ impl Schedule {
     }
 
     fn is_due(&self) -> bool {
-        self.every > 0 && self.finishes >= self.every && self.round.is_none()
+        self.every > 0 && self.finished >= self.every && self.round.is_none()
     }
 
     /// A step that takes a record or a barrier, or finds out where one is.
@@ -160,7 +192,7 @@ impl Schedule {
         if let Some(place) = self.next_input() {
             return Some(Step::Work(place));
         }
-        if self.claims > 0 && self.ahead >= MOST_AHEAD {
+        if self.claims > 0 && self.is_far_ahead() {
             return None;
         }
         if let Some(task) = self.sources.front() {
@@ -185,6 +217,16 @@ impl Schedule {
             return Step::Look;
         }
         self.at_rest()
+    }
+
+    /// Whether enough was read ahead of the claims that are held. Where these are of several
+    /// records, an input may be full long after a task that sources send to was without a record: a
+    /// sink takes one at a time.
+    fn is_far_ahead(&self) -> bool {
+        if self.batch > 1 {
+            return self.full.greatest().is_some();
+        }
+        self.ahead >= MOST_AHEAD
     }
 
     /// The first input of the task that stands furthest downstream.
@@ -212,7 +254,7 @@ impl Schedule {
         self.is_down = false;
         self.claims = 0;
         self.ahead = 0;
-        self.finishes = 0;
+        self.finished = 0;
         self.round.clear();
         for node in self.nodes.iter_mut() {
             node.is_busy = false;
@@ -226,6 +268,7 @@ impl Schedule {
         self.is_searched = true;
         self.ready.clear();
         self.senders.clear();
+        self.full.clear();
         for node in self.nodes.iter_mut() {
             node.sent = 0;
             node.inputs.mark_all();
@@ -278,16 +321,21 @@ impl Schedule {
 
     fn mark(&mut self, place: Place) {
         if let Some(node) = self.nodes.get_mut(place.task as usize) {
-            node.inputs.mark(place.input);
+            node.inputs.fill(place.input);
         }
         self.judge(place.task);
     }
 
-    /// Whether a task is ready is said anew.
+    /// Whether a task is ready, and whether it has a full input, is said anew.
     fn judge(&mut self, task: u32) {
         let Some(node) = self.nodes.get(task as usize) else {
             return;
         };
+        if node.inputs.is_full() {
+            self.full.insert(node.rank);
+        } else {
+            self.full.remove(node.rank);
+        }
         if node.is_busy || node.inputs.is_empty() {
             self.ready.remove(node.rank);
         } else {
@@ -295,14 +343,15 @@ impl Schedule {
         }
     }
 
-    /// A task may have sent. The ends of its channels are marked once it has sent as often as it
-    /// has channels, so that a mark costs the same however many there are.
-    fn sent(&mut self, task: u32) {
+    /// A task may have sent for so many records. The ends of its channels are marked once there may
+    /// be a batch at each.
+    fn sent(&mut self, task: u32, records: u64) {
+        let batch = self.batch as usize;
         let Some(node) = self.nodes.get_mut(task as usize) else {
             return;
         };
-        node.sent = node.sent.saturating_add(1);
-        if node.sent >= node.ends.len() {
+        node.sent = node.sent.saturating_add(records as usize);
+        if node.sent >= node.enough(batch) {
             self.mark_ends(task);
         } else {
             let rank = node.rank;
@@ -310,26 +359,27 @@ impl Schedule {
         }
     }
 
-    /// A task has taken a record from its first input.
-    pub(crate) fn worked(&mut self, task: u32) {
+    /// A task has worked the records of its claim.
+    pub(crate) fn worked(&mut self, task: u32, records: u64) {
         self.moved();
-        self.finishes = self.finishes.saturating_add(1);
-        if let Some(node) = self.nodes.get_mut(task as usize) {
-            node.inputs.turn();
-        }
-        self.judge(task);
-        self.sent(task);
+        self.finished = self.finished.saturating_add(records);
+        self.sent(task, records);
     }
 
     /// A task's first input has nothing.
     pub(crate) fn had_nothing(&mut self, task: u32) {
+        self.drop_first(task);
+        self.judge(task);
+    }
+
+    /// A task's first input has nothing, or nothing any more.
+    fn drop_first(&mut self, task: u32) {
         if let Some(node) = self.nodes.get_mut(task as usize) {
             node.inputs.drop_first();
             if node.is_fed {
                 self.ahead = 0;
             }
         }
-        self.judge(task);
     }
 
     /// A task's first input waits for the barriers of others.
@@ -348,7 +398,7 @@ impl Schedule {
         }
         if let Some(task) = self.sources.pop_front() {
             let _ = self.sources.push_back(task);
-            self.sent(task);
+            self.sent(task, 1);
         }
     }
 
@@ -359,7 +409,7 @@ impl Schedule {
 
     /// A checkpoint is pending: a new one, or one that others have begun.
     pub(crate) fn triggered(&mut self, is_new: bool) {
-        self.finishes = 0;
+        self.finished = 0;
         self.is_searched = false;
         self.round.begin(&self.all_sources);
         if !is_new {
@@ -429,10 +479,25 @@ impl Schedule {
         self.round.is_pending()
     }
 
-    /// A task holds a claim.
-    pub(crate) fn claimed(&mut self, task: u32) {
+    /// A task holds a claim of so many records of its first input, which comes last now. It is left
+    /// out where the claim has all that it had, and no barrier may follow.
+    pub(crate) fn claimed(&mut self, task: u32, records: u64) {
         self.claims = self.claims.saturating_add(1);
+        if self.takes_all(task, records) {
+            self.drop_first(task);
+        } else if let Some(node) = self.nodes.get_mut(task as usize) {
+            node.inputs.turn();
+        }
         self.set_busy(task, true);
+    }
+
+    /// Whether a claim of so many records has all that its input had, and no barrier may follow.
+    fn takes_all(&self, task: u32, records: u64) -> bool {
+        let is_sink = self
+            .nodes
+            .get(task as usize)
+            .is_some_and(|node| node.is_sink);
+        records < self.batch as u64 && !is_sink && !self.is_pending()
     }
 
     /// A task's claim has ended.

@@ -3,7 +3,7 @@
 use crate::inputs::{Inputs, Place};
 use crate::round::Round;
 use crate::schedule::{Node, Schedule};
-use job_graph::{Graph, Role};
+use job_graph::{Graph, Role, Route};
 use std::alloc::{AllocError, Global};
 use std::collections::VecDeque;
 
@@ -42,9 +42,11 @@ fn nodes_of(alloc: Global, graph: &Graph) -> Result<Vec<Node>, AllocError> {
             rank: ranks.get(task as usize).copied().unwrap_or(0),
             inputs: Inputs::new(alloc, graph.inputs(task).len())?,
             ends: ends_of(alloc, graph, &places, task)?,
+            spread: spread_of(graph, task),
             sent: 0,
             is_busy: false,
             is_fed: false,
+            is_sink: graph.role(task).is_some_and(|role| role.is_sink()),
         })?;
     }
     Ok(nodes)
@@ -99,6 +101,27 @@ fn ends_of(
         }
     }
     Ok(ends)
+}
+
+/// So many records that a task sends are about one for each channel: the subtasks that an edge
+/// spreads them over.
+fn spread_of(graph: &Graph, task: u32) -> usize {
+    let mut spread: usize = 0;
+    for &number in graph.outputs(task) {
+        let parts = graph
+            .channel(number)
+            .map_or(0, |channel| parts_of(channel.route));
+        spread = spread.max(parts);
+    }
+    spread
+}
+
+/// Over how many channels a route spreads records.
+fn parts_of(route: Route) -> usize {
+    match route {
+        Route::Every => 1,
+        Route::Lanes { parallelism, .. } => parallelism as usize,
+    }
 }
 
 /// Says of the tasks that a source sends to that they are fed.

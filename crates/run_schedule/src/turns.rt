@@ -1,5 +1,7 @@
 //! The turns of a run: what is done at each, and what its outcome means for the next.
 
+ghost use Rattle.std.specs.Prelude.{◌≤◌};
+
 use crate::fault::RunFault;
 use crate::inputs::Place;
 use crate::schedule::{Schedule, Step};
@@ -33,9 +35,12 @@ impl Turns {
     }
 
     /// A run of so many turns and restarts begins, by so many workers, all of whom are awake. A
-    /// checkpoint is triggered after every so many finishes, or at the end alone where that is 0.
-    pub fn begin(&mut self, workers: u64, every: u64, turns: u64, restarts: u64) {
-        self.schedule.begin(every);
+    /// checkpoint is triggered after every so many records that were worked, or at the end alone
+    /// where that is 0. A claim takes so many records at most.
+    pub fn begin(&mut self, workers: u64, every: u64, turns: u64, restarts: u64, batch: u32)
+        requires { 1 ≤ batch }
+    {
+        self.schedule.begin(every, batch);
         self.left = turns;
         self.restarts = restarts;
         self.awake = workers;
@@ -57,6 +62,13 @@ impl Turns {
             self.left -= 1;
         }
         step
+    }
+
+    /// How many records a claim takes at most.
+    pub fn batch(&self) -> u32
+        ensures { 1 ≤ result }
+    {
+        self.schedule.batch()
     }
 
     /// How many turns are left.
@@ -108,17 +120,17 @@ impl Turns {
         }
     }
 
-    /// A task holds a claim.
-    pub fn claimed(&mut self, task: u32) {
-        self.schedule.claimed(task);
+    /// A task holds a claim of so many records, of the input that was chosen.
+    pub fn claimed(&mut self, task: u32, records: u64) {
+        self.schedule.claimed(task, records);
     }
 
-    /// What came of a task's job. A result that comes too late is dropped.
-    pub fn finished(&mut self, task: u32, outcome: Result<(), CoreFault>) {
+    /// What came of a task's job of so many records. A result that comes too late is dropped.
+    pub fn finished(&mut self, task: u32, outcome: Result<(), CoreFault>, records: u64) {
         match outcome {
             Ok(()) => {
                 self.schedule.unclaimed(task);
-                self.schedule.worked(task);
+                self.schedule.worked(task, records);
             }
             Err(CoreFault::Stale | CoreFault::NotRunning) => {}
             Err(CoreFault::Memory) => self.stop(RunFault::Memory),

@@ -63,6 +63,7 @@ const HOW: How = How {
         workers: 2,
         every: 0,
         turns: 100_000_000,
+        batch: 1,
     },
     restarts: 0,
     faults: None,

@@ -1,10 +1,10 @@
 -- The steps of a script.
-use Rattle.std.specs.Prelude.{ℕ, ℤ, List, [], ◌&&◌, nat_lt, Option, Some, None, unwrap_or, Result, Ok, Err, if◌then◌else◌, codes}
+use Rattle.std.specs.Prelude.{ℕ, ℤ, List, [], ◌&&◌, nat_lt, nat_le, Option, Some, None, unwrap_or, Result, Ok, Err, if◌then◌else◌, codes}
 use Rattle.std.specs.Str.{bytes_eq}
 use Rattle.serde_json.specs.Data.{Data}
 use Rattle.serde_json.specs.Find.{as_str}
 use Rattle.engine_steps.specs.declared.step.Step.{Step}
-use Rattle.engine_steps.specs.declared.step.Step.TheVariants.{Read, Claim, Finish, Barrier, Trigger, Inject, Persist, PersistSome, Complete, Commit, Settle, Drain, Fail, Restart, Append}
+use Rattle.engine_steps.specs.declared.step.Step.TheVariants.{Read, Claim, ClaimSome, Finish, Barrier, Trigger, Inject, Persist, PersistSome, Complete, Commit, Settle, Drain, Fail, Restart, Append}
 use Rattle.script_file.specs.declared.step.ScriptStep.{ScriptStep}
 use Rattle.script_file.specs.declared.step.ScriptStep.TheVariants.{Call, Work, Fault}
 use Rattle.script_file.specs.declared.fault.ItemFault.{ItemFault}
@@ -41,9 +41,9 @@ of_two step text = do
   numbers ← two_numbers text
   Ok (step numbers.0 numbers.1)
 
--- a number from 1 to 1,000,000
-abbrev pub count_of_text : List ℕ → Result ℕ ItemFault
-count_of_text text = number_of_text text >>= λ n. if nat_lt 0 n && nat_lt n 1000001 then Ok n else Err one.Bad
+-- a number from 1 to this limit
+abbrev pub count_of_text : List ℕ → ℕ → Result ℕ ItemFault
+count_of_text text limit = number_of_text text >>= λ n. if nat_lt 0 n && nat_le n limit then Ok n else Err one.Bad
 
 -- a task's number, which may be followed by how many entries are worked at most
 abbrev pub persisted_by : Option ℕ → List ℕ → Result ScriptStep ItemFault
@@ -51,11 +51,26 @@ persisted_by (Some task) text = Ok (Call (Persist task))
 persisted_by None text = do
   parts ← bad (cut text)
   task ← number_of_text parts.0
-  count ← count_of_text parts.1
+  count ← count_of_text parts.1 1000000
   Ok (Call (PersistSome task count))
 
 unfoldable pub persisted : List ℕ → Result ScriptStep ItemFault
 persisted text = persisted_by (number_of text) text
+
+-- a task's number and an input's, which may be followed by how many records are claimed at most
+abbrev pub claimed_by : ℕ → Option ℕ → List ℕ → Result ScriptStep ItemFault
+claimed_by task (Some input) text = Ok (Call (Claim task input))
+claimed_by task None text = do
+  parts ← bad (cut text)
+  input ← number_of_text parts.0
+  most ← count_of_text parts.1 1024
+  Ok (Call (ClaimSome task input most))
+
+unfoldable pub claimed : List ℕ → Result ScriptStep ItemFault
+claimed text = do
+  parts ← bad (cut text)
+  task ← number_of_text parts.0
+  claimed_by task (number_of parts.1) parts.1
 
 -- a partition, a value, and a key that is all the rest
 unfoldable pub appended : List ℕ → Result (ℕ × Row) ItemFault
@@ -72,7 +87,7 @@ unfoldable pub step_with : List ℕ → List ℕ → Result ScriptStep ItemFault
 step_with word rest =
     if bytes_eq word (codes "read") then one_number Read rest
     else (if bytes_eq word (codes "work") then of_two Work rest
-    else (if bytes_eq word (codes "claim") then of_two (λ task input. Call (Claim task input)) rest
+    else (if bytes_eq word (codes "claim") then claimed rest
     else (if bytes_eq word (codes "finish") then one_number Finish rest
     else (if bytes_eq word (codes "barrier") then of_two (λ task input. Call (Barrier task input)) rest
     else (if bytes_eq word (codes "inject") then one_number Inject rest

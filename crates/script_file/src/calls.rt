@@ -6,7 +6,8 @@ use engine_steps::Step;
 use operators::Row;
 use std::marker::Model;
 
-/// A call on the core. If it appends a row, that row fits. Contracts see it as the call.
+/// A call on the core. A row that it appends fits, and a claim is of one record at least. Contracts
+/// see it as the call.
 #[derive(Drop)]
 pub struct FittingCall {
     call: Step<Row>,

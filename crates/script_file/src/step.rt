@@ -1,13 +1,13 @@
 //! The steps of a script.
 
-ghost use Rattle.std.specs.Prelude.{◌≡◌, []};
+ghost use Rattle.std.specs.Prelude.{◌≡◌, ◌<◌, [], IfOk};
 ghost use Rattle.abs_codec.specs.Spelling.{Fits};
 ghost use Rattle.engine_steps.specs.Fitting.{StepFits};
 ghost use Rattle.operators.specs.RowSpelling.{RowIsSpelled, row_spelling};
 ghost use Rattle.script_file.specs.declared.step.ScriptStep.TheVariants.{Call};
 ghost use Rattle.script_file.specs.Faults.{FindsItem, Gives};
 ghost use Rattle.script_file.specs.Cuts.{bad, cut};
-ghost use Rattle.script_file.specs.Steps.{number_of_text, signed_of_text, count_of_text, one_number, two_numbers, persisted, appended, step_with, step_of, step_at};
+ghost use Rattle.script_file.specs.Steps.{number_of_text, signed_of_text, count_of_text, one_number, two_numbers, persisted, claimed, appended, step_with, step_of, step_at};
 ghost use Rattle.script_file.specs.Lists.{each_after};
 ghost use Rattle.serde_json.specs.View.{view, items_view};
 
@@ -67,12 +67,13 @@ fn two_numbers(text: &str) -> Result<(u32, u32), ItemFault>
     Ok((number_of(first)?, number_of(second)?))
 }
 
-/// A number from 1 to 1,000,000.
-fn count_of(text: &str) -> Result<u32, ItemFault>
-    ensures { FindsItem (λ n. n) result (count_of_text text.now) }
+/// A number from 1 to this limit.
+fn count_of(text: &str, limit: u32) -> Result<u32, ItemFault>
+    ensures found { FindsItem (λ n. n) result (count_of_text text.now limit) }
+    ensures some { IfOk result (λ n. 0 < n) }
 {
     let count = number_of(text)?;
-    if count == 0 || count > 1_000_000 {
+    if count == 0 || count > limit {
         return Err(ItemFault::Bad);
     }
     Ok(count)
@@ -87,7 +88,22 @@ fn persisted(text: &str) -> Result<ScriptStep, ItemFault>
         return Ok(step_for(Step::Persist(task)));
     }
     let (task, count) = cut(text)?;
-    Ok(step_for(Step::PersistSome(number_of(task)?, count_of(count)?)))
+    Ok(step_for(Step::PersistSome(number_of(task)?, count_of(count, 1_000_000)?)))
+}
+
+/// A task's number and an input's, which may be followed by how many records are claimed at most.
+#[tactic(auto, unfolding(crate::specs::Steps::claimed))]
+fn claimed(text: &str) -> Result<ScriptStep, ItemFault>
+    ensures { FindsItem (λ s. s) result (claimed text.now) }
+{
+    let (task, rest) = cut(text)?;
+    let task = number_of(task)?;
+    if let Some(input) = number(rest) {
+        return Ok(step_for(Step::Claim(task, input)));
+    }
+    let (input, most) = cut(rest)?;
+    let input = number_of(input)?;
+    Ok(step_for(Step::ClaimSome(task, input, count_of(most, 1_024)?)))
 }
 
 #[tactic(auto, unfolding(crate::specs::Steps::appended))]
@@ -111,10 +127,7 @@ fn step_with(alloc: Global, word: &str, rest: &str) -> Result<ScriptStep, ItemFa
             let (task, input) = two_numbers(rest)?;
             Ok(ScriptStep::Work(task, input))
         }
-        "claim" => {
-            let (task, input) = two_numbers(rest)?;
-            Ok(step_for(Step::Claim(task, input)))
-        }
+        "claim" => claimed(rest),
         "finish" => Ok(step_for(Step::Finish(number_of(rest)?))),
         "barrier" => {
             let (task, input) = two_numbers(rest)?;

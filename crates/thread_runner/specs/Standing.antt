@@ -8,7 +8,7 @@ use Rattle.dataflow_core.specs.Steps.{IsStep}
 use Rattle.engine.specs.Running.{IsCounted}
 use Rattle.output_readers.specs.Seeing.{Output}
 
--- the core, the total of the finishes that were accepted, and what readers are shown, if it has any
+-- the core, the total of the records of the finishes that were accepted, and what readers are shown, if it has any
 pub record Standing (O R K S : Type 0) : Type 0 where
   pub core : CoreState O R K S
   pub total : ℕ

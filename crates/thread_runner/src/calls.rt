@@ -89,7 +89,7 @@ impl<
     /// A task claims the record at the head of its input. Its job is run with no lock held, and
     /// what was done of it is handed in by `finish_with`.
     pub fn claim(&mut self, task: u32, input: u32) -> Result<Job<O>, CoreFault>
-        ensures ok { IfOk result (λ job. Claims self.old.core task input
+        ensures ok { IfOk result (λ job. Claims self.old.core task input 1
             ⟦<O as Rules>⟧.lang self.new.core
             job.attempt job.serial job.work) }
         ensures err { IfErr result (λ fault. Refuses self.old.core task input fault
@@ -97,6 +97,19 @@ impl<
         ensures total { (self.new.total ≡ self.old.total) × (self.new.output ≡ self.old.output) }
     {
         self.core.claim(task, input)
+    }
+
+    /// The same of so many records of its input, at most.
+    pub fn claim_some(&mut self, task: u32, input: u32, most: u32) -> Result<Job<O>, CoreFault>
+        requires { 0 < most }
+        ensures ok { IfOk result (λ job. Claims self.old.core task input most
+            ⟦<O as Rules>⟧.lang self.new.core
+            job.attempt job.serial job.work) }
+        ensures err { IfErr result (λ fault. Refuses self.old.core task input fault
+            × (self.new ≡ self.old)) }
+        ensures total { (self.new.total ≡ self.old.total) × (self.new.output ≡ self.old.output) }
+    {
+        self.core.claim_some(task, input, most)
     }
 
     /// A task that holds no claim takes the barrier at the head of its input.

@@ -21,7 +21,7 @@ use std::time::Clock;
 /// What a run did.
 #[derive(Clone, Copy, PartialEq, Eq, Debug)]
 pub struct Report {
-    /// How many jobs were finished.
+    /// How many records were worked: those of the jobs whose results were taken.
     pub finished: u128,
 }
 
@@ -121,6 +121,7 @@ impl<L: Ledger> Worker<L> {
             }
         }
         let done = job.run();
+        let records = done.records();
         pause.after_run(attempt, serial);
         let is_short = was_short(rt, begun);
         let Worker {
@@ -131,17 +132,14 @@ impl<L: Ledger> Worker<L> {
         let mut station = station.lock(rt);
         let outcome = station.finish_with(share, done);
         if outcome.is_ok() {
-            *finished += 1;
+            *finished += records as u128;
         }
-        station.finished(task, outcome);
+        station.finished(task, outcome, records);
         is_short
     }
 }
 
-/// Takes the job to rest, by so many workers, and says how many jobs were finished. A job that is
-/// down is restarted first. A checkpoint is triggered after every so many finishes (0: none but the
-/// last), and a last one is committed. Where it is refused otherwise than for its workers, the job
-/// is down.
+/// Takes the job to rest, as [`run_batched`] does where each claim is of one record.
 pub fn run<
     O: Operator + Send,
     S: SnapshotStore + Drop + Send,
@@ -170,6 +168,45 @@ where
     ensures parts { all.new.parts ≡ all.old.parts }
     ensures finished { IfOk result (λ r. all.new.amount ≡ all.old.amount + r.finished) }
 {
+    run_batched(
+        rt, alloc, station, all, workers, every, turns, restarts, pause, 1,
+    )
+}
+
+/// Takes the job to rest, by so many workers, and says how many records they have worked. A job
+/// that is down is restarted first. A checkpoint is triggered after every so many of these records
+/// (0: none but the last), and a last one is committed. A claim is of so many records at most, the
+/// `batch`. Where the run is refused otherwise than for its workers, the job is down.
+pub fn run_batched<
+    O: Operator + Send,
+    S: SnapshotStore + Drop + Send,
+    X: Transactions + Drop + Send,
+    P: Partitions<Record = O::Record> + Drop + Send,
+    L: Ledger + Send + Sync,
+    W: Wait + Drop + Send,
+    H: Pause + Sync,
+    R: Threads + Wait + Clock + Sync,
+>(
+    rt: &R,
+    alloc: Global,
+    station: &Mutex<Station<O, S, X, P, L, W>>,
+    all: &mut Share<L>,
+    workers: usize,
+    every: u64,
+    turns: u64,
+    restarts: u64,
+    pause: &H,
+    batch: u32,
+) -> Result<Report, RunFault>
+where
+    O::Record: Send,
+    O::Key: Send,
+    O::State: Send,
+    requires whole { (all.old.parts ≡ L.parts) × (L.parts ≡ 65) }
+    requires batch { (1 ≤ batch) × (batch ≤ 1024) }
+    ensures parts { all.new.parts ≡ all.old.parts }
+    ensures finished { IfOk result (λ r. all.new.amount ≡ all.old.amount + r.finished) }
+{
     if workers == 0 || workers > 64 {
         return Err(RunFault::BadWorkers);
     }
@@ -177,7 +214,9 @@ where
         station.lock(rt).give_up();
         return Err(RunFault::Memory);
     };
-    station.lock(rt).begin(workers, every, turns, restarts);
+    station
+        .lock(rt)
+        .begin(workers, every, turns, restarts, batch);
     for _ in 0..workers {
         crew.push_reserved(Worker::new(all.split_off(1, 0)));
     }
@@ -192,7 +231,7 @@ where
     Ok(Report { finished })
 }
 
-/// Merges the workers' shares, and says how many jobs they have finished.
+/// Merges the workers' shares, and says how many records they have worked.
 fn gather<
     O: Operator,
     S: SnapshotStore + Drop,

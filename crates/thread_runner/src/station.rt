@@ -1,8 +1,9 @@
 //! What stands behind the lock: the core, the book of totals, the turns of the present run, and
 //! the output writer, if there are readers.
 
-ghost use Rattle.std.specs.Prelude.{◌≡◌, ◌+◌, ◌<◌, ◌^◌, [], ⊤, None, IfOk, IfErr, MatchOption, MatchResult, length, replicate};
+ghost use Rattle.std.specs.Prelude.{◌≡◌, ◌+◌, ◌<◌, ◌≤◌, ◌^◌, [], ⊤, None, IfOk, IfErr, MatchOption, MatchResult, length, replicate};
 ghost use Rattle.std.specs.Option.{option_map};
+ghost use Rattle.claims.specs.Carried.{given_of, records_of};
 ghost use Rattle.dataflow_core.specs.Claims.{EndsFinish, FinishMoves};
 ghost use Rattle.dataflow_core.specs.Steps.{IsStep, Preserves};
 ghost use Rattle.output_readers.specs.Seeing.{IsOpening};
@@ -220,8 +221,8 @@ impl<
         }
     }
 
-    /// Takes what was done of a job, as the core's own `finish` does, and adds one to the share and
-    /// the book where it is taken.
+    /// Takes what was done of a job, as the core's own `finish` does, and adds the number of its
+    /// records to the share and the book where it is taken.
     pub fn finish_with(&mut self, share: &mut Share<L>, done: Done<O>) -> Result<(), CoreFault>
         requires { 0 < share.old.parts }
         ensures ends { EndsFinish self.old.core ⟦<O as Rules>⟧.lang self.new.core done.attempt
@@ -229,13 +230,13 @@ impl<
         ensures step { IsStep ⟦<O as Rules>⟧.lang ⟦<O as Rules>⟧.RecordFits self.old.core.engine
             self.new.core.engine }
         ensures plain { FinishMoves self.old.core ⟦<O as Rules>⟧.lang self.new.core done.attempt
-            done.serial result }
-        ensures total { MatchResult result (λ _. self.new.total ≡ self.old.total + 1)
-            (λ _. self.new.total ≡ self.old.total) }
+            done.serial done.worked result }
+        ensures total { MatchResult result (λ _. self.new.total ≡ self.old.total
+            + records_of (given_of done.worked)) (λ _. self.new.total ≡ self.old.total) }
         ensures output { self.new.output ≡ self.old.output }
-        ensures amount { MatchResult result (λ _. share.new.amount ≡ share.old.amount + 1)
-            (λ _. share.new.amount ≡ share.old.amount) }
-        ensures bound { share.new.amount < 2 ^ 64 }
+        ensures amount { MatchResult result (λ _. share.new.amount ≡ share.old.amount
+            + records_of (given_of done.worked)) (λ _. share.new.amount ≡ share.old.amount) }
+        ensures bound { share.new.amount < 2 ^ 128 }
         ensures parts { share.new.parts ≡ share.old.parts }
     {
         let Station { core, book, .. } = self;
@@ -245,7 +246,7 @@ impl<
     /// With all shares gathered, the total is their sum.
     pub fn audit(&mut self, share: &mut Share<L>)
         ensures whole { share.old.parts ≡ L.parts → share.old.amount ≡ self.old.total }
-        ensures bound { share.new.amount < 2 ^ 64 }
+        ensures bound { share.new.amount < 2 ^ 128 }
         ensures amount { share.new.amount ≡ share.old.amount }
         ensures parts { share.new.parts ≡ share.old.parts }
         ensures same { self.new ≡ self.old }
@@ -255,11 +256,21 @@ impl<
         book.audit(share);
     }
 
-    /// A run of so many turns and restarts begins, by so many workers.
-    pub(crate) fn begin(&mut self, workers: usize, every: u64, turns: u64, restarts: u64)
+    /// A run of so many turns and restarts begins, by so many workers. A claim takes so many records
+    /// at most.
+    pub(crate) fn begin(
+        &mut self,
+        workers: usize,
+        every: u64,
+        turns: u64,
+        restarts: u64,
+        batch: u32,
+    )
+        requires { 1 ≤ batch }
         ensures { self.new ≡ self.old }
     {
-        self.turns.begin(workers as u64, every, turns, restarts);
+        self.turns
+            .begin(workers as u64, every, turns, restarts, batch);
     }
 
     /// A worker wants to rest. Whether it may.
@@ -296,11 +307,11 @@ impl<
         (next, turns.left())
     }
 
-    /// What came of a task's job.
-    pub(crate) fn finished(&mut self, task: u32, outcome: Result<(), CoreFault>)
+    /// What came of a task's job of so many records.
+    pub(crate) fn finished(&mut self, task: u32, outcome: Result<(), CoreFault>, records: u64)
         ensures { self.new ≡ self.old }
     {
-        self.turns.finished(task, outcome);
+        self.turns.finished(task, outcome, records);
     }
 
     /// The job is down: a run was refused before it began.
@@ -378,7 +389,8 @@ fn ends_commits<O: Operator, S: SnapshotStore, X: Transactions, P: Partitions<Re
     }
 }
 
-/// A task claims the record at the head of its input, or takes the barrier that may be there.
+/// A task claims records at the head of its input, a batch at most, or takes the barrier that may
+/// be there.
 fn claim<O: Operator, S: SnapshotStore, X: Transactions, P: Partitions<Record = O::Record>>(
     core: &mut Core<O, S, X, P>,
     turns: &mut Turns,
@@ -388,9 +400,9 @@ fn claim<O: Operator, S: SnapshotStore, X: Transactions, P: Partitions<Record = 
     ensures step { Preserves ⟦<O as Rules>⟧.lang ⟦<O as Rules>⟧.RecordFits core.old.engine
         core.new.engine }
 {
-    match core.claim(place.task, place.input) {
+    match core.claim_some(place.task, place.input, turns.batch()) {
         Ok(job) => {
-            turns.claimed(place.task);
+            turns.claimed(place.task, job.records());
             Next::Run(place.task, job)
         }
         Err(CoreFault::NotReady) if turns.awaits_barriers() => {

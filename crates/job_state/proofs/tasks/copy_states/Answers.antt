@@ -1,4 +1,4 @@
-use Rattle.std.proofs.Common.{[], Some, ap}
+use Rattle.std.proofs.Common.{[], Some}
 use Rattle.job_state.specs.declared.holding.Holding.TheVariants as Holding
 use Rattle.task_part.specs.declared.part.Part.TheVariants as Part
 use Rattle.job_state.proofs.Standings.{holdings_kept, copies_set, copies_kept, held}

@@ -1,4 +1,4 @@
-use Rattle.std.proofs.Common.{drop, ap}
+use Rattle.std.proofs.Common.{drop}
 use Rattle.job_state.specs.declared.holding.Holding.TheVariants as Holding
 use Rattle.job_state.proofs.Standings.{holdings_set, copies_kept, held}
 use Rattle.job_state.proofs.tasks.forget_oldest.Goals as goal

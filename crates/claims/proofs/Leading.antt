@@ -1,0 +1,66 @@
+-- The records that lead a channel, and the items that stand first.
+use Rattle.std.proofs.Common.{◌≡◌, ◌<◌, ◌≤◌, ◌+◌, ◌++◌, ℕ, zero, suc, List, [], ◌∷◌, length, map, take, Option, Some, slice_get, refl, sym, ap, ◌∙◌, arith}
+use Rattle.std.specs.List.{All}
+use Rattle.std.proofs.lemmas.List.{take_more}
+use Rattle.std.proofs.lemmas.Option.{get_or_from_slice_get, slice_get_within}
+use Rattle.std.proofs.lemmas.List.Elements.{All-nil, All-cons, All-head, All-tail}
+use Rattle.channels.specs.Items.{leading_records}
+use Rattle.channels.specs.declared.item.Item.{Item}
+use Rattle.channels.specs.declared.item.Item.TheVariants.{Record, Barrier}
+use Rattle.engine_model.specs.Keeps.{IfRecord}
+
+module _ {R : Type 0} where
+  -- these records stand first
+  abbrev pub Stand : List R → List (Item R) → Type 0
+  Stand rows items = take (length rows) items ≡ map Record rows
+
+  -- each of these records leads in its place
+  abbrev pub Lead : List R → List (Item R) → Type 0
+  Lead rows items = (i : ℕ) → i < length rows → slice_get (leading_records items) i ≡ slice_get rows i
+
+  pub stand_by_place : (rows : List R) (items : List (Item R)) → Lead rows items → Stand rows items
+  stand_by_place [] items lead = refl
+  stand_by_place (row ∷ rows) [] lead = absurd (let e = lead 0 (omega arith) in cc)
+  stand_by_place (row ∷ rows) (Barrier n ∷ items) lead = absurd (let e = lead 0 (omega arith) in cc)
+  stand_by_place (row ∷ rows) (Record r ∷ items) lead =
+      let same : ◌≡◌ {A = Option R} (Some r) (Some row) = lead 0 (omega arith) in
+      let is : r ≡ row = cc in
+      let rest = stand_by_place rows items (λ i less. lead (suc i) (omega arith)) in
+      ap (λ (x : R). Record x ∷ take (length rows) items) is ∙ ap (λ (xs : List (Item R)). Record row ∷ xs) rest
+
+  tail_is : (x y : Item R) (xs ys : List (Item R)) → ◌≡◌ {A = List (Item R)} (x ∷ xs) (y ∷ ys) → xs ≡ ys
+  tail_is x y xs ys e = cc
+
+  head_row : (r row : R) (xs ys : List (Item R)) → ◌≡◌ {A = List (Item R)} (Record r ∷ xs) (Record row ∷ ys) → r ≡ row
+  head_row r row xs ys e = cc
+
+  pub lead_where_stand : (rows : List R) (items : List (Item R)) → Stand rows items → Lead rows items
+  lead_where_stand [] items stand i less = absurd (omega arith)
+  lead_where_stand (row ∷ rows) [] stand i less = absurd cc
+  lead_where_stand (row ∷ rows) (Barrier n ∷ items) stand i less = absurd cc
+  lead_where_stand (row ∷ rows) (Record r ∷ items) stand zero less = ap Some (head_row r row (take (length rows) items) (map Record rows) stand)
+  lead_where_stand (row ∷ rows) (Record r ∷ items) stand (suc i) less = lead_where_stand rows items (tail_is (Record r) (Record row) (take (length rows) items) (map Record rows) stand) i (omega arith)
+
+  -- the first of those that lead stand first
+  pub stand_taken : (count : ℕ) (items : List (Item R)) → count ≤ length (leading_records items) → take count items ≡ map Record (take count (leading_records items))
+  stand_taken zero items within = refl
+  stand_taken (suc count) [] within = absurd (omega arith)
+  stand_taken (suc count) (Barrier n ∷ items) within = absurd (omega arith)
+  stand_taken (suc count) (Record r ∷ items) within = ap (λ (xs : List (Item R)). Record r ∷ xs) (stand_taken count items (omega arith))
+
+  -- where a record stands first, one leads
+  pub leads_first : (items : List (Item R)) (row : R) → slice_get items 0 ≡ Some (Record row) → 0 < length (leading_records items)
+  leads_first [] row e = absurd cc
+  leads_first (Barrier n ∷ items) row e = absurd cc
+  leads_first (Record r ∷ items) row e = omega arith
+
+  -- records that lead fit, where all in the channel do
+  pub leading_fit : (P : R → Type 0) (items : List (Item R)) → All (IfRecord P) items → All P (leading_records items)
+  leading_fit P [] all = All-nil P
+  leading_fit P (Barrier n ∷ items) all = All-nil P
+  leading_fit P (Record r ∷ items) all = All-cons P r (leading_records items) (All-head (IfRecord P) (Record r) items all) (leading_fit P items (All-tail (IfRecord P) (Record r) items all))
+
+  -- a record more is taken
+  pub taken_more : (leading old new : List R) (row : R) (i : ℕ) → slice_get leading i ≡ Some row → old ≡ take i leading → new ≡ old ++ row ∷ [] → new ≡ take (i + 1) leading
+  taken_more leading old new row i at was is =
+      is ∙ ap (λ (xs : List R). xs ++ row ∷ []) was ∙ ap (λ (r : R). take i leading ++ r ∷ []) (sym (get_or_from_slice_get leading i row row at)) ∙ sym (take_more leading i row (slice_get_within leading i row at))

@@ -1,0 +1,232 @@
+-- Several entries that are put into a map one after another: in which order, what is taken out again, and how many there are.
+use Rattle.std.proofs.Common.{◌≡◌, ℕ, ◌+◌, ◌≤◌, Bool, true, false, not, cond, Option, Some, None, List, [], ◌∷◌, ◌++◌, length, filter, count_by, Ordering, append_assoc, refl, sym, ap, ◌∙◌, arith}
+use Rattle.std.specs.Prelude.{is_some}
+use Rattle.std.specs.Option.{option_or}
+use Rattle.std.specs.BTreeMap.{insert_entry, is_at}
+use Rattle.std.specs.Cmp.{IsTotalOrder, eq_by_cmp_equiv}
+use Rattle.std.specs.List.{AllByRecursion}
+use Rattle.std.specs.List.Sorted.{IsStrictlySortedBy}
+use Rattle.std.specs.Map.{keys_of, remove_entry}
+use Rattle.std.specs.Ordering.{match_ordering, is_eq}
+use Rattle.std.specs.Vec.Iter.{into_iter_items, into_iter_steps}
+use Rattle.std.specs.declared.cmp.Ordering.TheVariants.{Less, Equal, Greater}
+use Rattle.std.specs.declared.vec.IntoIter.{IntoIter}
+use Rattle.std.proofs.Common.{subst}
+use Rattle.std.proofs.lemmas.List.Sums.{length-filter}
+use Rattle.std.proofs.lemmas.Map.{NonePasses, none_passes_from_lookup}
+use Rattle.abs_codec.specs.Entries.{value_at}
+use Rattle.keyed_state.specs.Overlay.{put_over}
+use Rattle.keyed_state.specs.Putting.{has_key, AllKnown, AllNew, taken_out}
+use Rattle.keyed_state.proofs.Laid.{none_is, shadowed, put_over-below, put_over-above, value_at-insert_entry, value_at-put_over, insert_entry-rises, length-insert_entry}
+
+-- an item that was taken stood first
+pub taken_first : {X Z : Type 0} (before after : IntoIter X Z) (taken : Option X) (x : X) → taken ≡ Some x → into_iter_steps before taken after → into_iter_items before ≡ x ∷ into_iter_items after
+taken_first before after taken x is steps = (subst (λ o. into_iter_steps before o after) is steps).0
+
+-- one that passes a test goes behind those that passed it before, and another does not
+module _ {A : Type 0} (p : A → Bool) (old new before after whole : List A) (x : A) (is : before ≡ x ∷ after) (left : old ++ filter p before ≡ whole) where
+  passed : p x ≡ true → new ≡ old ++ x ∷ [] → new ++ filter p after ≡ whole
+  passed passes push =
+      ap (λ (l : List A). l ++ filter p after) push ∙ append_assoc old (x ∷ []) (filter p after)
+      ∙ sym (ap (λ (l : List A). old ++ filter p l) is ∙ ap (λ (b : Bool). old ++ cond b (x ∷ filter p after) (filter p after)) passes) ∙ left
+
+  missed : p x ≡ false → new ≡ old → new ++ filter p after ≡ whole
+  missed fails same =
+      ap (λ (l : List A). l ++ filter p after) same ∙ sym (ap (λ (l : List A). old ++ filter p l) is ∙ ap (λ (b : Bool). old ++ cond b (x ∷ filter p after) (filter p after)) fails) ∙ left
+
+  pub gone_in : (b : Bool) → p x ≡ b → new ≡ cond b (old ++ x ∷ []) old → new ++ filter p after ≡ whole
+  gone_in true passes push = passed passes push
+  gone_in false fails same = missed fails same
+
+  pub left_out : (b : Bool) → p x ≡ not b → new ≡ cond b old (old ++ x ∷ []) → new ++ filter p after ≡ whole
+  left_out true fails same = missed fails same
+  left_out false passes push = passed passes push
+
+module _ {S : Type 0} where
+  pub shadowed_or : (first second : Option S) → shadowed first second ≡ option_or first second
+  shadowed_or None second = refl
+  shadowed_or (Some v) second = refl
+
+  some_either : (b : Bool) (v : S) (found : Option S) → is_some found ≡ true → is_some (cond b (Some v) found) ≡ true
+  some_either true v found h = refl
+  some_either false v found h = h
+
+module _ {K S : Type 0} {cmp : K → K → Ordering} (order : IsTotalOrder cmp) where
+  -- ---- taken out again
+
+  pub new_out : (es : List (K × S)) (k : K) (v : S) → value_at cmp es k ≡ None → remove_entry (is_at (cmp k)) (insert_entry cmp es k v) ≡ es
+  new_out [] k v none = ap (λ (b : Bool). cond b [] ((k, v) ∷ [])) ((eq_by_cmp_equiv order).refl k)
+  new_out (e ∷ es) k v none = by (cmp k e.0) refl (new_out es k v)
+    where
+      by : (r : Ordering) → cmp k e.0 ≡ r → (value_at cmp es k ≡ None → remove_entry (is_at (cmp k)) (insert_entry cmp es k v) ≡ es) → remove_entry (is_at (cmp k)) (match_ordering r ((k, v) ∷ e ∷ es) ((e.0, v) ∷ es) (e ∷ insert_entry cmp es k v)) ≡ e ∷ es
+      by Less p rest = ap (λ (b : Bool). cond b (e ∷ es) ((k, v) ∷ remove_entry (is_at (cmp k)) (e ∷ es))) ((eq_by_cmp_equiv order).refl k)
+      by Equal p rest = let found : Some e.1 ≡ None = sym (ap (λ (r : Ordering). cond (is_eq r) (Some e.1) (value_at cmp es k)) p) ∙ none in absurd cc
+      by Greater p rest =
+          let under : value_at cmp es k ≡ None = sym (ap (λ (r : Ordering). cond (is_eq r) (Some e.1) (value_at cmp es k)) p) ∙ none in
+          ap (λ (r : Ordering). cond (is_eq r) (insert_entry cmp es k v) (e ∷ remove_entry (is_at (cmp k)) (insert_entry cmp es k v))) p ∙ ap (λ (l : List (K × S)). e ∷ l) (rest under)
+
+  taken_out-push : (keys : List K) (k : K) (es : List (K × S)) → taken_out cmp (keys ++ k ∷ []) es ≡ taken_out cmp keys (remove_entry (is_at (cmp k)) es)
+  taken_out-push [] k es = refl
+  taken_out-push (key ∷ keys) k es = ap (remove_entry (is_at (cmp key))) (taken_out-push keys k es)
+
+  -- one that is put and noted is taken out first
+  pub noted_out : (keys notes : List K) (es after whole : List (K × S)) (k : K) (v : S) → notes ≡ keys ++ k ∷ [] → after ≡ insert_entry cmp es k v → value_at cmp es k ≡ None → taken_out cmp keys es ≡ whole → taken_out cmp notes after ≡ whole
+  noted_out keys notes es after whole k v noted put none back =
+      ap (λ (ks : List K). taken_out cmp ks after) noted ∙ ap (taken_out cmp (keys ++ k ∷ [])) put ∙ taken_out-push keys k (insert_entry cmp es k v) ∙ ap (taken_out cmp keys) (new_out es k v none) ∙ back
+
+  -- the last is taken out, and then the others
+  pub last_out : (keys rest : List K) (es after whole : List (K × S)) (k : K) → keys ≡ rest ++ k ∷ [] → after ≡ remove_entry (is_at (cmp k)) es → taken_out cmp keys es ≡ whole → taken_out cmp rest after ≡ whole
+  last_out keys rest es after whole k last out back = ap (taken_out cmp rest) out ∙ sym (taken_out-push rest k es) ∙ ap (λ (ks : List K). taken_out cmp ks es) (sym last) ∙ back
+
+  -- ---- keys that are there, and others
+
+  still : (es0 es : List (K × S)) (e : K × S) (entries : List (K × S)) → AllByRecursion (λ q. cmp e.0 q ≡ Less) (keys_of entries) → AllByRecursion (λ x. value_at cmp es x.0 ≡ value_at cmp es0 x.0) entries
+      → AllByRecursion (λ x. value_at cmp (insert_entry cmp es e.0 e.1) x.0 ≡ value_at cmp es0 x.0) entries
+  still es0 es e [] above same = tt
+  still es0 es e (x ∷ xs) above same =
+      (value_at-insert_entry order es e.0 e.1 x.0 ∙ ap (λ (r : Ordering). cond (is_eq r) (Some e.1) (value_at cmp es x.0)) above.0 ∙ same.0, still es0 es e xs above.1 same.1)
+
+  all_same : (es entries : List (K × S)) → AllByRecursion (λ x. value_at cmp es x.0 ≡ value_at cmp es x.0) entries
+  all_same es [] = tt
+  all_same es (x ∷ xs) = (refl, all_same es xs)
+
+  new_from : (es0 es entries : List (K × S)) → IsStrictlySortedBy cmp (keys_of entries) → AllByRecursion (λ x. value_at cmp es x.0 ≡ value_at cmp es0 x.0) entries → AllNew cmp es (filter (λ e. not (has_key cmp es0 e)) entries)
+  unfolding IsStrictlySortedBy
+  new_from es0 es [] rises same = tt
+  new_from es0 es (e ∷ entries) rises same = by (has_key cmp es0 e) refl (new_from es0 es entries rises.1 same.1) (new_from es0 (insert_entry cmp es e.0 e.1) entries rises.1 (still es0 es e entries rises.0 same.1))
+    where
+      by : (b : Bool) → has_key cmp es0 e ≡ b → AllNew cmp es (filter (λ x. not (has_key cmp es0 x)) entries) → AllNew cmp (insert_entry cmp es e.0 e.1) (filter (λ x. not (has_key cmp es0 x)) entries)
+          → AllNew cmp es (cond (not b) (e ∷ filter (λ x. not (has_key cmp es0 x)) entries) (filter (λ x. not (has_key cmp es0 x)) entries))
+      by true h skip take = skip
+      by false h skip take = (same.0 ∙ none_is (value_at cmp es0 e.0) h, take)
+
+  pub all_new : (es entries : List (K × S)) → IsStrictlySortedBy cmp (keys_of entries) → AllNew cmp es (filter (λ e. not (has_key cmp es e)) entries)
+  all_new es entries rises = new_from es es entries rises (all_same es entries)
+
+  kept_by_one : (es : List (K × S)) (k : K) (v : S) (x : K × S) → has_key cmp es x ≡ true → has_key cmp (insert_entry cmp es k v) x ≡ true
+  kept_by_one es k v x h = ap is_some (value_at-insert_entry order es k v x.0) ∙ some_either (is_at (cmp k) x.0) v (value_at cmp es x.0) h
+
+  pub kept_by_all : (es later : List (K × S)) (x : K × S) → has_key cmp es x ≡ true → has_key cmp (put_over cmp es later) x ≡ true
+  kept_by_all es [] x h = h
+  kept_by_all es (e ∷ later) x h = kept_by_all (insert_entry cmp es e.0 e.1) later x (kept_by_one es e.0 e.1 x h)
+
+  pub all_known : (es0 es entries : List (K × S)) → ((x : K × S) → has_key cmp es0 x ≡ true → has_key cmp es x ≡ true) → AllKnown cmp es (filter (λ e. has_key cmp es0 e) entries)
+  all_known es0 es [] keeps = tt
+  all_known es0 es (e ∷ entries) keeps = by (has_key cmp es0 e) refl (all_known es0 es entries keeps) (all_known es0 (insert_entry cmp es e.0 e.1) entries (λ x h. kept_by_one es e.0 e.1 x (keeps x h)))
+    where
+      by : (b : Bool) → has_key cmp es0 e ≡ b → AllKnown cmp es (filter (λ x. has_key cmp es0 x) entries) → AllKnown cmp (insert_entry cmp es e.0 e.1) (filter (λ x. has_key cmp es0 x) entries)
+          → AllKnown cmp es (cond b (e ∷ filter (λ x. has_key cmp es0 x) entries) (filter (λ x. has_key cmp es0 x) entries))
+      by true h skip take = (keeps e h, take)
+      by false h skip take = skip
+
+  -- ---- in which order they are put
+
+  apart : (p : K × S → Bool) (e : K × S) (entries : List (K × S)) → AllByRecursion (λ q. cmp e.0 q ≡ Less) (keys_of entries) → NonePasses (is_at (cmp e.0)) (filter p entries)
+  apart p e [] above = tt
+  apart p e (x ∷ xs) above = by (p x) (apart p e xs above.1)
+    where
+      by : (b : Bool) → NonePasses (is_at (cmp e.0)) (filter p xs) → NonePasses (is_at (cmp e.0)) (cond b (x ∷ filter p xs) (filter p xs))
+      by true rest = (ap is_eq above.0, rest)
+      by false rest = rest
+
+  -- those that pass a test go last
+  pub parted : (p : K × S → Bool) (es entries : List (K × S)) → IsStrictlySortedBy cmp (keys_of entries) → put_over cmp (put_over cmp es (filter (λ e. not (p e)) entries)) (filter (λ e. p e) entries) ≡ put_over cmp es entries
+  unfolding IsStrictlySortedBy
+  parted p es [] rises = refl
+  parted p es (e ∷ entries) rises = by (p e) (parted p (insert_entry cmp es e.0 e.1) entries rises.1)
+    where
+      others : List (K × S)
+      others = filter (λ x. not (p x)) entries
+
+      those : List (K × S)
+      those = filter (λ x. p x) entries
+
+      by : (b : Bool) → put_over cmp (put_over cmp (insert_entry cmp es e.0 e.1) others) those ≡ put_over cmp (insert_entry cmp es e.0 e.1) entries
+          → put_over cmp (put_over cmp es (cond (not b) (e ∷ others) others)) (cond b (e ∷ those) those) ≡ put_over cmp (insert_entry cmp es e.0 e.1) entries
+      by true rest = ap (λ (l : List (K × S)). put_over cmp l those) (sym (put_over-below order es others e.0 e.1 (apart (λ x. not (p x)) e entries rises.0))) ∙ rest
+      by false rest = rest
+
+  above_all : (es later more : List (K × S)) → IsStrictlySortedBy cmp (keys_of later) → put_over cmp es (put_over cmp later more) ≡ put_over cmp (put_over cmp es later) more
+  above_all es later [] rises = refl
+  above_all es later (e ∷ more) rises =
+      above_all es (insert_entry cmp later e.0 e.1) more (insert_entry-rises order later e.0 e.1 rises) ∙ ap (λ (l : List (K × S)). put_over cmp l more) (put_over-above order es later e.0 e.1 rises)
+
+  below_all : (es rest later : List (K × S)) → AllByRecursion (λ e. NonePasses (is_at (cmp e.0)) later) rest → put_over cmp (put_over cmp es rest) later ≡ put_over cmp (put_over cmp es later) rest
+  below_all es [] later apart = refl
+  below_all es (e ∷ rest) later apart =
+      below_all (insert_entry cmp es e.0 e.1) rest later apart.1 ∙ ap (λ (l : List (K × S)). put_over cmp l rest) (put_over-below order es later e.0 e.1 apart.0)
+
+  others_apart : (later entries : List (K × S)) → AllByRecursion (λ e. NonePasses (is_at (cmp e.0)) later) (filter (λ e. not (has_key cmp later e)) entries)
+  others_apart later [] = tt
+  others_apart later (e ∷ entries) = by (has_key cmp later e) refl (others_apart later entries)
+    where
+      by : (b : Bool) → has_key cmp later e ≡ b → AllByRecursion (λ x. NonePasses (is_at (cmp x.0)) later) (filter (λ x. not (has_key cmp later x)) entries)
+          → AllByRecursion (λ x. NonePasses (is_at (cmp x.0)) later) (cond (not b) (e ∷ filter (λ x. not (has_key cmp later x)) entries) (filter (λ x. not (has_key cmp later x)) entries))
+      by true h rest = rest
+      by false h rest = (none_passes_from_lookup (is_at (cmp e.0)) later (none_is (value_at cmp later e.0) h), rest)
+
+  -- into the overlay alone
+  pub all_above : (base overlay entries after seen : List (K × S)) → IsStrictlySortedBy cmp (keys_of overlay) → after ≡ put_over cmp overlay entries → put_over cmp base overlay ≡ seen → put_over cmp base after ≡ put_over cmp seen entries
+  all_above base overlay entries after seen rises put is = ap (put_over cmp base) put ∙ above_all base overlay entries rises ∙ ap (λ (l : List (K × S)). put_over cmp l entries) is
+
+  -- into both: those whose key the overlay has go there
+  pub all_in_both : (base overlay entries : List (K × S)) → IsStrictlySortedBy cmp (keys_of overlay) → IsStrictlySortedBy cmp (keys_of entries)
+      → put_over cmp (put_over cmp base (filter (λ e. not (has_key cmp overlay e)) entries)) (put_over cmp overlay (filter (λ e. has_key cmp overlay e) entries)) ≡ put_over cmp (put_over cmp base overlay) entries
+  all_in_both base overlay entries over rises =
+      let rest = filter (λ (e : K × S). not (has_key cmp overlay e)) entries in
+      let later = filter (λ (e : K × S). has_key cmp overlay e) entries in
+      above_all (put_over cmp base rest) overlay later over ∙ ap (λ (l : List (K × S)). put_over cmp l later) (below_all base rest overlay (others_apart overlay entries)) ∙ parted (λ e. has_key cmp overlay e) (put_over cmp base overlay) entries rises
+
+  below_filtered : (p : K × S → Bool) (k : K) (entries : List (K × S)) → AllByRecursion (λ q. cmp k q ≡ Less) (keys_of entries) → AllByRecursion (λ q. cmp k q ≡ Less) (keys_of (filter p entries))
+  below_filtered p k [] above = tt
+  below_filtered p k (x ∷ xs) above = by (p x) (below_filtered p k xs above.1)
+    where
+      by : (b : Bool) → AllByRecursion (λ q. cmp k q ≡ Less) (keys_of (filter p xs)) → AllByRecursion (λ q. cmp k q ≡ Less) (keys_of (cond b (x ∷ filter p xs) (filter p xs)))
+      by true rest = (above.0, rest)
+      by false rest = rest
+
+  pub filtered_rise : (p : K × S → Bool) (entries : List (K × S)) → IsStrictlySortedBy cmp (keys_of entries) → IsStrictlySortedBy cmp (keys_of (filter p entries))
+  unfolding IsStrictlySortedBy
+  filtered_rise p [] rises = tt
+  filtered_rise p (e ∷ entries) rises = by (p e) (filtered_rise p entries rises.1)
+    where
+      by : (b : Bool) → IsStrictlySortedBy cmp (keys_of (filter p entries)) → IsStrictlySortedBy cmp (keys_of (cond b (e ∷ filter p entries) (filter p entries)))
+      by true rest = (below_filtered p e.0 entries rises.0, rest)
+      by false rest = rest
+
+  -- ---- the value at a key
+
+  pub value_at-all : (es entries after : List (K × S)) (q : K) → IsStrictlySortedBy cmp (keys_of entries) → after ≡ put_over cmp es entries → value_at cmp after q ≡ option_or (value_at cmp entries q) (value_at cmp es q)
+  value_at-all es entries after q rises put = ap (λ (l : List (K × S)). value_at cmp l q) put ∙ value_at-put_over order es entries q rises ∙ shadowed_or (value_at cmp entries q) (value_at cmp es q)
+
+  -- ---- how many there are
+
+  pub known_length : (es known : List (K × S)) → IsStrictlySortedBy cmp (keys_of es) → AllKnown cmp es known → length (put_over cmp es known) ≡ length es
+  known_length es [] rises all = refl
+  known_length es (e ∷ known) rises all =
+      let none : length es + 0 ≡ length es = omega arith in
+      known_length (insert_entry cmp es e.0 e.1) known (insert_entry-rises order es e.0 e.1 rises) all.1 ∙ length-insert_entry order es e.0 e.1 rises ∙ ap (λ (b : Bool). length es + cond b 0 1) all.0 ∙ none
+
+  pub no_fewer : (es later : List (K × S)) → IsStrictlySortedBy cmp (keys_of es) → length es ≤ length (put_over cmp es later)
+  no_fewer es [] rises = omega arith
+  no_fewer es (e ∷ later) rises =
+      let rest = no_fewer (insert_entry cmp es e.0 e.1) later (insert_entry-rises order es e.0 e.1 rises) in
+      let one = length-insert_entry order es e.0 e.1 rises in
+      omega arith
+
+  counted_from : (es0 es entries : List (K × S)) → IsStrictlySortedBy cmp (keys_of es) → IsStrictlySortedBy cmp (keys_of entries) → AllByRecursion (λ x. value_at cmp es x.0 ≡ value_at cmp es0 x.0) entries
+      → length (put_over cmp es entries) ≡ length es + length (filter (λ e. not (has_key cmp es0 e)) entries)
+  unfolding IsStrictlySortedBy
+  counted_from es0 es [] rise rises same = omega arith
+  counted_from es0 es (e ∷ entries) rise rises same =
+      counted_from es0 (insert_entry cmp es e.0 e.1) entries (insert_entry-rises order es e.0 e.1 rise) rises.1 (still es0 es e entries rises.0 same.1)
+      ∙ ap (λ (n : ℕ). n + length (filter (λ (x : K × S). not (has_key cmp es0 x)) entries)) (length-insert_entry order es e.0 e.1 rise ∙ ap (λ (found : Option S). length es + cond (is_some found) 0 1) same.0)
+      ∙ by (has_key cmp es0 e)
+    where
+      by : (b : Bool) → length es + cond b 0 1 + length (filter (λ x. not (has_key cmp es0 x)) entries) ≡ length es + length (cond (not b) (e ∷ filter (λ x. not (has_key cmp es0 x)) entries) (filter (λ x. not (has_key cmp es0 x)) entries))
+      by true = omega arith
+      by false = omega arith
+
+  pub counted_so : (seen entries after : List (K × S)) (len : ℕ) → IsStrictlySortedBy cmp (keys_of seen) → IsStrictlySortedBy cmp (keys_of entries) → len ≡ length seen + count_by (λ e. not (has_key cmp seen e)) entries → after ≡ put_over cmp seen entries → len ≡ length after
+  counted_so seen entries after len rise rises many put =
+      many ∙ ap (λ (n : ℕ). length seen + n) (sym (length-filter (λ e. not (has_key cmp seen e)) entries)) ∙ sym (counted_from seen seen entries rise rises (all_same seen entries)) ∙ sym (ap length put)
