@@ -1,4 +1,5 @@
-use Rattle.std.proofs.Common.{◌+◌, arith}
+use Rattle.std.proofs.Common.{◌+◌, [], sym, arith, append-nil}
+use Rattle.commit_sink.specs.Ledger.{committed_rows}
 use Rattle.engine_model.proofs.Calls.Operates.{goes_on_of}
 use Rattle.engine_model.specs.Language.{language}
 use Rattle.engine.proofs.Accepting.{accept_kept, accept_is_plain, accept_counted}
@@ -25,6 +26,11 @@ pub returns-clause-begins : goal.returns-clause-begins
 returns-clause-begins g c =
     rw (← c.self.view_is)
     (withdraws _ _ _ _ c.self.invariant (g.X.Transactions.state c.accept-outcome.new.transactions) _ 0 (g.met.X.Transactions.ordered c.accept-outcome.new.transactions) (accept_kept _ _ _ _ c.self.invariant c.in-Some.attempt c.accept-outcome.new.attempt c.in-Some.is (g.X.Transactions.state c.accept-outcome.new.transactions) c.args.task c.args.input c.args.worked c.accept-outcome.result (λ operator. goes_on_of _ _ _ _ g.met.O.Operator.fresh_is_good g.met.O.Operator.state_stays_good g.met.O.Operator.sent_fits operator) 0 (rw (← c.deref.ensures.value) c.accept-outcome.ensures.ends) (g.met.X.Transactions.ordered c.accept-outcome.new.transactions)).1)
+
+pub returns-in_default-clause-begins : goal.returns-in_default-clause-begins
+returns-in_default-clause-begins g c =
+    rw (← c.self.view_is)
+    (λ task subtask at. ([], sym (append-nil (committed_rows (g.X.Transactions.state c.self.inside.transactions) subtask))))
 
 pub returns-clause-sound : goal.returns-clause-sound
 returns-clause-sound g c =
