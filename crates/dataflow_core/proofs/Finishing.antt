@@ -1,5 +1,5 @@
 -- A result that is taken.
-use Rattle.std.proofs.Common.{◌≡◌, ◌≢◌, ◌⊎◌, inr, ℕ, Option, Some, None, Result, Ok, Err, MatchOption, List, refl, subst}
+use Rattle.std.proofs.Common.{◌≡◌, ◌≢◌, ◌⊎◌, inl, inr, ℕ, Option, Some, None, Result, Ok, Err, MatchOption, List, refl, subst}
 use Rattle.claims.specs.Carried.{given_of, records_of}
 use Rattle.claims.specs.Due.{EndsAccept}
 use Rattle.claims.specs.declared.parts.Made.{Made}
@@ -9,13 +9,13 @@ use Rattle.engine_model.specs.Calls.{input_at}
 use Rattle.engine_model.specs.Language.{Language}
 use Rattle.engine_model.specs.State.{State}
 use Rattle.engine_model.specs.declared.fault.CoreFault.{CoreFault}
-use Rattle.engine_model.specs.declared.fault.CoreFault.TheVariants.{NotRunning}
+use Rattle.engine_model.specs.declared.fault.CoreFault.TheVariants.{NotRunning, Stale}
 use Rattle.engine_plain.specs.Plain.{StepsOftenIfOk, Stays}
 use Rattle.dataflow_model.specs.Machine as machine
 use Rattle.engine.specs.Running.{OnTransactions}
 use Rattle.job_graph.specs.Expanded.{Expanded}
 use Rattle.job_state.specs.Held.{Held}
-use Rattle.dataflow_core.specs.Claims.{IsHeldAt, EndsFinish, FinishMoves, claims_left}
+use Rattle.dataflow_core.specs.Claims.{IsHeldAt, IsFreshTicket, EndsFinish, FinishMoves, claims_left}
 use Rattle.dataflow_core.specs.CoreState.{CoreState}
 use Rattle.dataflow_core.specs.declared.held.Claim.{Claim}
 
@@ -25,6 +25,22 @@ module _ {R K S O : Type 0} (lang : Language R K S O) where
   leads graph operators task input h k old new (made.Operator operand outcomes) u e = (e.channel, e.due.leads)
   leads graph operators task input h k old new (made.Sink row bytes) u e = (e.0.0, e.0.1.leads)
   leads graph operators task input h k old new (made.Refused work) u e = absurd e
+
+  -- a result that is no fresh ticket is refused, and changes nothing
+  refused : (P Q : Type 0) (F : Held R K S → Type 0) (h : Option (Held R K S)) → ((h ≡ None) × P) ⊎ ((h ≢ None) × Q) → MatchOption h P (λ k. Q ⊎ F k)
+  refused P Q F (Some k) (inl down) = absurd (let never : ◌≡◌ {A = Option (Held R K S)} (Some k) None = down.0 in cc)
+  refused P Q F (Some k) (inr stale) = inl stale.1
+  refused P Q F None (inl down) = down.1
+  refused P Q F None (inr stale) = absurd (stale.0 refl)
+
+  told : {A : Type 0} (fault other : CoreFault) → fault ≡ other → ◌≡◌ {A = Result A CoreFault} (Err fault) (Err other)
+  told fault other e = cc
+
+  pub refuses : (old : CoreState O R K S) (attempt serial : ℕ) (made : Made O K S R) (fault : CoreFault)
+      → ((fault ≡ NotRunning) × (old.engine.held ≡ None)) ⊎ ((fault ≡ Stale) × (old.engine.held ≢ None) × ¬ IsFreshTicket old attempt serial)
+      → EndsFinish old lang old attempt serial made (Err fault)
+  refuses old attempt serial made fault (inl down) = refused _ _ _ old.engine.held (inl (down.1, (told fault NotRunning down.0, refl)))
+  refuses old attempt serial made fault (inr stale) = refused _ _ _ old.engine.held (inr (stale.1, (told fault Stale stale.0, stale.2, refl)))
 
   module _ (old : CoreState O R K S) (engine : State O R K S) (claims : List Claim) (attempt serial at : ℕ) (claim : Claim) (made : Made O K S R) (held : IsHeldAt old attempt serial at claim) where
     abbrev new : CoreState O R K S
