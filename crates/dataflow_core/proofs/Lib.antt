@@ -1,4 +1,5 @@
 pub mod Finishing
+mod Leaving
 pub mod Offering
 pub mod Preserving
 pub mod Running

@@ -1,5 +1,8 @@
 -- What may be claimed, and why a claim is refused.
-use Rattle.std.proofs.Common.{◌≡◌, ◌<◌, ◌≤◌, ◌^◌, ℕ, List, [], ◌∷◌, length, take, map, slice_get, Option, Some, None, Result, Ok, Err, IfOk, IfErr, MatchOption, refl, subst, sym, arith}
+use Rattle.std.proofs.Common.{◌≡◌, ◌<◌, ◌≤◌, ◌+◌, ◌++◌, ◌^◌, ℕ, List, [], ◌∷◌, length, take, map, slice_get, Option, Some, None, Result, Ok, Err, IfOk, IfErr, MatchOption, refl, subst, sym, arith}
+use Rattle.std.proofs.lemmas.List.{length-append}
+use Rattle.std.proofs.lemmas.List.Elements.{All-append}
+use Rattle.std.specs.List.{All}
 use Rattle.channels.specs.declared.item.Item.{Item}
 use Rattle.channels.specs.declared.item.Item.TheVariants.{Record}
 use Rattle.job_state.specs.Held.{Held}
@@ -12,6 +15,7 @@ use Rattle.engine_model.specs.declared.fault.CoreFault.{CoreFault}
 use Rattle.engine_model.specs.declared.fault.CoreFault.TheVariants.{NotRunning, NoSuchTask, NotReady, ChannelBlocked, Busy, Stale, WrongResult, CheckpointPending, NoCheckpoint, NotAllAcked, Memory, Device, CommitFault, NumbersSpent, BadSnapshot}
 use Rattle.dataflow_core.specs.Claims.{IsBusy, HasRecord, RefusesClaim, Refuses, MayClaim, spent_as}
 use Rattle.dataflow_core.specs.CoreState.{CoreState}
+use Rattle.dataflow_core.specs.declared.held.Claim.{Claim}
 
 -- where records stand first, the first of them does
 first_stands : {R : Type 0} (rows : List R) (items : List (Item R)) → 0 < length rows → take (length rows) items ≡ map Record rows → (row : R) × (slice_get items 0 ≡ Some (Record row))
@@ -22,6 +26,16 @@ first_stands {R = R} (row ∷ rows) items some stand = (row, first items stand)
     first [] stand = absurd cc
     first (item ∷ items) stand = cc
 
+-- one claim more is kept, of the next serial
+pub one_more : (serials : ℕ) (claim : Claim) (claims after : List Claim) → claim.serial ≡ serials → length claims ≤ serials → All (λ c. c.serial < serials) claims → after ≡ claims ++ claim ∷ []
+    → (length after ≤ serials + 1) × All (λ c. c.serial < serials + 1) after
+one_more serials claim claims after is few below same =
+    subst (λ (l : List Claim). (length l ≤ serials + 1) × All (λ c. c.serial < serials + 1) l) (sym same)
+    (omega (arith, few, length-append claims (claim ∷ [])), All-append (λ (c : Claim). c.serial < serials + 1) claims (claim ∷ []) (λ k d within. (let b = below k d within in omega (arith, b))) (last is))
+  where
+    last : claim.serial ≡ serials → All (λ (c : Claim). c.serial < serials + 1) (claim ∷ [])
+    last is = grind (arith, is)
+
 module _ {R K S O : Type 0} (lang : Language R K S O) (s : CoreState O R K S) (task input most : ℕ) where
   -- where work is offered there is a record to take
   offer_there : (h : Held R K S) (work : Given O K S R) → EndsOffer lang s.engine.graph s.engine.operators task input h most (Ok work) → HasRecord s task input h
@@ -30,6 +44,23 @@ module _ {R K S O : Type 0} (lang : Language R K S O) (s : CoreState O R K S) (t
       let row = first_stands p.rows.items (items_at h.channels due.0) e.1.0 due.1.first.1 in
       (due.0, row.0, (subst IsWorker (sym due.1.is_operator) tt, due.1.leads), (due.1.first.0, row.1))
   offer_there h (given.Sink row) e = (e.0.0, row, (subst IsWorker (sym e.0.1.is_sink) tt, e.0.1.leads), e.0.1.first)
+
+  -- what may be claimed may find no memory
+  no_memory_by : (work : Given O K S R) (held : Option (Held R K S)) → MatchOption held ⊥ (λ h. ¬ IsBusy task s.claims × EndsOffer lang s.engine.graph s.engine.operators task input h most (Ok work) × (s.serials < 2 ^ 63))
+      → MatchOption held (Memory ≡ NotRunning) (λ h. RefusesClaim s task input h Memory)
+  no_memory_by work (Some h) may = (may.0, offer_there h work may.1, may.2)
+  no_memory_by work None may = absurd may
+
+  pub no_memory : (work : Given O K S R) → MayClaim s task input most lang work → Refuses s task input Memory
+  no_memory work may = no_memory_by work s.engine.held may
+
+  left_by : (work : Given O K S R) (held : Option (Held R K S)) → MatchOption held ⊥ (λ h. ¬ IsBusy task s.claims × EndsOffer lang s.engine.graph s.engine.operators task input h most (Ok work) × (s.serials < 2 ^ 63)) → s.serials < 2 ^ 63
+  left_by work (Some h) may = may.2
+  left_by work None may = absurd may
+
+  -- a serial is left for it
+  pub is_left : (work : Given O K S R) → MayClaim s task input most lang work → s.serials < 2 ^ 63
+  is_left work may = left_by work s.engine.held may
 
   -- how a task's asking for work ends
   abbrev Answers : Held R K S → Result (Given O K S R) CoreFault → Type 0
