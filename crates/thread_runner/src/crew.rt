@@ -57,8 +57,8 @@ impl<L: Ledger> Worker<L> {
         R: Wait + Clock,
     >(&mut self, rt: &R, station: &Mutex<Station<O, S, X, P, L, W>>, turns: u64, pause: &H) {
         for _ in 0..turns {
-            let (next, left) = station.lock(rt).choose();
-            self.patience.took_turn(left);
+            let (next, before, left) = station.lock(rt).choose_some();
+            self.patience.took_turns(before, left);
             match next {
                 Next::Over => return,
                 Next::Idle => self.patience.wait(rt),

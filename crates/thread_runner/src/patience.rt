@@ -49,9 +49,9 @@ impl Patience {
         }
     }
 
-    /// The worker has taken a turn, after which so many are left.
-    pub(crate) fn took_turn(&mut self, left: u64) {
-        self.is_alone = self.seen == left.saturating_add(1);
+    /// The worker has taken turns, before which so many were left, and after which so many are.
+    pub(crate) fn took_turns(&mut self, before: u64, left: u64) {
+        self.is_alone = self.seen == before;
         self.seen = left;
     }
 

@@ -27,6 +27,9 @@ use std::sync::ledger::{Blank, Book, Ledger, Share};
 /// So many entries of the work on a task's part are done in one turn.
 const ENTRIES_A_TURN: u32 = 64;
 
+/// So many turns are taken in one hold of the lock, at most.
+const TURNS_A_HOLD: u64 = 64;
+
 /// What a worker does next.
 #[derive(Drop)]
 pub(crate) enum Next<O: Operator> {
@@ -305,6 +308,24 @@ impl<
         let Station { core, turns, .. } = self;
         let next = take_turn(core, turns);
         (next, turns.left())
+    }
+
+    /// Turns of one hold of the lock, until one leaves the worker something to do: what that is, and
+    /// how many turns were left before them and are after them.
+    pub(crate) fn choose_some(&mut self) -> (Next<O>, u64, u64)
+        ensures total { self.new.total ≡ self.old.total }
+        ensures step { Preserves ⟦<O as Rules>⟧.lang ⟦<O as Rules>⟧.RecordFits self.old.core.engine
+            self.new.core.engine }
+    {
+        let before = self.turns.left();
+        for _ in 1..TURNS_A_HOLD {
+            match self.choose() {
+                (Next::Again, _) => {}
+                (next, left) => return (next, before, left),
+            }
+        }
+        let (next, left) = self.choose();
+        (next, before, left)
     }
 
     /// What came of a task's job of so many records.
