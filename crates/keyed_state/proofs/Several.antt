@@ -1,6 +1,6 @@
 -- Several entries that are put into a map one after another: in which order, what is taken out again, and how many there are.
 use Rattle.std.proofs.Common.{◌≡◌, ℕ, ◌+◌, ◌≤◌, Bool, true, false, not, cond, Option, Some, None, List, [], ◌∷◌, ◌++◌, length, filter, count_by, Ordering, append_assoc, refl, sym, ap, ◌∙◌, arith}
-use Rattle.std.specs.Prelude.{is_some}
+use Rattle.std.specs.Prelude.{is_some, Result, Ok, Err, OnOk}
 use Rattle.std.specs.Option.{option_or}
 use Rattle.std.specs.BTreeMap.{insert_entry, is_at}
 use Rattle.std.specs.Cmp.{IsTotalOrder, eq_by_cmp_equiv}
@@ -198,6 +198,12 @@ module _ {K S : Type 0} {cmp : K → K → Ordering} (order : IsTotalOrder cmp) 
 
   pub value_at-all : (es entries after : List (K × S)) (q : K) → IsStrictlySortedBy cmp (keys_of entries) → after ≡ put_over cmp es entries → value_at cmp after q ≡ option_or (value_at cmp entries q) (value_at cmp es q)
   value_at-all es entries after q rises put = ap (λ (l : List (K × S)). value_at cmp l q) put ∙ value_at-put_over order es entries q rises ∙ shadowed_or (value_at cmp entries q) (value_at cmp es q)
+
+  -- where they were put, and memory was not refused
+  pub states_put : {F : Type 0} (result : Result (Unit {0}) F) (es entries after : List (K × S)) → IsStrictlySortedBy cmp (keys_of entries) → OnOk result (after ≡ put_over cmp es entries)
+      → OnOk result ((q : K) → value_at cmp after q ≡ option_or (value_at cmp entries q) (value_at cmp es q))
+  states_put (Ok u) es entries after rises put = λ q. value_at-all es entries after q rises put
+  states_put (Err f) es entries after rises put = tt
 
   -- ---- how many there are
 

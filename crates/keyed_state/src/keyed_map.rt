@@ -11,7 +11,7 @@ ghost use Rattle.keyed_state.specs.KeyedMap.{entries_above, frozen_entries};
 ghost use Rattle.keyed_state.specs.Overlay.{put_over};
 ghost use Rattle.keyed_state.specs.Putting.{has_key};
 
-use crate::putting::{put_all, put_in_both};
+use crate::putting::{put_all, put_all_in, put_in_both};
 use abs_codec::{Codec, CodecFault, Map, NoMemory};
 use std::alloc::Global;
 use std::collections::BTreeMap;
@@ -124,6 +124,9 @@ impl<K: Ord, S> KeyedState<K, S> {
         ensures ordered { IsStrictlySortedBy K.cmp (keys_of self.new.entries) }
         ensures err { OnErr result (self.new ≡ self.old) }
     {
+        if !self.is_frozen && self.overlay.is_empty() {
+            return self.set_alone(key, state);
+        }
         let len = self.len_with(&key);
         if self.is_frozen || self.overlay.contains_key(&key) {
             self.overlay.insert(key, state)?;
@@ -132,6 +135,27 @@ impl<K: Ord, S> KeyedState<K, S> {
         }
         self.base.insert(key, state)?;
         self.len = len;
+        Ok(())
+    }
+
+    /// Gives the key this state, where no other map is kept beside the one that is seen: the key is
+    /// looked up once.
+    fn set_alone(&mut self, key: K, state: S) -> Result<(), NoMemory>
+    where
+        K: Drop,
+        S: Drop,
+        requires none_frozen { self.old.frozen ≡ None }
+        requires none_left { self.old.unmerged ≡ 0 }
+        ensures entries { OnOk result
+            (self.new.entries ≡ insert_entry K.cmp self.old.entries key state) }
+        ensures states { OnOk result ((q : K) → value_at K.cmp self.new.entries q
+            ≡ (if is_at (K.cmp key) q then Some state else value_at K.cmp self.old.entries q)) }
+        ensures stays { self.new ≡ record self.old { entries = self.new.entries } }
+        ensures ordered { IsStrictlySortedBy K.cmp (keys_of self.new.entries) }
+        ensures err { OnErr result (self.new ≡ self.old) }
+    {
+        self.base.insert(key, state)?;
+        self.len = self.base.len();
         Ok(())
     }
 
@@ -219,6 +243,9 @@ impl<K: Codec + Ord, S: Codec> KeyedState<K, S> {
         ensures ordered { IsStrictlySortedBy K.Ord.cmp (keys_of self.new.entries) }
         ensures err { OnErr result (self.new ≡ self.old) }
     {
+        if !self.is_frozen && self.overlay.is_empty() {
+            return self.set_all_alone(entries);
+        }
         let len = self.len_with_all(&entries)?;
         if self.is_frozen {
             put_all(self.alloc, &mut self.overlay, entries)?;
@@ -227,6 +254,23 @@ impl<K: Codec + Ord, S: Codec> KeyedState<K, S> {
         }
         put_in_both(self.alloc, &mut self.base, &mut self.overlay, entries)?;
         self.len = len;
+        Ok(())
+    }
+
+    /// Gives each of these keys its state, or none of them where memory is refused, where no other
+    /// map is kept beside the one that is seen: no key is looked up to be counted.
+    fn set_all_alone(&mut self, entries: Vec<(K, S)>) -> Result<(), NoMemory>
+        requires rising { IsStrictlySortedBy K.Ord.cmp (keys_of entries.items) }
+        requires none_frozen { self.old.frozen ≡ None }
+        requires none_left { self.old.unmerged ≡ 0 }
+        ensures entries { OnOk result
+            (self.new.entries ≡ put_over K.Ord.cmp self.old.entries entries.items) }
+        ensures stays { self.new ≡ record self.old { entries = self.new.entries } }
+        ensures ordered { IsStrictlySortedBy K.Ord.cmp (keys_of self.new.entries) }
+        ensures err { OnErr result (self.new ≡ self.old) }
+    {
+        put_all_in(self.alloc, &mut self.base, entries)?;
+        self.len = self.base.len();
         Ok(())
     }
 

@@ -157,7 +157,7 @@ pub(crate) fn put_all<K: Codec + Ord, S: Drop>(
 
 /// Gives each of these keys its state, or none of them where memory is refused. The map itself is
 /// not copied.
-fn put_all_in<K: Codec + Ord, S: Drop>(
+pub(crate) fn put_all_in<K: Codec + Ord, S: Drop>(
     alloc: Global,
     map: &mut Map<K, S>,
     entries: Vec<(K, S)>,

@@ -5,8 +5,14 @@ use Rattle.std.specs.Map.{keys_of}
 use Rattle.keyed_state.specs.Overlay.{put_over}
 use Rattle.keyed_state.specs.Putting.{has_key}
 use Rattle.keyed_state.proofs.Laid.{put_over-rises, length-put_over}
-use Rattle.keyed_state.proofs.Several.{all_above, counted_so, value_at-all, no_fewer}
+use Rattle.keyed_state.proofs.Several.{all_above, counted_so, value_at-all, states_put, no_fewer}
 use Rattle.keyed_state.proofs.keyed_map.KeyedState.set_all.Goals as goal
+
+-- ---- where no other map is kept
+
+pub returns-then-is_empty-clause-states : goal.returns-then-is_empty-clause-states
+returns-then-is_empty-clause-states g c =
+    states_put g.met.K.Ord.total c.set_all_alone.result c.args.self.now.entries c.args.entries.items c.set_all_alone.new.self.entries c.requires c.set_all_alone.ensures.entries
 
 -- ---- into the overlay
 
