@@ -8,9 +8,9 @@ ghost use Rattle.engine_steps.specs.Fitting.{StepFits};
 use crate::opening::RowCore;
 use alignment::Effect;
 use commit_sink::Transactions;
-use dataflow_core::{Core, Desk, DeviceCall, Drained, Reply, Rules, Step};
+use dataflow_core::{Core, Desk, Drained, Reply, Rules, Step};
 use operators::{Operator, Row, RowOp};
-use script_file::{FaultCall, ScriptStep};
+use script_file::ScriptStep;
 use snapshot_store::SnapshotStore;
 use source_log::Partitions;
 use std::fmt;
@@ -59,14 +59,6 @@ impl fmt::Display for Answer {
             Reply::Refused(fault) => write!(f, "{fault}"),
             Reply::Source(fault) => write!(f, "{fault}"),
         }
-    }
-}
-
-fn device_call(call: FaultCall) -> DeviceCall {
-    match call {
-        FaultCall::Log(call) => DeviceCall::Log(call),
-        FaultCall::Store(call) => DeviceCall::Store(call),
-        FaultCall::Transactions(call) => DeviceCall::Transactions(call),
     }
 }
 
@@ -127,7 +119,7 @@ fn do_step(core: &mut RowCore, desk: &mut Desk<RowOp>, step: &ScriptStep) -> Rep
         ScriptStep::Call(call) => reply_to(core, desk, call.as_step()),
         ScriptStep::Work(task, input) => work(core, *task, *input),
         ScriptStep::Fault(call, when) => {
-            core.arm(device_call(*call), *when);
+            core.arm(*call, *when);
             Reply::Accepted
         }
     }

@@ -3,19 +3,12 @@
 ghost use Rattle.std.specs.Prelude.{◌≡◌};
 
 use crate::calls::Engine;
-use commit_sink::{FaultlessTransactions, FlakyTransactions, TransactionCall};
+use commit_sink::{FaultlessTransactions, FlakyTransactions};
+use engine_steps::DeviceCall;
 use fault_plan::When;
 use operators::Operator;
-use snapshot_store::{FaultlessStore, FlakyStore, StoreCall};
-use source_log::{FaultlessLog, FlakyLog, LogCall, Partitions};
-
-/// A call of one of a core's devices.
-#[derive(Clone, Copy, Debug)]
-pub enum DeviceCall {
-    Log(LogCall),
-    Store(StoreCall),
-    Transactions(TransactionCall),
-}
+use snapshot_store::{FaultlessStore, FlakyStore};
+use source_log::{FaultlessLog, FlakyLog, Partitions};
 
 impl<
     O: Operator,

@@ -22,4 +22,4 @@ mod tasks;
 
 pub use calls::Engine;
 pub use engine_model::{CoreFault, Persisted};
-pub use faults::DeviceCall;
+pub use engine_steps::DeviceCall;

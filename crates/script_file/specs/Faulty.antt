@@ -8,13 +8,13 @@ use Rattle.snapshot_store.specs.declared.flaky_store.StoreCall.TheVariants as st
 use Rattle.source_log.specs.declared.flaky_log.LogCall.TheVariants as log
 use Rattle.script_file.specs.declared.fault.ItemFault.{ItemFault}
 use Rattle.script_file.specs.declared.fault.ItemFault.TheVariants as one
-use Rattle.script_file.specs.declared.faulty.FaultCall.{FaultCall}
-use Rattle.script_file.specs.declared.faulty.FaultCall.TheVariants.{Log, Store, Transactions}
+use Rattle.engine_steps.specs.declared.device_call.DeviceCall.{DeviceCall}
+use Rattle.engine_steps.specs.declared.device_call.DeviceCall.TheVariants.{Log, Store, Transactions}
 use Rattle.script_file.specs.Cuts.{cut, bad}
 use Rattle.script_file.specs.Faults.{◌>>=◌}
 
 -- the call of a device, by its name
-unfoldable pub call_of : List ℕ → Result FaultCall ItemFault
+unfoldable pub call_of : List ℕ → Result DeviceCall ItemFault
 call_of word =
     if bytes_eq word (codes "log.read") then Ok (Log log.Read)
     else (if bytes_eq word (codes "log.append") then Ok (Log log.Append)
@@ -37,7 +37,7 @@ abbrev pub when_of : List ℕ → Result When ItemFault
 when_of word = if bytes_eq word (codes "before") then Ok Before else (if bytes_eq word (codes "after") then Ok After else Err one.Bad)
 
 -- the call and when it fails
-unfoldable pub fault_of : List ℕ → Result (FaultCall × When) ItemFault
+unfoldable pub fault_of : List ℕ → Result (DeviceCall × When) ItemFault
 fault_of text = do
   parts ← bad (cut text)
   call ← call_of parts.0

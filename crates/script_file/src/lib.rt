@@ -21,7 +21,6 @@ mod step;
 pub use calls::FittingCall;
 pub use contents::{Contents, contents_of};
 pub use fault::{ItemFault, ScriptFault};
-pub use faulty::FaultCall;
 pub use outline::{Outline, json_value, outline_of};
 pub use rows::{FittingRow, partitions, read_row};
 pub use script::Script;

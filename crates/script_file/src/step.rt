@@ -13,10 +13,10 @@ ghost use Rattle.serde_json.specs.View.{view, items_view};
 
 use crate::calls::FittingCall;
 use crate::fault::{ItemFault, ScriptFault};
-use crate::faulty::{FaultCall, fault};
+use crate::faulty::fault;
 use crate::number::{number, signed_number};
 use crate::rows::{FittingRow, fitting_row};
-use engine_steps::Step;
+use engine_steps::{DeviceCall, Step};
 use fault_plan::When;
 use operators::Row;
 use serde_json::Value;
@@ -30,7 +30,7 @@ pub enum ScriptStep {
     /// A task claims the record at the head of its input, works it, and finishes.
     Work(u32, u32),
     /// The next call of the device fails, before its work or after it.
-    Fault(FaultCall, When),
+    Fault(DeviceCall, When),
 }
 
 /// The step that makes this call.
