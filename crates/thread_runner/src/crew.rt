@@ -2,7 +2,7 @@
 
 ghost use Rattle.std.specs.Prelude.{◌≡◌, ◌+◌, ◌≤◌, ◌<◌, ◌^◌, IfOk, vec_len};
 
-use crate::patience::{Patience, was_short};
+use crate::patience::Patience;
 use crate::pause::Pause;
 use crate::station::{Next, Station};
 use commit_sink::Transactions;
@@ -61,7 +61,7 @@ impl<L: Ledger> Worker<L> {
             self.patience.took_turns(before, left);
             match next {
                 Next::Over => return,
-                Next::Idle => self.patience.wait(rt),
+                Next::Idle => self.idled(rt, station),
                 Next::Again => self.made(rt, station, true),
                 Next::Publish => {
                     let _ = station.lock(rt).publish();
@@ -85,10 +85,40 @@ impl<L: Ledger> Worker<L> {
         W: Wait + Drop,
         R: Wait + Clock,
     >(&mut self, rt: &R, station: &Mutex<Station<O, S, X, P, L, W>>, is_short: bool) {
-        if self.patience.is_tired(is_short) && station.lock(rt).rests() {
-            self.patience.rest(rt);
-            station.lock(rt).wakes();
+        let is_tired = self.patience.is_tired(is_short);
+        self.rests(rt, station, is_tired);
+    }
+
+    /// Nothing was to be done. The worker rests, or waits a little.
+    fn idled<
+        O: Operator,
+        S: SnapshotStore + Drop,
+        X: Transactions + Drop,
+        P: Partitions<Record = O::Record> + Drop,
+        W: Wait + Drop,
+        R: Wait + Clock,
+    >(&mut self, rt: &R, station: &Mutex<Station<O, S, X, P, L, W>>) {
+        let is_tired = self.patience.is_tired_of_waiting();
+        if !self.rests(rt, station, is_tired) {
+            self.patience.wait(rt);
         }
+    }
+
+    /// A worker that is tired rests, where another one is awake. Whether it did.
+    fn rests<
+        O: Operator,
+        S: SnapshotStore + Drop,
+        X: Transactions + Drop,
+        P: Partitions<Record = O::Record> + Drop,
+        W: Wait + Drop,
+        R: Wait + Clock,
+    >(&mut self, rt: &R, station: &Mutex<Station<O, S, X, P, L, W>>, is_tired: bool) -> bool {
+        if !is_tired || !station.lock(rt).rests() {
+            return false;
+        }
+        self.patience.rest(rt);
+        station.lock(rt).wakes();
+        true
     }
 
     /// Runs a task's job with no lock held, and hands in what was done of it. Whether the job was
@@ -123,7 +153,7 @@ impl<L: Ledger> Worker<L> {
         let done = job.run();
         let records = done.records();
         pause.after_run(attempt, serial);
-        let is_short = was_short(rt, begun);
+        let is_short = self.patience.was_short(rt, begun);
         let Worker {
             share,
             finished,

@@ -9,19 +9,15 @@ const YIELDS: u32 = 16;
 /// No wait is longer than 1 microsecond, doubled so often: about a millisecond.
 const LONGEST: u32 = 10;
 
-/// The first rest is as long, and no rest is longer than that, doubled so often: about 8
+/// The first rest is as long, and no rest is longer than that, doubled so often: about 32
 /// milliseconds.
-const RESTS: u32 = 3;
-
-/// A job that takes so many nanoseconds is worth a worker of its own. The rest of a step is done
-/// under the lock, so a second worker with shorter jobs takes from the first what it does itself.
-const WORTH: u128 = 20_000;
+const RESTS: u32 = 5;
 
 /// After so many short steps in a row a worker rests.
-const SHORT_STEPS: u32 = 32;
+const SHORT_STEPS: u32 = 8;
 
 /// Between two rests it makes so many.
-const STEPS_BETWEEN: u32 = 4;
+const STEPS_BETWEEN: u32 = 1;
 
 /// How a worker has fared.
 #[derive(Clone, Copy)]
@@ -32,10 +28,14 @@ pub(crate) struct Patience {
     is_alone: bool,
     /// How often it has had nothing to do, halved at each step.
     waits: u32,
+    /// Whether its last step was long.
+    is_of_use: bool,
     /// How many short steps it has made in a row, of those between which others made steps too.
     short: u32,
-    /// How often it has rested since its last long step.
+    /// How often it has rested, halved at each long step.
     rests: u32,
+    /// When it came back from its last job, wait or rest, if it was not alone then.
+    since: Option<Instant>,
 }
 
 impl Patience {
@@ -44,8 +44,10 @@ impl Patience {
             seen: 0,
             is_alone: false,
             waits: 0,
+            is_of_use: false,
             short: 0,
             rests: 0,
+            since: None,
         }
     }
 
@@ -57,6 +59,7 @@ impl Patience {
 
     /// Lets others go first; a worker that has waited often sleeps, longer each time up to a bound.
     pub(crate) fn wait<R: Clock>(&mut self, rt: &R) {
+        self.since = None;
         if self.waits < YIELDS {
             thread::yield_now();
         } else {
@@ -73,11 +76,23 @@ impl Patience {
         if self.is_alone {
             return false;
         }
-        if !is_short {
-            self.short = 0;
-            self.rests = 0;
-            return false;
+        self.is_of_use = !is_short;
+        if is_short {
+            return self.tires();
         }
+        self.short = 0;
+        self.rests /= 2;
+        false
+    }
+
+    /// The worker found nothing to do. Whether it wants to rest: it tires as of a short step, but
+    /// where its last one was long.
+    pub(crate) fn is_tired_of_waiting(&mut self) -> bool {
+        !self.is_of_use && self.tires()
+    }
+
+    /// One short step more. Whether they were many.
+    fn tires(&mut self) -> bool {
         self.short = self.short.saturating_add(1);
         if self.short < SHORT_STEPS {
             return false;
@@ -91,6 +106,7 @@ impl Patience {
         let doubled = LONGEST + self.rests.min(RESTS);
         thread::sleep(rt, Duration::from_micros(1 << doubled));
         self.rests = self.rests.saturating_add(1);
+        self.since = Instant::now(rt).ok();
     }
 
     /// When a job begins: a worker that is alone, and so does not rest, need not ask.
@@ -100,14 +116,23 @@ impl Patience {
         }
         Instant::now(rt).ok()
     }
-}
 
-/// Whether what began then was short. Without a clock nothing is.
-pub(crate) fn was_short<R: Clock>(rt: &R, begun: Option<Instant>) -> bool {
-    let Some(begun) = begun else {
-        return false;
-    };
-    begun
-        .elapsed(rt)
-        .is_ok_and(|taken| taken.as_nanos() < WORTH)
+    /// A job that began then has ended. Whether it was short: no longer than what came before it,
+    /// since the worker's last job, when it waited for the lock and made steps under it. Then the
+    /// lock is what all wait for, and a worker more takes from the others what they do themselves.
+    /// Without a clock no job is short.
+    pub(crate) fn was_short<R: Clock>(&mut self, rt: &R, begun: Option<Instant>) -> bool {
+        let since = self.since.take();
+        let Some(begun) = begun else {
+            return false;
+        };
+        let Ok(ended) = Instant::now(rt) else {
+            return false;
+        };
+        self.since = Some(ended);
+        since.is_some_and(|since| {
+            let job = ended.saturating_duration_since(begun);
+            job <= begun.saturating_duration_since(since)
+        })
+    }
 }
