@@ -34,7 +34,7 @@ pub(crate) struct Patience {
     short: u32,
     /// How often it has rested, halved at each long step.
     rests: u32,
-    /// When it came back from its last job, wait or rest, if it was not alone then.
+    /// When it came back from its last job or rest, unless it has waited since or was alone.
     since: Option<Instant>,
 }
 
