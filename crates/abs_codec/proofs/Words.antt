@@ -39,11 +39,11 @@ lower_first (suc n) (x ∷ xs) (y ∷ ys) h k less =
     elim (cases_lt x y) [
       | inl lt ↦ one_less x y xs ys lt
       | inr not_less ↦ elim (cases_lt y x) [
-          | inl gt ↦ absurd (omega (arith, less, outweighs n y x (leading n ys) (leading n xs) (below_one_more n ys (λ i. k (suc i))) gt))
-          | inr not_more ↦
+        | inl gt ↦ absurd (omega (arith, less, outweighs n y x (leading n ys) (leading n xs) (below_one_more n ys (λ i. k (suc i))) gt))
+        | inr not_more ↦
             let same : x ≡ y = omega (arith, not_less, not_more) in
             one_same x y xs ys same ∙ lower_first n xs ys (λ i. h (suc i)) (λ i. k (suc i)) (omega (arith, less, ap (λ z. z * 256 ^ n) same))
-        ]
+      ]
     ]
 
 one_longer : (m n : ℕ) → nat_cmp m n ≡ nat_cmp (suc m) (suc n)
@@ -51,9 +51,9 @@ one_longer m n =
     elim (cases_lt m n) [
       | inl lt ↦ sym (nat_cmp_is m n Less lt) ∙ nat_cmp_is (suc m) (suc n) Less (omega (arith, lt))
       | inr not_less ↦ elim (cases_lt n m) [
-          | inl gt ↦ sym (nat_cmp_is m n Greater gt) ∙ nat_cmp_is (suc m) (suc n) Greater (omega (arith, gt))
-          | inr not_more ↦ sym (nat_cmp_is m n Equal (omega (arith, not_less, not_more))) ∙ nat_cmp_is (suc m) (suc n) Equal (omega (arith, not_less, not_more))
-        ]
+        | inl gt ↦ sym (nat_cmp_is m n Greater gt) ∙ nat_cmp_is (suc m) (suc n) Greater (omega (arith, gt))
+        | inr not_more ↦ sym (nat_cmp_is m n Equal (omega (arith, not_less, not_more))) ∙ nat_cmp_is (suc m) (suc n) Equal (omega (arith, not_less, not_more))
+      ]
     ]
 
 -- short texts with the same number are told apart by their lengths
@@ -66,13 +66,13 @@ by_lengths (suc n) (x ∷ xs) (y ∷ ys) h k short short' same =
     elim (cases_lt x y) [
       | inl lt ↦ absurd (omega (arith, same, outweighs n x y (leading n xs) (leading n ys) (below_one_more n xs (λ i. h (suc i))) lt))
       | inr not_less ↦ elim (cases_lt y x) [
-          | inl gt ↦ absurd (omega (arith, same, outweighs n y x (leading n ys) (leading n xs) (below_one_more n ys (λ i. k (suc i))) gt))
-          | inr not_more ↦
+        | inl gt ↦ absurd (omega (arith, same, outweighs n y x (leading n ys) (leading n xs) (below_one_more n ys (λ i. k (suc i))) gt))
+        | inr not_more ↦
             let first : x ≡ y = omega (arith, not_less, not_more) in
             one_same x y xs ys first
             ∙ by_lengths n xs ys (λ i. h (suc i)) (λ i. k (suc i)) (omega (arith, short)) (omega (arith, short')) (omega (arith, same, ap (λ z. z * 256 ^ n) first))
             ∙ one_longer (length xs) (length ys)
-        ]
+      ]
     ]
 
 -- texts with different first words stand as these do
@@ -81,9 +81,9 @@ by_words xs ys x y f g differ =
     elim (cases_lt x y) [
       | inl lt ↦ sym (nat_cmp_is x y Less lt) ∙ sym (lower_first 8 xs ys f.bytes g.bytes (omega (arith, lt, f.made, g.made)))
       | inr not_less ↦
-        let gt : y < x = omega (arith, not_less, differ) in
-        let turned : texts_cmp ys xs ≡ Less = lower_first 8 ys xs g.bytes f.bytes (omega (arith, gt, f.made, g.made)) in
-        sym (nat_cmp_is x y Greater gt) ∙ sym (nat_list_cmp_total.antisymm xs ys ∙ ap ordering_reverse turned)
+          let gt : y < x = omega (arith, not_less, differ) in
+          let turned : texts_cmp ys xs ≡ Less = lower_first 8 ys xs g.bytes f.bytes (omega (arith, gt, f.made, g.made)) in
+          sym (nat_cmp_is x y Greater gt) ∙ sym (nat_list_cmp_total.antisymm xs ys ∙ ap ordering_reverse turned)
     ]
 
 -- texts of at most eight bytes with one first word stand as their lengths do
