@@ -1,5 +1,7 @@
 //! Channels between tasks.
 
+use crate::lane::Lane;
+
 /// Which records of its port a channel takes.
 #[derive(Clone, Copy, Debug, PartialEq, Eq)]
 pub enum Route {
@@ -15,16 +17,17 @@ impl Route {
     ghost use Rattle.job_channels.specs.Channel.{route_view, HasSubtask};
 
     /// Whether a record of this lane goes into the channel.
-    pub fn takes(self, lane: u64) -> bool
+    pub fn takes(self, lane: &mut Lane) -> bool
         requires { HasSubtask (route_view self) }
-        ensures { result ≡ takes_lane (route_view self) lane }
+        ensures takes { result ≡ takes_lane (route_view self) lane.old }
+        ensures same { lane.new ≡ lane.old }
     {
         match self {
             Route::Every => true,
             Route::Lanes {
                 parallelism,
                 subtask,
-            } => lane % parallelism as u64 == subtask as u64,
+            } => lane.subtask(parallelism) == subtask,
         }
     }
 }

@@ -3,7 +3,9 @@
 #![tactic(auto)]
 
 mod channel;
+mod lane;
 mod routes;
 
 pub use channel::{Channel, Route};
+pub use lane::Lane;
 pub use routes::channels;

@@ -4,7 +4,7 @@ ghost use Rattle.std.specs.Prelude.{◌≡◌, map, length, IfOk};
 
 use crate::links::{Links, table};
 use crate::role::Role;
-use job_channels::Channel;
+use job_channels::{Channel, Lane};
 use std::alloc::{AllocError, Global};
 use std::marker::Model;
 
@@ -171,8 +171,9 @@ impl Graph {
     }
 
     /// Whether the channel is there and takes records of this lane.
-    pub fn takes(&self, number: u32, lane: u64) -> bool
-        ensures { result ≡ meets (takes lane) self.now.channels number }
+    pub fn takes(&self, number: u32, lane: &mut Lane) -> bool
+        ensures takes { result ≡ meets (takes lane.old) self.now.channels number }
+        ensures same { lane.new ≡ lane.old }
     {
         match self.channel(number) {
             Some(channel) => channel.route.takes(lane),
@@ -194,7 +195,7 @@ impl Graph {
         self.outlets(task, port)
             .iter()
             .copied()
-            .filter(|number| self.takes(*number, lane))
+            .filter(|number| self.takes(*number, &mut Lane::new(lane)))
             .collect(alloc)
     }
 
