@@ -1,10 +1,9 @@
 //! A finite map, and the map as it was at `freeze`.
 
-ghost use Rattle.std.specs.Prelude.{◌≡◌, ◌≢◌, ◌≤◌, ◌+◌, ◌-◌, ◌↔◌, ℕ, [], ◌++◌, length, count_by, not, slice_get, option_map, is_some, Some, None, IsTrue, IsOk, OnSome, OnOk, OnErr, IfOk, IfErr, if◌then◌else◌};
+ghost use Rattle.std.specs.Prelude.{◌≡◌, ◌≢◌, ◌≤◌, ◌+◌, ◌-◌, ◌↔◌, ℕ, [], ◌++◌, length, count_by, not, is_some, Some, None, IsTrue, IsOk, OnOk, OnErr, IfOk, IfErr, IfSome, IfNone, if◌then◌else◌};
 ghost use Rattle.std.specs.Option.{option_copied, option_or};
 ghost use Rattle.std.specs.List.Sorted.{IsStrictlySortedBy};
 ghost use Rattle.std.specs.Map.{keys_of};
-ghost use Rattle.std.specs.Map.Iter.{deref_pair};
 ghost use Rattle.std.specs.BTreeMap.{insert_entry, is_at};
 ghost use Rattle.abs_codec.specs.Entries.{value_at};
 ghost use Rattle.keyed_state.specs.KeyedMap.{entries_above, frozen_entries};
@@ -15,6 +14,7 @@ use crate::putting::{put_all, put_all_in, put_in_both};
 use abs_codec::{Codec, CodecFault, Map, NoMemory};
 use std::alloc::Global;
 use std::collections::BTreeMap;
+use std::collections::btree_map::Range;
 use std::marker::Model;
 use std::ops::Bound;
 
@@ -184,20 +184,20 @@ impl<K: Ord, S> KeyedState<K, S> {
         }
     }
 
-    /// The first entry of the frozen map whose key is above this one, or the first of all.
-    pub fn frozen_next(&self, after: Option<&K>) -> Option<(&K, &S)>
-        ensures first { option_map deref_pair result ≡ slice_get
-            (entries_above K.cmp (option_copied after.entry) (frozen_entries self.now)) 0 }
+    /// The entries of the frozen map whose keys are above this one, or all of them, by rising keys;
+    /// `None` where no map is frozen.
+    pub fn frozen_above(&self, after: Option<&K>) -> Option<Range<'_, K, S>>
+        ensures above { IfSome result (λ entries. entries
+            ≡ entries_above K.cmp (option_copied after.entry) (frozen_entries self.now)) }
+        ensures none { IfNone result (self.now.frozen ≡ None) }
         // The keys rise.
-        ensures ordered { OnSome result
-            (IsStrictlySortedBy K.cmp (keys_of (frozen_entries self.now))) }
+        ensures ordered { IfSome result (λ _. IsStrictlySortedBy K.cmp
+            (keys_of (frozen_entries self.now))) }
     {
         let frozen = self.frozen()?.as_btree_map();
         match after {
-            Some(key) => frozen
-                .range((Bound::Excluded(key), Bound::Unbounded))
-                .next(),
-            None => frozen.iter().next(),
+            Some(key) => Some(frozen.range((Bound::Excluded(key), Bound::Unbounded))),
+            None => Some(frozen.range(..)),
         }
     }
 
