@@ -102,9 +102,12 @@ fn write_next<K: Codec + Ord, S: Codec>(
         (frozen_entries states.now))) }
     ensures keeps { (more : List ℕ) × (out.new.items ≡ out.old.items ++ more) }
 {
+    let Some(mut entries) = states.frozen_above(last) else {
+        return Ok(None);
+    };
     let mut next = last;
     for _ in 0..count {
-        if let Some((key, state)) = states.frozen_next(next) {
+        if let Some((key, state)) = entries.next() {
             write_entry(key, state, out)?;
             next = Some(key);
         }

@@ -1,12 +1,12 @@
-use Rattle.std.proofs.Common.{◌+◌, take, ap, sym, subst, ◌∙◌}
+use Rattle.std.proofs.Common.{◌≡◌, ◌+◌, suc, take, drop, List, Some, slice_get, ap, sym, subst, ◌∙◌, arith}
 use Rattle.std.specs.Option.{option_copied}
 use Rattle.std.specs.List.{All, flat_map}
 use Rattle.std.proofs.lemmas.List.Elements.{All-push}
 use Rattle.abs_codec.specs.Spelling.{pair_spelling, PairIsSpelled}
 use Rattle.keyed_state.specs.KeyedMap.{entries_above, frozen_entries}
-use Rattle.operator_state.proofs.Copying.{one_on, text_on, since, none_left}
+use Rattle.operator_state.proofs.Copying.{one_on, text_on, since, none_left, drop_on}
 use Rattle.operator_state.proofs.operator_state.write_next.Goals as goal
-use Rattle.operator_state.proofs.operator_state.write_next.Goals.{in-Some+in_ok-write_entry, in_default}
+use Rattle.operator_state.proofs.operator_state.write_next.Goals.{in-Some-next+in_ok-write_entry, in_default-next}
 
 pub returns-in_err-write_entry-clause-keeps : goal.returns-in_err-write_entry-clause-keeps
 returns-in_err-write_entry-clause-keeps g c =
@@ -20,15 +20,19 @@ loop-preserved g c =
     let left = entries_above g.K.Ord.cmp (option_copied c.args.last) frozen in
     let here = take c.loop.counter left in
     let further = take (c.loop.counter + 1) left in
-    elim c.match-frozen_next.branch [
-      | in-Some+in_ok-write_entry w ↦
-          let e : g.row.K.Denot × g.row.S.Denot = (w.in-Some.key.now, w.in-Some.state.now) in
-          let on = one_on g.met.K.Ord.total (option_copied c.loop.next) frozen left c.loop.counter e w.in-Some.ensures.ordered c.loop.invariant.others w.in-Some.ensures.first in
+    elim c.match-next.branch [
+      | in-Some-next+in_ok-write_entry w ↦
+          let e : g.row.K.Denot × g.row.S.Denot = (w.in-Some-next.key.now, w.in-Some-next.state.now) in
+          let steps = w.in-Some-next.ensures.steps in
+          let first : Some e ≡ slice_get (entries_above g.K.Ord.cmp (option_copied c.loop.next) frozen) 0 = ap (λ (l : List (g.row.K.Denot × g.row.S.Denot)). slice_get l 0) (sym steps ∙ c.loop.invariant.rest ∙ sym c.loop.invariant.others) in
+          let on = one_on g.met.K.Ord.total (option_copied c.loop.next) frozen left c.loop.counter e c.in-Some.ensures.ordered c.loop.invariant.others first in
           let done = w.in_ok-write_entry.ensures.appended in
+          let next : c.loop.counter + 1 ≡ suc c.loop.counter = omega arith in
           record {
             text = ap (λ o. o.items) w.out-is ∙ text_on (pair_spelling g.K.Codec.spelling g.S.Codec.spelling) c.args.out.now.items c.loop.out.items w.write_entry.new.out.items here further e c.loop.invariant.text done.1 on.1;
             each = subst (All (PairIsSpelled g.K.Codec.HasSpelling g.S.Codec.HasSpelling)) (sym on.1) (All-push (PairIsSpelled g.K.Codec.HasSpelling g.S.Codec.HasSpelling) here e c.loop.invariant.each done.0);
+            rest = sym (drop_on c.loop.counter left e c.next.new.self (sym c.loop.invariant.rest ∙ steps)) ∙ ap (λ n. drop n left) (sym next);
             others = ap (λ n. entries_above g.K.Ord.cmp (option_copied n) frozen) w.next-is ∙ on.0;
           }
-      | in_default w ↦ absurd (none_left (entries_above g.K.Ord.cmp (option_copied c.loop.next) frozen) left c.loop.counter c.args.count c.loop.invariant.others w.in_default.ensures.first c.loop-test.true c.requires)
+      | in_default-next w ↦ absurd (none_left c.loop.entries left c.loop.counter c.args.count c.loop.invariant.rest (sym (ap (λ (l : List (g.row.K.Denot × g.row.S.Denot)). slice_get l 0) w.in_default-next.ensures.steps.0)) c.loop-test.true c.requires)
     ]

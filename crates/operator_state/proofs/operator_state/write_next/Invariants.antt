@@ -9,5 +9,6 @@ abbrev pub invariant-loop : goal.invariant-loop
 invariant-loop g l = let left = entries_above g.K.Ord.cmp (option_copied l.initial.next) (frozen_entries l.states) in record {
   text : l.out.items ≡ l.initial.out.items ++ flat_map (pair_spelling g.K.Codec.spelling g.S.Codec.spelling) (take l.counter left);
   each : All (PairIsSpelled g.K.Codec.HasSpelling g.S.Codec.HasSpelling) (take l.counter left);
+  rest : l.entries ≡ drop l.counter left;
   others : entries_above g.K.Ord.cmp (option_copied l.next) (frozen_entries l.states) ≡ drop l.counter left;
 }
