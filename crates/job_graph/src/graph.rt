@@ -1,6 +1,7 @@
 //! Expanded graphs.
 
-ghost use Rattle.std.specs.Prelude.{◌≡◌, map, length, IfOk};
+ghost use Rattle.std.specs.Prelude.{◌≡◌, ◌<◌, ◌^◌, map, length, count_by, IfOk};
+ghost use Rattle.job_graph.specs.Expanded.{is_sink};
 
 use crate::links::{Links, table};
 use crate::role::Role;
@@ -17,6 +18,8 @@ pub struct Graph {
     order: Vec<u32>,
     spelling: Vec<u8>,
     links: Vec<Links>,
+    /// How many sink subtasks there are.
+    sinks: u32,
 }
 
 impl Model for Graph {
@@ -32,6 +35,13 @@ impl Model for Graph {
     ghost view = { expanded_of };
 
     ghost invariant = { IsLinked };
+}
+
+fn sinks_of(roles: &[Role]) -> u32
+    requires { length roles.now < 2 ^ 32 }
+    ensures { result ≡ count_by is_sink roles.now }
+{
+    roles.iter().filter(|role| role.is_sink()).count() as u32
 }
 
 impl Graph {
@@ -65,12 +75,14 @@ impl Graph {
             }) }
     {
         let links = table(alloc, &channels, roles.len() as u32)?;
+        let sinks = sinks_of(&roles);
         Ok(Graph {
             roles,
             channels,
             order,
             spelling,
             links,
+            sinks,
         })
     }
 
@@ -217,7 +229,7 @@ impl Graph {
     pub fn sinks(&self) -> u32
         ensures { result ≡ count_by is_sink self.now.tasks }
     {
-        self.roles.iter().filter(|role| role.is_sink()).count() as u32
+        self.sinks
     }
 
     /// The task that is a sink subtask; `None` if there is no such subtask.
