@@ -6,7 +6,7 @@ use std::marker::Model;
 
 /// The lane of a record, and the subtask that it falls to at the parallelism last asked for: a
 /// task's channels on a port are asked one after another, and most are of one parallelism.
-#[derive(Debug, Drop)]
+#[derive(Debug)]
 pub struct Lane {
     lane: u64,
     parallelism: u32,

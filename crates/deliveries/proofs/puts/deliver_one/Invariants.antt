@@ -7,5 +7,4 @@ use Rattle.deliveries.proofs.puts.deliver_one.Given as goal
 -- all targets met so far have the record, but the last, which is to have it
 abbrev pub invariant-loop-number : goal.invariant-loop-number
 invariant-loop-number g l =
-    let lane = g.O.Operator.meaning.lane l.row in
-    (l.lane ≡ lane) × (l.puts.items ++ delivered_last l.row l.last ≡ l.fn.puts.items ++ map (λ n. (n, Record l.row)) (filter (meets (takes lane) l.graph.channels) (take l.number-index l.number-items)))
+    l.puts.items ++ delivered_last l.row l.last ≡ l.fn.puts.items ++ map (λ n. (n, Record l.row)) (filter (meets (takes l.lane) l.graph.channels) (take l.number-index l.number-items))
