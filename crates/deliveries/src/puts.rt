@@ -5,7 +5,7 @@ ghost use Rattle.deliveries.specs.Deliveries.{deliveries_of_one, deliveries_of, 
 
 use abs_codec::{Codec, NoMemory};
 use channels::Item;
-use job_graph::{Graph, Lane};
+use job_graph::Graph;
 use operators::Operator;
 use std::alloc::Global;
 
@@ -21,10 +21,10 @@ fn deliver_one<O: Operator>(
     ensures { OnOk result (puts.new.items ≡ puts.old.items
         ++ deliveries_of_one O.meaning graph.now task (port, row)) }
 {
-    let mut lane = Lane::new(O::lane(&row));
+    let lane = O::lane(&row);
     let mut last = None;
     for number in graph.outlets(task, port) {
-        if graph.takes(*number, &mut lane) {
+        if graph.takes(*number, lane) {
             if let Some(previous) = last {
                 puts.push((previous, Item::Record(row.copied()?)))?;
             }

@@ -1,7 +1,5 @@
 //! Channels between tasks.
 
-use crate::lane::Lane;
-
 /// Which records of its port a channel takes.
 #[derive(Clone, Copy, Debug, PartialEq, Eq)]
 pub enum Route {
@@ -17,17 +15,16 @@ impl Route {
     ghost use Rattle.job_channels.specs.Channel.{route_view, HasSubtask};
 
     /// Whether a record of this lane goes into the channel.
-    pub fn takes(self, lane: &mut Lane) -> bool
+    pub fn takes(self, lane: u64) -> bool
         requires { HasSubtask (route_view self) }
-        ensures takes { result ≡ takes_lane (route_view self) lane.old }
-        ensures same { lane.new ≡ lane.old }
+        ensures { result ≡ takes_lane (route_view self) lane }
     {
         match self {
             Route::Every => true,
             Route::Lanes {
                 parallelism,
                 subtask,
-            } => lane.subtask(parallelism) == subtask,
+            } => lane % parallelism as u64 == subtask as u64,
         }
     }
 }

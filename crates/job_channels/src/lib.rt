@@ -3,9 +3,7 @@
 #![tactic(auto)]
 
 mod channel;
-mod lane;
 mod routes;
 
 pub use channel::{Channel, Route};
-pub use lane::Lane;
 pub use routes::channels;

@@ -5,7 +5,7 @@ ghost use Rattle.job_graph.specs.Expanded.{is_sink};
 
 use crate::links::{Links, table};
 use crate::role::Role;
-use job_channels::{Channel, Lane};
+use job_channels::Channel;
 use std::alloc::{AllocError, Global};
 use std::marker::Model;
 
@@ -183,9 +183,8 @@ impl Graph {
     }
 
     /// Whether the channel is there and takes records of this lane.
-    pub fn takes(&self, number: u32, lane: &mut Lane) -> bool
-        ensures takes { result ≡ meets (takes lane.old) self.now.channels number }
-        ensures same { lane.new ≡ lane.old }
+    pub fn takes(&self, number: u32, lane: u64) -> bool
+        ensures { result ≡ meets (takes lane) self.now.channels number }
     {
         match self.channel(number) {
             Some(channel) => channel.route.takes(lane),
@@ -207,7 +206,7 @@ impl Graph {
         self.outlets(task, port)
             .iter()
             .copied()
-            .filter(|number| self.takes(*number, &mut Lane::new(lane)))
+            .filter(|number| self.takes(*number, lane))
             .collect(alloc)
     }
 

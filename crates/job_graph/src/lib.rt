@@ -12,6 +12,6 @@ mod spelling;
 mod tasks;
 
 pub use graph::Graph;
-pub use job_channels::{Channel, Lane, Route};
+pub use job_channels::{Channel, Route};
 pub use job_spec::{EdgeRoute, EdgeSpec, JobFault, JobSpec, Kind, VertexSpec};
 pub use role::Role;
