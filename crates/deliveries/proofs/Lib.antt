@@ -1,1 +1,2 @@
 pub mod Delivered
+pub mod Runs

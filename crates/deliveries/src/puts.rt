@@ -1,6 +1,9 @@
 //! What a task sends, by the channels that it goes into.
 
-ghost use Rattle.std.specs.Prelude.{◌≡◌, ◌++◌, OnOk, IfOk};
+ghost use Rattle.std.specs.Prelude.{◌≡◌, ◌++◌, filter, take, drop, OnOk, IfOk};
+ghost use Rattle.std.specs.Option.{option_to_list};
+ghost use Rattle.job_graph.specs.Expanded.{meets, takes};
+ghost use Rattle.job_graph.specs.Runs.{IsRun};
 ghost use Rattle.deliveries.specs.Deliveries.{deliveries_of_one, deliveries_of, barriers_of};
 
 use abs_codec::{Codec, NoMemory};
@@ -9,8 +12,25 @@ use job_graph::Graph;
 use operators::Operator;
 use std::alloc::Global;
 
+/// Of a run of the task's channels, the one that takes records of this lane, if one does.
+fn target(graph: &Graph, numbers: &[u32], place: usize, run: usize, lane: u64) -> Option<u32>
+    requires { IsRun graph.now.channels numbers.now place run }
+    ensures { filter (meets (takes lane) graph.now.channels) (take run (drop place numbers.now))
+        ≡ option_to_list result }
+{
+    if run > 1 {
+        return Some(numbers[place + (lane % run as u64) as usize]);
+    }
+    let number = numbers[place];
+    if graph.takes(number, lane) {
+        Some(number)
+    } else {
+        None
+    }
+}
+
 /// Adds that a record goes into each channel that takes it from the task's port: the record itself
-/// into the last of them, copies into the others.
+/// into the last of them, copies into the others. Of a run of channels one is looked at.
 fn deliver_one<O: Operator>(
     graph: &Graph,
     task: u32,
@@ -22,14 +42,18 @@ fn deliver_one<O: Operator>(
         ++ deliveries_of_one O.meaning graph.now task (port, row)) }
 {
     let lane = O::lane(&row);
+    let (numbers, runs) = (graph.outlets(task, port), graph.runs(task, port));
     let mut last = None;
-    for number in graph.outlets(task, port) {
-        if graph.takes(*number, lane) {
+    let mut place = 0;
+    while place < numbers.len() {
+        let run = runs[place] as usize;
+        if let Some(number) = target(graph, numbers, place, run, lane) {
             if let Some(previous) = last {
                 puts.push((previous, Item::Record(row.copied()?)))?;
             }
-            last = Some(*number);
+            last = Some(number);
         }
+        place += run;
     }
     if let Some(number) = last {
         puts.push((number, Item::Record(row)))?;

@@ -1,10 +1,11 @@
 -- Where no channel meets a test.
-use Rattle.std.proofs.Common.{◌≡◌, ℕ, zero, suc, ◌+◌, ◌≤◌, Bool, false, eqb, List, [], length, Option, Some, None, slice_get, refl, sym, arith}
+use Rattle.std.proofs.Common.{◌≡◌, ℕ, zero, suc, ◌+◌, ◌≤◌, Bool, false, eqb, List, [], length, Option, Some, None, slice_get, refl, sym, subst, arith}
 use Rattle.std.specs.List.{filter, range_with_len}
 use Rattle.std.specs.Option.{option_map_or}
 use Rattle.std.proofs.lemmas.Bool.{ne_eqb, and_left, and_right}
 use Rattle.std.proofs.lemmas.Option.{slice_get_within}
 use Rattle.dataflow_model.specs.Graph.{Channel}
+use Rattle.job_graph.specs.Runs.{AreRuns}
 use Rattle.job_graph.specs.Expanded.{Expanded, IsExpanded, meets, numbers_of, inputs_of, outputs_of, outlets_of}
 
 filter_none : (p : ℕ → Bool) (a n : ℕ) → ((k : ℕ) → p k ≡ false) → filter p (range_with_len a n) ≡ []
@@ -46,3 +47,7 @@ outlets_above graph task port expanded above =
     numbers_none _ _ (λ number channel is.
     let low = (expanded.joined number channel is).port in
     and_right (eqb channel.sender task) (eqb channel.port port) (ne_eqb channel.port port (λ same. absurd (omega arith))))
+
+-- no channels have no runs
+pub no_runs : (channels : List Channel) (numbers : List ℕ) → [] ≡ numbers → AreRuns channels numbers []
+no_runs channels numbers none = subst (λ (l : List ℕ). AreRuns channels l []) none (record { len = refl; each = λ place lt. absurd (omega (arith, lt)) })

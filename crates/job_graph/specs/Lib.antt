@@ -6,3 +6,5 @@ pub mod PlainGraph
 pub mod Order
 pub mod Spelling
 pub mod Expansion
+-- Runs of channels that take the lanes in turn.
+pub mod Runs

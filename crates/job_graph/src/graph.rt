@@ -50,6 +50,7 @@ impl Graph {
     ghost use Rattle.job_graph.specs.declared.role.Role.TheVariants as Role;
     ghost use Rattle.job_channels.specs.Channel.{channel_view};
     ghost use Rattle.job_graph.specs.Expanded.{IsExpanded, IsChannel, inputs_of, outputs_of, outlets_of, targets_of, meets, is_marked, takes, is_source, is_operator, is_sink, is_subtask_at};
+    ghost use Rattle.job_graph.specs.Runs.{AreRuns};
     ghost use Rattle.job_graph.specs.Tables.{AreLinks};
 
     /// The graph of these tasks and channels.
@@ -178,6 +179,20 @@ impl Graph {
         match port {
             0 => &links.first,
             1 => &links.second,
+            _ => &[],
+        }
+    }
+
+    /// How many channels of a port, from each place among them on, take the lanes in turn.
+    pub fn runs(&self, task: u32, port: u32) -> &[u32]
+        ensures { AreRuns self.now.channels (outlets_of self.now task port) result.now }
+    {
+        let Some(links) = self.links(task) else {
+            return &[];
+        };
+        match port {
+            0 => &links.first_runs,
+            1 => &links.second_runs,
             _ => &[],
         }
     }
