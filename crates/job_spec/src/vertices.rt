@@ -14,7 +14,9 @@ use crate::vertex::{Kind, VertexSpec};
 use abs_codec::Text;
 use indexmap::IndexMap;
 use json_members::{has_only, text_at, whole_at};
-use operators::{KEY_LIMIT, Parameter, ParameterForm, RowKey, RowKind, RowOp, WINDOW_LIMIT, WindowSize};
+use operators::{
+    KEY_LIMIT, Parameter, ParameterForm, RowKey, RowKind, RowOp, WINDOW_LIMIT, WindowSize,
+};
 use serde_json::Value;
 use std::alloc::Global;
 
@@ -43,11 +45,7 @@ fn window_size(value: &Value) -> Result<WindowSize, JobFault>
 }
 
 /// An operator's parameter, which is of this form.
-fn parameter(
-    alloc: Global,
-    form: ParameterForm,
-    value: &Value,
-) -> Result<Parameter, JobFault>
+fn parameter(alloc: Global, form: ParameterForm, value: &Value) -> Result<Parameter, JobFault>
     ensures read { Gives parameter_view result (parameter_at form (view value.now)) }
     ensures form { IfOk result (λ parameter. form_of (parameter_view parameter) ≡ form) }
 {
