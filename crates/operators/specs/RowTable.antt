@@ -18,7 +18,7 @@ pub record TableRow : Type 0 where
   pub ports : ℕ
   pub is_keyed : Bool
 
--- no two have one word, nor one number, and 0 and 1 are those of sources and sinks
+-- each has a word and a number of its own; 0 and 1 are the numbers of sources and sinks
 abbrev pub row_of : RowKind → TableRow
 row_of Add = record { word = codes "add"; number = 2; form = forms.Number; ports = 1; is_keyed = false }
 row_of Rekey = record { word = codes "rekey"; number = 3; form = forms.Key; ports = 1; is_keyed = false }
