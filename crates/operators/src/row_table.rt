@@ -1,6 +1,9 @@
 //! The table of the row operators.
 
-ghost use Rattle.std.specs.Prelude.{◌≡◌, ◌≢◌, ◌++◌, IfSome, IfNone, OnOk};
+ghost use Rattle.std.specs.Prelude.{◌≡◌, ◌≢◌, ◌++◌, IfSome, IfNone, IfErr, OnOk};
+ghost use Rattle.std.specs.Int.{w64};
+ghost use Rattle.abs_codec.specs.Spelling.{signed_spelling};
+ghost use Rattle.abs_codec.specs.declared.fault.CodecFault.TheVariants.{Memory};
 ghost use Rattle.operators.specs.Parameters.{form_of, parameter_spelling, parameter_view};
 ghost use Rattle.operators.specs.RowTable.{kind_named, op_kind, op_parameter, row_of};
 
@@ -90,6 +93,14 @@ impl RowKind {
     }
 }
 
+/// Writes a number of 64 bits.
+fn write_number(n: i64, out: &mut Vec<u8>) -> Result<(), CodecFault>
+    ensures appended { OnOk result (out.new.items ≡ out.old.items ++ signed_spelling w64 n) }
+    ensures memory { IfErr result (λ fault. fault ≡ Memory) }
+{
+    n.write(out)
+}
+
 impl RowOp {
     /// The operator of a kind with a parameter, if the parameter is of the kind's form.
     pub fn new(kind: RowKind, parameter: Parameter) -> Option<RowOp>
@@ -130,12 +141,13 @@ impl RowOp {
 
     /// Writes its parameter, as the spelling of a graph has it.
     pub fn write_parameter(&self, out: &mut Vec<u8>) -> Result<(), CodecFault>
-        ensures { OnOk result (out.new.items ≡ out.old.items
+        ensures appended { OnOk result (out.new.items ≡ out.old.items
             ++ parameter_spelling (op_parameter self.now)) }
+        ensures memory { IfErr result (λ fault. fault ≡ Memory) }
     {
         match self {
             RowOp::Add { n } | RowOp::FilterGe { n } | RowOp::FilterLt { n } | RowOp::Split { n } =>
-                n.write(out),
+                write_number(*n, out),
             RowOp::Rekey { k } => k.text.write(out),
             RowOp::Window { n } => n.n.write(out),
             RowOp::Count | RowOp::Sum | RowOp::LoopDown => Ok(()),
