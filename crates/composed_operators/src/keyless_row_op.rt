@@ -1,7 +1,7 @@
 //! Row operators without keys.
 
 ghost use Rattle.std.specs.Prelude.{◌≡◌, IfSome, IfNone, IfOk, true, false};
-ghost use Rattle.operators.specs.RowMeaning.{is_keyless};
+ghost use Rattle.operators.specs.RowTable.{op_row};
 
 use abs_codec::{NoMemory, Text};
 use chained_operators::Stateless;
@@ -13,19 +13,19 @@ use std::alloc::Global;
 #[derive(Debug, PartialEq, Eq, Drop)]
 pub struct KeylessRowOp {
     pub op: RowOp,
-    pub ghost keyless: { is_keyless op ≡ true },
+    pub ghost keyless: { (op_row op).is_keyed ≡ false },
 }
 
 impl KeylessRowOp {
     /// The operator, if it keeps no state.
     pub fn new(op: RowOp) -> Option<KeylessRowOp>
         ensures some { IfSome result (λ keyless. keyless.op ≡ op) }
-        ensures none { IfNone result (is_keyless op ≡ false) }
+        ensures none { IfNone result ((op_row op).is_keyed ≡ true) }
     {
-        match op {
-            RowOp::Count | RowOp::Sum | RowOp::Window { .. } => None,
-            _ => Some(KeylessRowOp { op }),
+        if op.kind().is_keyed() {
+            return None;
         }
+        Some(KeylessRowOp { op })
     }
 }
 

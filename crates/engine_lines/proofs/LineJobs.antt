@@ -7,7 +7,7 @@ use Rattle.job_graph.specs.Expanded.{Expanded, IsNumbered, task_kind}
 use Rattle.job_graph.specs.Expansion.{Expands, kind_of, subtasks_of, parallelisms_of, edge_channels}
 use Rattle.job_graph.specs.declared.role.Role.{Role}
 use Rattle.job_graph.specs.declared.role.Role.TheVariants.{Source, Operator, Sink}
-use Rattle.job_spec.specs.Job.{Kind, source, sink, add, rekey, filter_ge, filter_lt, split, count, sum, window, loop_down, Vertex, Job, is_operator}
+use Rattle.job_spec.specs.Job.{Kind, source, sink, operator, Vertex, Job, is_operator}
 use Rattle.job_spec.specs.declared.edge.EdgeRoute.{EdgeRoute}
 use Rattle.job_spec.specs.declared.edge.EdgeRoute.TheVariants.{Forward, Hash, Broadcast}
 use Rattle.job_spec.specs.declared.edge.EdgeSpec.{EdgeSpec}
@@ -16,25 +16,17 @@ use Rattle.engine_lines.specs.Lines.{edge_on, IsLine, IsLineJob}
 
 -- ---- tasks
 
-operator_kind : (kind : Kind) → is_operator kind ≡ true → kind_of kind ≡ kind_of count
+operator_kind : (kind : Kind) → is_operator kind ≡ true → kind_of kind ≡ task_kind (Operator 0)
 operator_kind source e = absurd (false≢true e)
 operator_kind sink e = absurd (false≢true e)
-operator_kind (add n) e = refl
-operator_kind (rekey k) e = refl
-operator_kind (filter_ge n) e = refl
-operator_kind (filter_lt n) e = refl
-operator_kind (split n) e = refl
-operator_kind count e = refl
-operator_kind sum e = refl
-operator_kind (window n) e = refl
-operator_kind loop_down e = refl
+operator_kind (operator kind parameter) e = refl
 
 source_of : (r : Role) → task_kind r ≡ kind_of source → (p : ℕ) × (r ≡ Source p)
 source_of (Source p) e = (p, refl)
 source_of (Operator n) e = absurd cc
 source_of (Sink k) e = absurd cc
 
-operator_of : (r : Role) → task_kind r ≡ kind_of count → (n : ℕ) × (r ≡ Operator n)
+operator_of : (r : Role) → task_kind r ≡ task_kind (Operator 0) → (n : ℕ) × (r ≡ Operator n)
 operator_of (Source p) e = absurd cc
 operator_of (Operator n) e = (n, refl)
 operator_of (Sink k) e = absurd cc
@@ -51,14 +43,14 @@ roles_numbered p n k numbered =
     let third : k ≡ 0 = numbered.each 2 (Sink k) refl in
     λ i. Source (first i) ∷ Operator (second i) ∷ Sink (third i) ∷ []
 
-roles_of : (roles : List Role) → map task_kind roles ≡ kind_of source ∷ kind_of count ∷ kind_of sink ∷ [] → IsNumbered roles → roles ≡ Source 0 ∷ Operator 0 ∷ Sink 0 ∷ []
+roles_of : (roles : List Role) → map task_kind roles ≡ kind_of source ∷ task_kind (Operator 0) ∷ kind_of sink ∷ [] → IsNumbered roles → roles ≡ Source 0 ∷ Operator 0 ∷ Sink 0 ∷ []
 roles_of [] e numbered = absurd cc
 roles_of (a ∷ []) e numbered = absurd cc
 roles_of (a ∷ b ∷ []) e numbered = absurd cc
 roles_of (a ∷ b ∷ c ∷ d ∷ rest) e numbered = absurd cc
 roles_of (a ∷ b ∷ c ∷ []) e numbered =
     let one = source_of a (same_Some (task_kind a) (kind_of source) (ap (λ l. slice_get l 0) e)) in
-    let two = operator_of b (same_Some (task_kind b) (kind_of count) (ap (λ l. slice_get l 1) e)) in
+    let two = operator_of b (same_Some (task_kind b) (task_kind (Operator 0)) (ap (λ l. slice_get l 1) e)) in
     let three = sink_of c (same_Some (task_kind c) (kind_of sink) (ap (λ l. slice_get l 2) e)) in
     let same : a ∷ b ∷ c ∷ [] ≡ Source one.0 ∷ Operator two.0 ∷ Sink three.0 ∷ [] = λ i. one.1 i ∷ two.1 i ∷ three.1 i ∷ [] in
     same ∙ roles_numbered one.0 two.0 three.0 (subst IsNumbered same numbered)

@@ -1,10 +1,6 @@
 -- Bytes that are written one after another.
-use Rattle.std.proofs.Common.{◌≡◌, ◌∙◌, ℕ, ◌+◌, ◌<◌, List, [], ◌∷◌, ◌++◌, length, drop, get_or, Result, Ok, Err, OnOk, sym, ap, append_assoc, add-one, drop-cons}
+use Rattle.std.proofs.Common.{◌≡◌, ◌∙◌, ℕ, ◌+◌, ◌<◌, List, [], ◌∷◌, ◌++◌, length, drop, get_or, sym, ap, append_assoc, add-one, drop-cons}
 use Rattle.std.specs.List.{flat_map}
-
-pub appended_behind : {A E : Type 0} (H : Type 0) (r : Result A E) (old middle new more : List ℕ) (x : ℕ) → middle ≡ old ++ x ∷ [] → OnOk r (H × (new ≡ middle ++ more)) → OnOk r (new ≡ old ++ (x ∷ [] ++ more))
-appended_behind H (Ok a) old middle new more x first then_more = then_more.1 ∙ ap (λ l. l ++ more) first ∙ append_assoc old (x ∷ []) more
-appended_behind H (Err e) old middle new more x first then_more = tt
 
 pub appended_five : (a b c d e f one two three : List ℕ) (x y v w : ℕ) → b ≡ a ++ one → c ≡ b ++ two → d ≡ c ++ three → e ≡ d ++ x ∷ [] → f ≡ e ++ y ∷ [] → x ≡ v → y ≡ w
     → f ≡ a ++ (one ++ two ++ three ++ (v ∷ w ∷ []))

@@ -5,6 +5,7 @@ use Rattle.std.proofs.lemmas.List.{length-replicate}
 use Rattle.std.proofs.lemmas.List.Sums.{sum_by-cons}
 use Rattle.std.proofs.lemmas.Option.{slice_get-map, get_or_from_slice_get}
 use Rattle.std.specs.List.{flat_map}
+use Rattle.operators.specs.RowLaws.{ports_are_few}
 use Rattle.job_spec.specs.Job as job
 use Rattle.job_graph.specs.declared.role.Role.{Role}
 use Rattle.job_graph.specs.declared.role.Role.TheVariants.{Source, Operator, Sink}
@@ -110,9 +111,7 @@ kind_takes kind role same takes = refl
 pub ports_two : (kind : job.Kind) → job.ports kind ≤ 2
 ports_two job.source = omega arith
 ports_two job.sink = omega arith
-ports_two (job.split n) = omega arith
-ports_two job.loop_down = omega arith
-ports_two kind = omega arith
+ports_two (job.operator kind parameter) = ports_are_few kind
 
 pub sender_at : (vs : List job.Vertex) (tasks : List Role) (v k : ℕ) (w : job.Vertex) → map task_kind tasks ≡ flat_map subtasks_of vs → slice_get vs v ≡ Some w → k < w.parallelism → job.is_sink w.kind ≡ false
     → IsSender tasks (first_task (parallelisms_of vs) v + k)

@@ -1,25 +1,19 @@
 -- A job's spelling: its vertices, then its edges.
 use Rattle.std.specs.Prelude.{ℕ, List, [], ◌∷◌, ◌++◌, Bool, true, false}
-use Rattle.std.specs.Int.{to_be_bytes, w32, w64}
-use Rattle.abs_codec.specs.Spelling.{signed_spelling, bytes_spelling, list_spelling}
+use Rattle.std.specs.Int.{to_be_bytes, w32}
+use Rattle.abs_codec.specs.Spelling.{bytes_spelling, list_spelling}
 use Rattle.job_spec.specs.declared.edge.EdgeRoute.{EdgeRoute}
 use Rattle.job_spec.specs.declared.edge.EdgeRoute.TheVariants.{Forward, Hash, Broadcast}
 use Rattle.job_spec.specs.declared.edge.EdgeSpec.{EdgeSpec}
-use Rattle.job_spec.specs.Job.{Kind, source, sink, add, rekey, filter_ge, filter_lt, split, count, sum, window, loop_down, Vertex, Job}
+use Rattle.job_spec.specs.Job.{Kind, source, sink, operator, Vertex, Job}
+use Rattle.operators.specs.Parameters.{parameter_spelling}
+use Rattle.operators.specs.RowTable.{row_of}
 
 -- the kind's number, and its parameter
 abbrev pub kind_spelling : Kind → List ℕ
 kind_spelling source = 0 ∷ []
 kind_spelling sink = 1 ∷ []
-kind_spelling (add n) = 2 ∷ [] ++ signed_spelling w64 n
-kind_spelling (rekey key) = 3 ∷ [] ++ bytes_spelling key
-kind_spelling (filter_ge n) = 4 ∷ [] ++ signed_spelling w64 n
-kind_spelling (filter_lt n) = 5 ∷ [] ++ signed_spelling w64 n
-kind_spelling (split n) = 6 ∷ [] ++ signed_spelling w64 n
-kind_spelling count = 7 ∷ []
-kind_spelling sum = 8 ∷ []
-kind_spelling (window n) = 9 ∷ [] ++ to_be_bytes w32 n
-kind_spelling loop_down = 10 ∷ []
+kind_spelling (operator kind parameter) = (row_of kind).number ∷ parameter_spelling parameter
 
 abbrev pub vertex_spelling : Vertex → List ℕ
 vertex_spelling vertex = bytes_spelling vertex.name ++ kind_spelling vertex.kind ++ to_be_bytes w32 vertex.parallelism

@@ -1,9 +1,8 @@
 //! Jobs as bytes.
 
-ghost use Rattle.std.specs.Prelude.{◌≡◌, ◌<◌, ◌++◌, ◌∷◌, [], All, OnOk, IfOk, length, string_bytes};
+ghost use Rattle.std.specs.Prelude.{◌≡◌, ◌<◌, ◌++◌, All, OnOk, IfOk, length, string_bytes};
 ghost use Rattle.std.specs.List.{flat_map};
-ghost use Rattle.std.specs.Int.{w64};
-ghost use Rattle.abs_codec.specs.Spelling.{list_spelling, signed_spelling};
+ghost use Rattle.abs_codec.specs.Spelling.{list_spelling};
 ghost use Rattle.job_spec.specs.Job.{kind_view, operator_view, vertex_view};
 ghost use Rattle.job_graph.specs.Spelling.{kind_spelling, vertex_spelling, edge_spelling, route_number, back_number, spelling_of};
 
@@ -12,35 +11,12 @@ use job_spec::{EdgeRoute, EdgeSpec, JobSpec, Kind, VertexSpec};
 use operators::RowOp;
 use std::alloc::Global;
 
-fn write_with_number(tag: u8, n: &i64, out: &mut Vec<u8>) -> Result<(), CodecFault>
-    ensures { OnOk result (out.new.items ≡ out.old.items
-        ++ (tag ∷ [] ++ signed_spelling w64 n.now)) }
-{
-    out.push(tag)?;
-    n.write(out)
-}
-
 fn write_operator(operator: &RowOp, out: &mut Vec<u8>) -> Result<(), CodecFault>
     ensures { OnOk result (out.new.items ≡ out.old.items
         ++ kind_spelling (operator_view operator.now)) }
 {
-    match operator {
-        RowOp::Add { n } => write_with_number(2, n, out),
-        RowOp::Rekey { k } => {
-            out.push(3)?;
-            k.text.write(out)
-        }
-        RowOp::FilterGe { n } => write_with_number(4, n, out),
-        RowOp::FilterLt { n } => write_with_number(5, n, out),
-        RowOp::Split { n } => write_with_number(6, n, out),
-        RowOp::Count => Ok(out.push(7)?),
-        RowOp::Sum => Ok(out.push(8)?),
-        RowOp::Window { n } => {
-            out.push(9)?;
-            n.n.write(out)
-        }
-        RowOp::LoopDown => Ok(out.push(10)?),
-    }
+    out.push(operator.kind().number())?;
+    operator.write_parameter(out)
 }
 
 fn write_kind(kind: &Kind, out: &mut Vec<u8>) -> Result<(), CodecFault>

@@ -1,28 +1,24 @@
 -- What a job file says.
-use Rattle.std.specs.Prelude.{◌≡◌, ℕ, ◌<◌, ◌≤◌, ℤ, List, [], length, map, Bool, true, false, Some, slice_get, string_bytes, String, All, replicate, if◌then◌else◌}
+use Rattle.std.specs.Prelude.{◌≡◌, ℕ, ◌<◌, ◌≤◌, List, [], length, map, Bool, true, false, Some, slice_get, string_bytes, String, All, replicate, if◌then◌else◌}
 use Rattle.std.specs.List.{flat_map}
 use Rattle.std.specs.declared.alloc.Global.{Global}
 use Rattle.job_spec.specs.declared.vertex.Kind as code
 use Rattle.job_spec.specs.declared.vertex.Kind.TheVariants as kinds
 use Rattle.job_spec.specs.declared.vertex.VertexSpec.{VertexSpec}
 use Rattle.operators.specs.declared.row_op.RowOp.{RowOp}
-use Rattle.operators.specs.declared.row_op.RowOp.TheVariants as ops
+use Rattle.operators.specs.declared.row_table.RowKind.{RowKind}
+use Rattle.operators.specs.declared.parameters.ParameterForm.{ParameterForm}
+use Rattle.operators.specs.declared.parameters.ParameterForm.TheVariants as forms
+use Rattle.operators.specs.Parameters.{Parameter}
+use Rattle.operators.specs.RowTable.{row_of, op_kind, op_parameter}
 use Rattle.job_spec.specs.declared.edge.EdgeRoute.TheVariants.{Forward, Hash}
 use Rattle.job_spec.specs.declared.edge.EdgeSpec.{EdgeSpec}
 
--- what a vertex is, with its parameter
+-- what a vertex is, an operator with its parameter
 pub data Kind : Type 0 where
   source : Kind
   sink : Kind
-  add : ℤ → Kind
-  rekey : List ℕ → Kind
-  filter_ge : ℤ → Kind
-  filter_lt : ℤ → Kind
-  split : ℤ → Kind
-  count : Kind
-  sum : Kind
-  window : ℕ → Kind
-  loop_down : Kind
+  operator : RowKind → Parameter → Kind
 
 pub record Vertex : Type 0 where
   pub name : List ℕ
@@ -35,15 +31,7 @@ pub record Job : Type 0 where
   pub edges : List EdgeSpec
 
 abbrev pub operator_view : RowOp → Kind
-operator_view (ops.Add n) = add n
-operator_view (ops.Rekey k) = rekey k.text
-operator_view (ops.FilterGe n) = filter_ge n
-operator_view (ops.FilterLt n) = filter_lt n
-operator_view (ops.Split n) = split n
-operator_view ops.Count = count
-operator_view ops.Sum = sum
-operator_view (ops.Window n) = window n.n
-operator_view ops.LoopDown = loop_down
+operator_view op = operator (op_kind op) (op_parameter op)
 
 abbrev pub kind_view : code.Kind → Kind
 kind_view kinds.Source = source
@@ -67,22 +55,23 @@ is_sink sink = true
 is_sink _ = false
 
 abbrev pub is_operator : Kind → Bool
-is_operator source = false
-is_operator sink = false
-is_operator _ = true
+is_operator (operator kind parameter) = true
+is_operator _ = false
 
 -- it keeps a state for each key
 abbrev pub is_keyed : Kind → Bool
-is_keyed count = true
-is_keyed sum = true
-is_keyed (window n) = true
+is_keyed (operator kind parameter) = (row_of kind).is_keyed
 is_keyed _ = false
 
 abbrev pub ports : Kind → ℕ
+ports source = 1
 ports sink = 0
-ports (split n) = 2
-ports loop_down = 2
-ports _ = 1
+ports (operator kind parameter) = (row_of kind).ports
+
+-- the form of its parameter
+abbrev pub parameter_form : Kind → ParameterForm
+parameter_form (operator kind parameter) = (row_of kind).form
+parameter_form _ = forms.Nothing
 
 -- ---- what each job keeps
 

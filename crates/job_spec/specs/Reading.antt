@@ -10,7 +10,12 @@ use Rattle.json_members.specs.Json.{json_of}
 use Rattle.json_members.specs.Members.{has_only, text_at, whole, whole_at}
 use Rattle.job_spec.specs.declared.fault.JobFault.{JobFault}
 use Rattle.job_spec.specs.declared.fault.JobFault.TheVariants as faults
-use Rattle.job_spec.specs.Job.{Kind, source, sink, add, rekey, filter_ge, filter_lt, split, count, sum, window, loop_down, Vertex, Job, is_source, is_sink, is_keyed, ports}
+use Rattle.operators.specs.declared.parameters.ParameterForm.{ParameterForm}
+use Rattle.operators.specs.declared.parameters.ParameterForm.TheVariants as forms
+use Rattle.operators.specs.Parameters.{Parameter}
+use Rattle.operators.specs.Parameters as parameters
+use Rattle.operators.specs.RowTable.{row_of, kind_named}
+use Rattle.job_spec.specs.Job.{Kind, source, sink, operator, Vertex, Job, is_source, is_sink, is_keyed, ports, parameter_form}
 use Rattle.job_spec.specs.declared.edge.EdgeSpec.{EdgeSpec}
 use Rattle.job_spec.specs.declared.edge.EdgeRoute.{EdgeRoute}
 use Rattle.job_spec.specs.declared.edge.EdgeRoute.TheVariants.{Forward, Hash, Broadcast}
@@ -91,23 +96,22 @@ window_size d = do
   found ← member_at (codes "n") d
   number 1 1024 found
 
-abbrev pub made : {A : Type 0} → (A → Kind) → Result A JobFault → Result Kind JobFault
-made kind (Ok parameter) = Ok (kind parameter)
-made kind (Err e) = Err e
+abbrev pub made : {A : Type 0} → (A → Parameter) → Result A JobFault → Result Parameter JobFault
+made parameter (Ok x) = Ok (parameter x)
+made parameter (Err e) = Err e
+
+abbrev pub parameter_at : ParameterForm → Data → Result Parameter JobFault
+parameter_at forms.Nothing d = Ok parameters.nothing
+parameter_at forms.Number d = made parameters.number (any_number d)
+parameter_at forms.Key d = made parameters.key (row_key d)
+parameter_at forms.Size d = made parameters.size (window_size d)
 
 -- the operator that a word names, with its parameter
 unfoldable pub operator_at : List ℕ → Data → Result Kind JobFault
-operator_at word d =
-    if bytes_eq word (codes "add") then made add (any_number d)
-    else (if bytes_eq word (codes "rekey") then made rekey (row_key d)
-    else (if bytes_eq word (codes "filter_ge") then made filter_ge (any_number d)
-    else (if bytes_eq word (codes "filter_lt") then made filter_lt (any_number d)
-    else (if bytes_eq word (codes "split") then made split (any_number d)
-    else (if bytes_eq word (codes "count") then Ok count
-    else (if bytes_eq word (codes "sum") then Ok sum
-    else (if bytes_eq word (codes "window") then made window (window_size d)
-    else (if bytes_eq word (codes "loop_down") then Ok loop_down
-    else Err faults.BadField))))))))
+operator_at word d = do
+  kind ← field (kind_named word)
+  parameter ← parameter_at (row_of kind).form d
+  Ok (operator kind parameter)
 
 unfoldable pub kind_at : List ℕ → Data → Result Kind JobFault
 kind_at word d =
@@ -115,21 +119,15 @@ kind_at word d =
     else (if bytes_eq word (codes "sink") then Ok sink
     else operator_at word d)
 
-abbrev pub parameter_names : Kind → List (List ℕ)
-parameter_names source = []
-parameter_names sink = []
-parameter_names (add n) = codes "n" ∷ []
-parameter_names (rekey k) = codes "k" ∷ []
-parameter_names (filter_ge n) = codes "n" ∷ []
-parameter_names (filter_lt n) = codes "n" ∷ []
-parameter_names (split n) = codes "n" ∷ []
-parameter_names count = []
-parameter_names sum = []
-parameter_names (window n) = codes "n" ∷ []
-parameter_names loop_down = []
+-- what the member is called that has a parameter of a form
+abbrev pub parameter_names : ParameterForm → List (List ℕ)
+parameter_names forms.Nothing = []
+parameter_names forms.Number = codes "n" ∷ []
+parameter_names forms.Key = codes "k" ∷ []
+parameter_names forms.Size = codes "n" ∷ []
 
 abbrev pub member_names : Kind → List (List ℕ)
-member_names kind = codes "name" ∷ codes "kind" ∷ codes "parallelism" ∷ parameter_names kind
+member_names kind = codes "name" ∷ codes "kind" ∷ codes "parallelism" ∷ parameter_names (parameter_form kind)
 
 unfoldable pub vertex_at : Data → Result Vertex JobFault
 vertex_at d = do

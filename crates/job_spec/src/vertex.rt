@@ -1,6 +1,6 @@
 //! Vertices.
 
-use operators::RowOp;
+use operators::{ParameterForm, RowOp};
 
 /// What a vertex is, with its parameter.
 #[derive(Debug, Drop, PartialEq)]
@@ -12,7 +12,7 @@ pub enum Kind {
 
 impl Kind {
     ghost use Rattle.std.specs.Prelude.{◌≡◌};
-    ghost use Rattle.job_spec.specs.Job.{kind_view, is_source, is_sink, is_keyed, ports};
+    ghost use Rattle.job_spec.specs.Job.{kind_view, is_source, is_sink, is_keyed, ports, parameter_form};
 
     pub fn is_source(&self) -> bool
         ensures { result ≡ is_source (kind_view self.now) }
@@ -30,10 +30,10 @@ impl Kind {
     pub fn is_keyed(&self) -> bool
         ensures { result ≡ is_keyed (kind_view self.now) }
     {
-        matches!(
-            self,
-            Kind::Operator(RowOp::Count | RowOp::Sum | RowOp::Window { .. })
-        )
+        match self {
+            Kind::Operator(operator) => operator.kind().is_keyed(),
+            Kind::Source | Kind::Sink => false,
+        }
     }
 
     /// How many ports it sends on.
@@ -41,9 +41,19 @@ impl Kind {
         ensures { result ≡ ports (kind_view self.now) }
     {
         match self {
+            Kind::Source => 1,
             Kind::Sink => 0,
-            Kind::Operator(RowOp::Split { .. } | RowOp::LoopDown) => 2,
-            _ => 1,
+            Kind::Operator(operator) => operator.kind().ports(),
+        }
+    }
+
+    /// The form of its parameter.
+    pub fn form(&self) -> ParameterForm
+        ensures { result ≡ parameter_form (kind_view self.now) }
+    {
+        match self {
+            Kind::Operator(operator) => operator.kind().form(),
+            Kind::Source | Kind::Sink => ParameterForm::Nothing,
         }
     }
 }

@@ -1,8 +1,9 @@
 //! The vertices of a job file.
 
-ghost use Rattle.std.specs.Prelude.{◌≡◌, map, []};
+ghost use Rattle.std.specs.Prelude.{◌≡◌, IfOk, map, []};
+ghost use Rattle.operators.specs.Parameters.{form_of, parameter_view};
 ghost use Rattle.job_spec.specs.Job.{kind_view, operator_view, vertex_view, vertices_view};
-ghost use Rattle.job_spec.specs.Reading.{Gives, kind_at, operator_at, any_number, row_key, window_size, member_names, vertex_at, vertices_after, optional, number};
+ghost use Rattle.job_spec.specs.Reading.{Gives, kind_at, operator_at, parameter_at, any_number, row_key, window_size, member_names, vertex_at, vertices_after, optional, number};
 ghost use Rattle.serde_json.specs.Find.{get};
 ghost use Rattle.serde_json.specs.View.{view, items_view};
 ghost use Rattle.std.specs.Prelude.{codes};
@@ -13,7 +14,9 @@ use crate::vertex::{Kind, VertexSpec};
 use abs_codec::Text;
 use indexmap::IndexMap;
 use json_members::{has_only, text_at, whole_at};
-use operators::{KEY_LIMIT, RowKey, RowOp, WINDOW_LIMIT, WindowSize};
+use operators::{
+    KEY_LIMIT, Parameter, ParameterForm, RowKey, RowKind, RowOp, WINDOW_LIMIT, WindowSize,
+};
 use serde_json::Value;
 use std::alloc::Global;
 
@@ -41,34 +44,26 @@ fn window_size(value: &Value) -> Result<WindowSize, JobFault>
     WindowSize::new(n).ok_or(JobFault::BadField)
 }
 
+/// An operator's parameter, which is of this form.
+fn parameter(alloc: Global, form: ParameterForm, value: &Value) -> Result<Parameter, JobFault>
+    ensures read { Gives parameter_view result (parameter_at form (view value.now)) }
+    ensures form { IfOk result (λ parameter. form_of (parameter_view parameter) ≡ form) }
+{
+    Ok(match form {
+        ParameterForm::Nothing => Parameter::Nothing,
+        ParameterForm::Number => Parameter::Number(any_number(value)?),
+        ParameterForm::Key => Parameter::Key(row_key(alloc, value)?),
+        ParameterForm::Size => Parameter::Size(window_size(value)?),
+    })
+}
+
 #[tactic(auto, unfolding(crate::specs::Reading::operator_at))]
 fn operator_of(alloc: Global, word: &str, value: &Value) -> Result<RowOp, JobFault>
     ensures { Gives operator_view result (operator_at word.now (view value.now)) }
 {
-    match word {
-        "add" => Ok(RowOp::Add {
-            n: any_number(value)?,
-        }),
-        "rekey" => Ok(RowOp::Rekey {
-            k: row_key(alloc, value)?,
-        }),
-        "filter_ge" => Ok(RowOp::FilterGe {
-            n: any_number(value)?,
-        }),
-        "filter_lt" => Ok(RowOp::FilterLt {
-            n: any_number(value)?,
-        }),
-        "split" => Ok(RowOp::Split {
-            n: any_number(value)?,
-        }),
-        "count" => Ok(RowOp::Count),
-        "sum" => Ok(RowOp::Sum),
-        "window" => Ok(RowOp::Window {
-            n: window_size(value)?,
-        }),
-        "loop_down" => Ok(RowOp::LoopDown),
-        _ => Err(JobFault::BadField),
-    }
+    let kind = RowKind::named(word).ok_or(JobFault::BadField)?;
+    let parameter = parameter(alloc, kind.form(), value)?;
+    RowOp::new(kind, parameter).ok_or(JobFault::BadField)
 }
 
 #[tactic(auto, unfolding(crate::specs::Reading::kind_at))]
@@ -85,12 +80,10 @@ fn kind_of(alloc: Global, word: &str, value: &Value) -> Result<Kind, JobFault>
 fn member_names(kind: &Kind) -> &'static [&'static str]
     ensures { map (λ n. n.now) result.now ≡ member_names (kind_view kind.now) }
 {
-    match kind {
-        Kind::Operator(RowOp::Rekey { .. }) => &["name", "kind", "parallelism", "k"],
-        Kind::Operator(RowOp::Count | RowOp::Sum | RowOp::LoopDown) | Kind::Source | Kind::Sink => {
-            &["name", "kind", "parallelism"]
-        }
-        Kind::Operator(_) => &["name", "kind", "parallelism", "n"],
+    match kind.form() {
+        ParameterForm::Nothing => &["name", "kind", "parallelism"],
+        ParameterForm::Number | ParameterForm::Size => &["name", "kind", "parallelism", "n"],
+        ParameterForm::Key => &["name", "kind", "parallelism", "k"],
     }
 }
 

@@ -1,5 +1,7 @@
 pub mod Operator
 pub mod Exact
+pub mod Parameters
+pub mod RowTable
 pub mod RowSpelling
 pub mod RowCode
 pub mod Lanes

@@ -2,7 +2,7 @@
 use Rattle.std.proofs.Common.{◌≡◌, ℕ, ℤ, pos, negsuc, ◌*◌, ◌-◌, ◌^◌, ◌<◌, ◌≤◌, true, false, List, [], ◌∷◌, ◌++◌, length, fold, Some, None, refl, ap, arith, length-append, lit≤, lit<, rules, sym, subst, ◌∙◌}
 use Rattle.std.specs.Int.{w64, saturate_signed}
 use Rattle.std.specs.Int.RustNames.{FitsSigned}
-use Rattle.std.specs.Prelude.{int_lt, nat_lt}
+use Rattle.std.specs.Prelude.{Bool, int_lt, nat_lt, if◌then◌else◌}
 use Rattle.std.specs.Ordering.{int_eq}
 use Rattle.std.specs.List.{All, flat_map}
 use Rattle.std.specs.Str.{is_utf8}
@@ -17,8 +17,9 @@ use Rattle.dataflow_model.specs.Graph.{Outcome}
 use Rattle.operators.specs.Exact.{same_part}
 use Rattle.operators.specs.Lanes.{lane_of}
 use Rattle.operators.specs.Operator.{IsGoodState, MayBeSent}
+use Rattle.operators.specs.RowTable.{op_row, row_of}
 use Rattle.operators.specs.RowSpelling.{RowIsSpelled, row_spelling, StateIsSpelled, state_spelling}
-use Rattle.operators.specs.RowMeaning.{◌⊞◌, ◌⊟◌, sum_of, number_in, keep, send, collect, with_value, with_key, row_meaning, row_outcome, row_key, is_keyless, row_ports, row_fresh, RowSuits}
+use Rattle.operators.specs.RowMeaning.{◌⊞◌, ◌⊟◌, sum_of, number_in, keep, send, collect, with_value, with_key, row_meaning, row_outcome, row_key, row_fresh, RowSuits}
 use Rattle.operators.specs.declared.parameters.RowKey.{RowKey}
 use Rattle.operators.specs.declared.parameters.WindowSize.{WindowSize}
 use Rattle.operators.specs.declared.row.Row.{Row}
@@ -26,6 +27,8 @@ use Rattle.operators.specs.declared.row_state.RowState.{RowState}
 use Rattle.operators.specs.declared.row_state.RowState.TheVariants.{Plain, Number, Numbers}
 use Rattle.operators.specs.declared.row_op.RowOp.{RowOp}
 use Rattle.operators.specs.declared.row_op.RowOp.TheVariants.{Add, Rekey, FilterGe, FilterLt, Split, Count, Sum, Window, LoopDown}
+use Rattle.operators.specs.declared.row_table.RowKind.{RowKind}
+use Rattle.operators.specs.declared.row_table.RowKind.TheVariants as kinds
 use Rattle.operators.specs.contracts.row.RowPartialEq.TheImpl.{ghosts as row_comparison}
 use Rattle.operators.specs.contracts.row_state.RowStatePartialEq.TheImpl.{ghosts as state_comparison}
 use Rattle.operators.specs.contracts.row_op.RowOpPartialEq.TheImpl.{ghosts as op_comparison}
@@ -129,14 +132,12 @@ values_fit values row fit fits = All-append (FitsSigned w64) values (row.v ∷ [
 
 -- ---- keys
 
-nothing_is : (key : List ℕ) → None ≡ Some key → ⊥
-nothing_is key e = absurd cc
+key_when : (keyed : Bool) (r : Row) (key : List ℕ) → (if keyed then Some r.k else None) ≡ Some key → r.k ≡ key
+key_when true r key e = cc
+key_when false r key e = absurd cc
 
 key_is : (op : RowOp) (r : Row) (key : List ℕ) → row_key op r ≡ Some key → r.k ≡ key
-key_is Count r key e = cc
-key_is Sum r key e = cc
-key_is (Window n) r key e = cc
-key_is _ r key e = absurd (nothing_is key e)
+key_is op r key e = key_when (op_row op).is_keyed r key e
 
 pub row_key_fits : (op : RowOp) (r : Row) (key : List ℕ) → RowFits r → row_key op r ≡ Some key → KeyFits key
 row_key_fits op r key fits e = subst KeyFits (key_is op r key e) (key_of_row_fits r fits)
@@ -144,16 +145,8 @@ row_key_fits op r key fits e = subst KeyFits (key_is op r key e) (key_of_row_fit
 pub row_key_has_lane : (op : RowOp) (q r : Row) (key : List ℕ) → row_key op q ≡ Some key → row_key op r ≡ Some key → row_meaning.lane q ≡ row_meaning.lane r
 row_key_has_lane op q r key is_q is_r = ap lane_of (key_is op q key is_q ∙ sym (key_is op r key is_r))
 
-pub keyless_has_no_key : (op : RowOp) (r : Row) → is_keyless op ≡ true → row_key op r ≡ None
-keyless_has_no_key Count r e = absurd cc
-keyless_has_no_key Sum r e = absurd cc
-keyless_has_no_key (Window n) r e = absurd cc
-keyless_has_no_key (Add n) r e = refl
-keyless_has_no_key (Rekey k) r e = refl
-keyless_has_no_key (FilterGe n) r e = refl
-keyless_has_no_key (FilterLt n) r e = refl
-keyless_has_no_key (Split n) r e = refl
-keyless_has_no_key LoopDown r e = refl
+pub keyless_has_no_key : (op : RowOp) (r : Row) → (op_row op).is_keyed ≡ false → row_key op r ≡ None
+keyless_has_no_key op r e = rw e refl
 
 pub row_keyless_keeps_fresh : (op : RowOp) (r : Row) → row_key op r ≡ None → (row_outcome op (row_fresh op) r).state ≡ row_fresh op
 row_keyless_keeps_fresh (FilterGe n) r none = cond_both (int_lt r.v n) (keep Plain) (send Plain 0 r) (λ o. o.state ≡ Plain) (λ e. refl) (λ e. refl)
@@ -165,6 +158,12 @@ row_keyless_keeps_fresh (Rekey k) r none = refl
 row_keyless_keeps_fresh Count r none = absurd cc
 row_keyless_keeps_fresh Sum r none = absurd cc
 row_keyless_keeps_fresh (Window n) r none = absurd cc
+
+-- ---- ports
+
+pub ports_are_few : (kind : RowKind) → (row_of kind).ports ≤ 2
+ports_are_few kinds.Split = lit≤ tt
+ports_are_few kind = lit≤ tt
 
 -- ---- outcomes
 
@@ -181,14 +180,14 @@ row_fresh_is_good LoopDown = ((tt, lit≤ tt), tt)
 
 -- what a good state and a row that fits lead to
 abbrev IsGoodOutcome : RowOp → Outcome Row RowState → Type 0
-IsGoodOutcome op outcome = IsGoodState StateFits RowSuits op outcome.state × All (MayBeSent RowFits (row_ports op)) outcome.sent
+IsGoodOutcome op outcome = IsGoodState StateFits RowSuits op outcome.state × All (MayBeSent RowFits (op_row op).ports) outcome.sent
 
 kept : (op : RowOp) (s : RowState) → IsGoodState StateFits RowSuits op s → IsGoodOutcome op (keep s)
-kept op s good = (good, All-nil (MayBeSent RowFits (row_ports op)))
+kept op s good = (good, All-nil (MayBeSent RowFits (op_row op).ports))
 
-sent : (op : RowOp) (s : RowState) (port : ℕ) (row : Row) → IsGoodState StateFits RowSuits op s → port < row_ports op → RowFits row → IsGoodOutcome op (send s port row)
+sent : (op : RowOp) (s : RowState) (port : ℕ) (row : Row) → IsGoodState StateFits RowSuits op s → port < (op_row op).ports → RowFits row → IsGoodOutcome op (send s port row)
 sent op s port row good within fits =
-    let P : ℕ × Row → Type 0 = MayBeSent RowFits (row_ports op) in
+    let P : ℕ × Row → Type 0 = MayBeSent RowFits (op_row op).ports in
     (good, All-cons P (port, row) [] (within, fits) (All-nil P))
 
 collected : (size : WindowSize) (row : Row) (values : List ℤ) → length values ≤ 1024 → All (FitsSigned w64) values → RowFits row → IsGoodOutcome (Window size) (collect size.n row values)
@@ -225,5 +224,5 @@ outcome_is_good LoopDown s r good fits =
 pub row_state_stays_good : (op : RowOp) (s : RowState) (r : Row) → IsGoodState StateFits RowSuits op s → RowFits r → IsGoodState StateFits RowSuits op (row_outcome op s r).state
 row_state_stays_good op s r good fits = (outcome_is_good op s r good fits).0
 
-pub row_sent_fits : (op : RowOp) (s : RowState) (r : Row) → IsGoodState StateFits RowSuits op s → RowFits r → All (MayBeSent RowFits (row_ports op)) (row_outcome op s r).sent
+pub row_sent_fits : (op : RowOp) (s : RowState) (r : Row) → IsGoodState StateFits RowSuits op s → RowFits r → All (MayBeSent RowFits (op_row op).ports) (row_outcome op s r).sent
 row_sent_fits op s r good fits = (outcome_is_good op s r good fits).1

@@ -1,10 +1,11 @@
 -- What the row operators mean.
-use Rattle.std.specs.Prelude.{Bool, true, false, ◌<◌, ◌+ℤ◌, ◌-ℤ◌, ℕ, ℤ, pos, List, [], ◌∷◌, ◌++◌, length, fold, Option, Some, None, int_lt, nat_lt, if◌then◌else◌}
+use Rattle.std.specs.Prelude.{◌<◌, ◌+ℤ◌, ◌-ℤ◌, ℕ, ℤ, pos, List, [], ◌∷◌, ◌++◌, length, fold, Option, Some, None, int_lt, nat_lt, if◌then◌else◌}
 use Rattle.std.specs.Int.{saturate_signed, w64}
 use Rattle.std.specs.Cmp.Lexicographic.{slice_cmp}
 use Rattle.std.specs.Ordering.{nat_cmp, is_eq}
 use Rattle.dataflow_model.specs.Graph.{Meaning, Outcome}
 use Rattle.operators.specs.Lanes.{lane_of}
+use Rattle.operators.specs.RowTable.{op_row}
 use Rattle.operators.specs.declared.row.Row.{Row}
 use Rattle.operators.specs.declared.row_state.RowState.{RowState}
 use Rattle.operators.specs.declared.row_state.RowState.TheVariants.{Plain, Number, Numbers}
@@ -74,41 +75,11 @@ row_fresh Sum = Number (pos 0)
 row_fresh (Window size) = Numbers []
 row_fresh LoopDown = Plain
 
--- count, sum and window keep a state for each key
+-- one that is keyed keeps a state for each key
 abbrev pub row_key : RowOp → Row → Option (List ℕ)
-row_key (Add n) row = None
-row_key (Rekey key) row = None
-row_key (FilterGe n) row = None
-row_key (FilterLt n) row = None
-row_key (Split n) row = None
-row_key Count row = Some row.k
-row_key Sum row = Some row.k
-row_key (Window size) row = Some row.k
-row_key LoopDown row = None
-
-abbrev pub is_keyless : RowOp → Bool
-is_keyless (Add n) = true
-is_keyless (Rekey key) = true
-is_keyless (FilterGe n) = true
-is_keyless (FilterLt n) = true
-is_keyless (Split n) = true
-is_keyless Count = false
-is_keyless Sum = false
-is_keyless (Window size) = false
-is_keyless LoopDown = true
+row_key op row = if (op_row op).is_keyed then Some row.k else None
 
 -- ---- what is sent
-
-abbrev pub row_ports : RowOp → ℕ
-row_ports (Add n) = 1
-row_ports (Rekey key) = 1
-row_ports (FilterGe n) = 1
-row_ports (FilterLt n) = 1
-row_ports (Split n) = 2
-row_ports Count = 1
-row_ports Sum = 1
-row_ports (Window size) = 1
-row_ports LoopDown = 2
 
 -- the state is kept, and nothing is sent
 abbrev pub keep : RowState → Outcome Row RowState
@@ -150,7 +121,7 @@ row_meaning = record {
   same_key = λ a b. is_eq (slice_cmp nat_cmp a b);
   lane = λ row. lane_of row.k;
   key = row_key;
-  ports = row_ports;
+  ports = λ op. (op_row op).ports;
   fresh = row_fresh;
   apply = row_outcome;
 }

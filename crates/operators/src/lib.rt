@@ -8,7 +8,8 @@
 //! ports; records with one key have one lane; what compares equal is the same value. So a record
 //! that is worked off again after a failure, in the state of then, gives the same again.
 //!
-//! There are nine operators on rows ([`RowOp`]).
+//! There are nine operators on rows ([`RowOp`]), whose words, numbers, parameters and ports one table
+//! has ([`RowKind`]).
 #![tactic(auto)]
 
 mod operator;
@@ -16,9 +17,11 @@ mod parameters;
 mod row;
 mod row_op;
 mod row_state;
+mod row_table;
 
 pub use operator::{Operator, Outcome};
-pub use parameters::{KEY_LIMIT, RowKey, WINDOW_LIMIT, WindowSize};
+pub use parameters::{KEY_LIMIT, Parameter, ParameterForm, RowKey, WINDOW_LIMIT, WindowSize};
 pub use row::Row;
 pub use row_op::RowOp;
 pub use row_state::RowState;
+pub use row_table::RowKind;

@@ -61,3 +61,24 @@ impl WindowSize {
         Some(WindowSize { n })
     }
 }
+
+/// Which parameter an operator has.
+#[derive(Clone, Copy, Debug, PartialEq, Eq)]
+pub enum ParameterForm {
+    Nothing,
+    /// Any number of 64 bits.
+    Number,
+    /// A row's key.
+    Key,
+    /// A window's size.
+    Size,
+}
+
+/// An operator's parameter.
+#[derive(Debug, Drop)]
+pub enum Parameter {
+    Nothing,
+    Number(i64),
+    Key(RowKey),
+    Size(WindowSize),
+}

@@ -118,9 +118,10 @@ impl Operator for RowOp {
     ghost Suits = { RowSuits };
 
     fn key(&self, _alloc: Global, item: &Row) -> Result<Option<Text>, NoMemory> {
-        match self {
-            RowOp::Count | RowOp::Sum | RowOp::Window { .. } => Ok(Some(item.k.copied()?)),
-            _ => Ok(None),
+        if self.kind().is_keyed() {
+            Ok(Some(item.k.copied()?))
+        } else {
+            Ok(None)
         }
     }
 
@@ -129,10 +130,7 @@ impl Operator for RowOp {
     }
 
     fn ports(&self) -> u32 {
-        match self {
-            RowOp::Split { .. } | RowOp::LoopDown => 2,
-            _ => 1,
-        }
+        self.kind().ports()
     }
 
     fn fresh(&self, alloc: Global) -> Result<RowState, NoMemory> {
