@@ -46,7 +46,7 @@ pub within_gates : {R K S : Type 0} (graph : Expanded) (h : Held R K S) → ((t 
     → input_at graph task input ≡ Some channel → input < length (gate_at h task).inputs
 within_gates graph h gates task input channel r at leads = within_gate graph h task (gates task (slice_get_within graph.tasks task r at)) input channel leads
 
-module _ {R K S O : Type 0} (lang : Language R K S O) (graph : Expanded) (operators : List O) (task input : ℕ) (h : Held R K S) (channel : ℕ) where
+module _ {R K S O : Type 0} (lang : Language R K S O) (RecordFits : R → Type 0) (IsGood : O → S → Type 0) (graph : Expanded) (operators : List O) (task input : ℕ) (h : Held R K S) (channel : ℕ) where
   -- work that was copied is due
   pub copied_due : (number : ℕ) (entries : List (K × S)) (operator : O) (count : ℕ) (p : Operand O K S R) → slice_get graph.tasks task ≡ Some (role.Operator number) → slice_get operators number ≡ Some operator → input_at graph task input ≡ Some channel
       → ¬ IsBlocked task input h → slice_get h.tasks task ≡ Some (holds.Operator entries) → p.operator ≡ operator → count ≤ length (leading_records (items_at h.channels channel)) → p.rows.items ≡ take count (leading_records (items_at h.channels channel))
@@ -91,15 +91,15 @@ module _ {R K S O : Type 0} (lang : Language R K S O) (graph : Expanded) (operat
         )
 
     -- and is whole
-    pub offered_whole : (RecordFits : R → Type 0) (IsGood : O → S → Type 0) → Shape lang.cmp RecordFits IsGood graph operators h → IsOperand lang.meaning lang.cmp RecordFits IsGood p
-    offered_whole RecordFits IsGood shape =
+    pub offered_whole : Shape lang.cmp RecordFits IsGood graph operators h → IsOperand lang.meaning lang.cmp RecordFits IsGood p
+    offered_whole shape =
         carried_whole lang.meaning lang.cmp RecordFits IsGood entries p carried one_at_least (subst (All RecordFits) (sym rows) (All-take RecordFits (min count most) (leading_records (items_at h.channels channel)) (leading_fit RecordFits (items_at h.channels channel) (shape.fit channel))))
         (λ key state found. subst (λ (x : O). IsGood x state) (sym o) (shape.good task number operator entries key state at op was found))
 
   -- what was made of work that is due is what the operator would make, step by step
-  pub takes_outcomes : (RecordFits : R → Type 0) (IsGood : O → S → Type 0) (k : Held R K S) (ledger : Ledger) (p : Operand O K S R) → IsOperandDue lang graph operators task input h channel p → IsOperand lang.meaning lang.cmp RecordFits IsGood p
+  pub takes_outcomes : (k : Held R K S) (ledger : Ledger) (p : Operand O K S R) → IsOperandDue lang graph operators task input h channel p → IsOperand lang.meaning lang.cmp RecordFits IsGood p
       → OperatesEach lang.meaning lang.cmp graph task input channel (turns_given lang.meaning lang.cmp p) h k → (u : Unit) → EndsTaking lang graph operators task input h k ledger ledger (given.Operator p) (Ok u)
-  takes_outcomes RecordFits IsGood k ledger p due whole each u =
+  takes_outcomes k ledger p due whole each u =
       let turns = worked_same lang.meaning lang.cmp p due.entries whole.keyed due.same_states in
       record {
         channel = channel;

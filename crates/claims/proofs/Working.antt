@@ -135,16 +135,16 @@ module _ {R K S O : Type 0} (meaning : Meaning R K S O) (cmp : K → K → Order
   worked_same p entries keyed same =
       turns_same meaning p.operator p.rows.items (states_given cmp p.states) (value_at cmp entries) (λ i d less key is. given_is p.states entries key (keyed i d less key is) same)
 
-  -- what is carried is whole
-  pub carried_whole : (RecordFits : R → Type 0) (IsGood : O → S → Type 0) (entries : List (K × S)) (p : Operand O K S R) → IsCarried meaning cmp entries p → 0 < length p.rows.items → All RecordFits p.rows.items
-      → ((key : K) (state : S) → value_at cmp entries key ≡ Some state → IsGood p.operator state) → IsOperand meaning cmp RecordFits IsGood p
-  carried_whole RecordFits IsGood entries p carried some fit good = record {
-    rising = carried.rising;
-    keyed = carried.keyed;
-    some = some;
-    fit = fit;
-    good = λ key state found. good key state (carried.same key (Some state) found);
-  }
+-- what is carried is whole
+pub carried_whole : {R K S O : Type 0} (meaning : Meaning R K S O) (cmp : K → K → Ordering) (RecordFits : R → Type 0) (IsGood : O → S → Type 0) (entries : List (K × S)) (p : Operand O K S R) → IsCarried meaning cmp entries p → 0 < length p.rows.items → All RecordFits p.rows.items
+    → ((key : K) (state : S) → value_at cmp entries key ≡ Some state → IsGood p.operator state) → IsOperand meaning cmp RecordFits IsGood p
+carried_whole meaning cmp RecordFits IsGood entries p carried some fit good = record {
+  rising = carried.rising;
+  keyed = carried.keyed;
+  some = some;
+  fit = fit;
+  good = λ key state found. good key state (carried.same key (Some state) found);
+}
 
 -- the entries have the state of the place, or none where it has none
 abbrev pub Has : {K S : Type 0} → (K → K → Ordering) → List (K × S) → K × Option S → Type 0

@@ -75,8 +75,8 @@ module _ {R K S O : Type 0} where
       pub last : AreLastStates meaning.same_key (turns_given meaning cmp p) outcomes.states.items
       pub rising : IsStrictlySortedBy cmp (keys_of outcomes.states.items)
 
-    -- what was made is what the work means: an operator's outcomes, or the spelling of a sink's record
-    abbrev pub IsMade : (RecordFits : R → Type 0) → (IsGood : O → S → Type 0) → (R → List ℕ) → Made O K S R → Type 0
-    IsMade RecordFits IsGood spelling (made.Operator operand outcomes) = IsOperand meaning cmp RecordFits IsGood operand × IsOutcome operand outcomes
-    IsMade RecordFits IsGood spelling (made.Sink row bytes) = bytes.items ≡ spelling row
-    IsMade RecordFits IsGood spelling (made.Refused work) = IsGiven meaning cmp RecordFits IsGood work
+  -- what was made is what the work means: an operator's outcomes, or the spelling of a sink's record
+  abbrev pub IsMade : (meaning : Meaning R K S O) (cmp : K → K → Ordering) (RecordFits : R → Type 0) (IsGood : O → S → Type 0) → (R → List ℕ) → Made O K S R → Type 0
+  IsMade meaning cmp RecordFits IsGood spelling (made.Operator operand outcomes) = IsOperand meaning cmp RecordFits IsGood operand × IsOutcome meaning cmp operand outcomes
+  IsMade meaning cmp RecordFits IsGood spelling (made.Sink row bytes) = bytes.items ≡ spelling row
+  IsMade meaning cmp RecordFits IsGood spelling (made.Refused work) = IsGiven meaning cmp RecordFits IsGood work

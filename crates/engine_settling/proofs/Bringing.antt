@@ -64,11 +64,11 @@ module _ {R K S O : Type 0} where
 
 module _ {R K S O : Type 0} (lang : Language R K S O) (RecordFits : R → Type 0) where
   -- what every running engine keeps
-  pub shape_at : (IsGood : O → S → Type 0) (s : State O R K S) (h : Held R K S) → s.held ≡ Some h → Keeps lang RecordFits IsGood s → Shape lang.cmp RecordFits IsGood s.graph s.operators h
-  shape_at IsGood s h is keeps = MatchOption-at_some (Unit {0}) (Shape lang.cmp RecordFits IsGood s.graph s.operators) h is keeps.shape
+  pub shape_at : (s : State O R K S) (h : Held R K S) → s.held ≡ Some h → Keeps lang RecordFits IsGood s → Shape lang.cmp RecordFits IsGood s.graph s.operators h
+  shape_at s h is keeps = MatchOption-at_some (Unit {0}) (Shape lang.cmp RecordFits IsGood s.graph s.operators) h is keeps.shape
 
-  pub runs_at : (IsGood : O → S → Type 0) (s : State O R K S) (h : Held R K S) → s.held ≡ Some h → Keeps lang RecordFits IsGood s → RunsIn lang s h
-  runs_at IsGood s h is keeps = MatchOption-at_some (Unit {0}) (RunsIn lang s) h is keeps.runs
+  pub runs_at : (s : State O R K S) (h : Held R K S) → s.held ≡ Some h → Keeps lang RecordFits IsGood s → RunsIn lang s h
+  runs_at s h is keeps = MatchOption-at_some (Unit {0}) (RunsIn lang s) h is keeps.runs
 
   -- ---- one call
 

@@ -130,9 +130,9 @@ module _ {R K S O : Type 0} (lang : Language R K S O) (RecordFits : R → Type 0
 
   -- ---- settling
 
-  pub settle_done : (old middle between new : State O R K S) (IsGood : O → S → Type 0) → Brings lang RecordFits old middle → EndsCompletion lang RecordFits middle between (Ok tt) → Keeps lang RecordFits IsGood between
+  pub settle_done : (old middle between new : State O R K S) → Brings lang RecordFits old middle → EndsCompletion lang RecordFits middle between (Ok tt) → Keeps lang RecordFits IsGood between
       → EndsCommits lang RecordFits between new (Ok tt) → EndsSettle lang RecordFits old new (Ok tt) × RestsIfStill lang RecordFits old new (Ok tt)
-  settle_done old middle between new IsGood brings completes keeps commits =
+  settle_done old middle between new brings completes keeps commits =
       let n = completes.0 in
       let made = made_both old middle between (made_of old middle brings) completes.2 in
       let c = commits.0 in
@@ -169,13 +169,13 @@ module _ {R K S O : Type 0} (lang : Language R K S O) (RecordFits : R → Type 0
       (c.0, sym (brings_pending old middle b) ∙ c.1, made_both old between new (made_both old middle between (made_of old middle b) c.2) e.made, completed_on between new c.0 e c.3)
   settle_uncommitted old middle between new other b c e = absurd e
 
-  module _ (IsGood : O → S → Type 0) (old middle between new : State O R K S) (brings : Brings lang RecordFits old middle) (completes : EndsCompletion lang RecordFits middle between (Ok tt)) (keeps : Keeps lang RecordFits IsGood between) where
+  module _ (old middle between new : State O R K S) (brings : Brings lang RecordFits old middle) (completes : EndsCompletion lang RecordFits middle between (Ok tt)) (keeps : Keeps lang RecordFits IsGood between) where
     pub settle_by : (r : Result Unit CoreFault) → EndsCommits lang RecordFits between new r → EndsSettle lang RecordFits old new r
-    settle_by (Ok u) e = (settle_done old middle between new IsGood brings completes keeps e).0
+    settle_by (Ok u) e = (settle_done old middle between new brings completes keeps e).0
     settle_by (Err f) e = settle_uncommitted old middle between new f brings completes e
 
     pub rests_by : (r : Result Unit CoreFault) → EndsCommits lang RecordFits between new r → RestsIfStill lang RecordFits old new r
-    rests_by (Ok u) e = (settle_done old middle between new IsGood brings completes keeps e).1
+    rests_by (Ok u) e = (settle_done old middle between new brings completes keeps e).1
     rests_by (Err f) e = tt
 
   -- ---- draining
@@ -220,9 +220,9 @@ module _ {R K S O : Type 0} (lang : Language R K S O) (RecordFits : R → Type 0
   drain_rounds old middle new turns Device made e = made_down old middle new made (e.0, e.2, e.3)
   drain_rounds old middle new turns other made e = absurd e.3
 
-  pub drain_rests : (old middle between new : State O R K S) (IsGood : O → S → Type 0) → Keeps lang RecordFits IsGood new → (turns : ℕ) → Some_made old middle → EndsRounds lang RecordFits middle between turns (Ok AtRest)
+  pub drain_rests : (old middle between new : State O R K S) → Keeps lang RecordFits IsGood new → (turns : ℕ) → Some_made old middle → EndsRounds lang RecordFits middle between turns (Ok AtRest)
       → EndsAtRest lang RecordFits between new (Ok tt) → EndsDrain lang RecordFits old new turns (Ok AtRest)
-  drain_rests old middle between new IsGood keeps turns made rounds e =
+  drain_rests old middle between new keeps turns made rounds e =
       let before = made_both old middle between made (rounds.0, rounds.2) in
       let all = made_both old between new before e.0 in (
         all,

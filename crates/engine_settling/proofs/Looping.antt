@@ -195,98 +195,97 @@ module _ {R K S O : Type 0} (lang : Language R K S O) (RecordFits : R → Type 0
 
   -- ---- the tasks, in order
 
-  module _ (IsGood : O → S → Type 0) where
-    abbrev Copies : ℕ → Expanded → Held R K S → Type 0
-    Copies n g h = CopiesBefore g h n
+  abbrev Copies : ℕ → Expanded → Held R K S → Type 0
+  Copies n g h = CopiesBefore g h n
 
-    pub copies_start : (s : State O R K S) → Holds s (λ g h. IsPending h × HaveSourcesCopied g h) → Holds s (λ g h. CopiesBefore g h 0)
-    copies_start s p = holds_map s (λ g h. IsPending h × HaveSourcesCopied g h) (Copies 0) p (λ h is a. record { pending = a.0; sources = a.1; copied = λ before task below. absurd (omega (arith, below)) })
+  pub copies_start : (s : State O R K S) → Holds s (λ g h. IsPending h × HaveSourcesCopied g h) → Holds s (λ g h. CopiesBefore g h 0)
+  copies_start s p = holds_map s (λ g h. IsPending h × HaveSourcesCopied g h) (Copies 0) p (λ h is a. record { pending = a.0; sources = a.1; copied = λ before task below. absurd (omega (arith, below)) })
 
-    pub copies_sent : (s : State O R K S) (place task : ℕ) → IsExpanded s.graph → slice_get s.graph.order place ≡ Some task → Holds s (λ g h. CopiesBefore g h place) → Holds s (λ g h. IsPending h × HaveSendersCopied g h false task)
-    copies_sent s place task expanded at p = holds_map s (Copies place) (λ g h. IsPending h × HaveSendersCopied g h false task) p (λ h is a. (a.pending, senders_copied s.graph h expanded place task at a.copied))
+  pub copies_sent : (s : State O R K S) (place task : ℕ) → IsExpanded s.graph → slice_get s.graph.order place ≡ Some task → Holds s (λ g h. CopiesBefore g h place) → Holds s (λ g h. IsPending h × HaveSendersCopied g h false task)
+  copies_sent s place task expanded at p = holds_map s (Copies place) (λ g h. IsPending h × HaveSendersCopied g h false task) p (λ h is a. (a.pending, senders_copied s.graph h expanded place task at a.copied))
 
-    -- a task whose unmarked inputs have had their barriers taken has copied
-    task_copied : (s : State O R K S) (h : Held R K S) → s.held ≡ Some h → Keeps lang RecordFits IsGood s → IsPending h → HaveSourcesCopied s.graph h → (task : ℕ) → task < length s.graph.tasks → HaveCome s.graph h false task → copy_at h task ≢ None
-    task_copied s h is keeps pending sources task within come = of (slice_get s.graph.tasks task) refl
-      where
-        copied : (r : Role) → slice_get s.graph.tasks task ≡ Some r → is_source r ≡ false → copy_at h task ≢ None
-        copied r at takes = copied_by lang.cmp RecordFits IsGood s.graph s.operators h keeps.expanded (shape_at lang RecordFits IsGood s h is keeps) task (record { role = r; is = at; takes = takes }) pending come
+  -- a task whose unmarked inputs have had their barriers taken has copied
+  task_copied : (s : State O R K S) (h : Held R K S) → s.held ≡ Some h → Keeps lang RecordFits IsGood s → IsPending h → HaveSourcesCopied s.graph h → (task : ℕ) → task < length s.graph.tasks → HaveCome s.graph h false task → copy_at h task ≢ None
+  task_copied s h is keeps pending sources task within come = of (slice_get s.graph.tasks task) refl
+    where
+      copied : (r : Role) → slice_get s.graph.tasks task ≡ Some r → is_source r ≡ false → copy_at h task ≢ None
+      copied r at takes = copied_by lang.cmp RecordFits IsGood s.graph s.operators h keeps.expanded (shape_at lang RecordFits IsGood s h is keeps) task (record { role = r; is = at; takes = takes }) pending come
 
-        of : (o : Option Role) → slice_get s.graph.tasks task ≡ o → copy_at h task ≢ None
-        of None at = absurd (no_task s.graph.tasks task within at)
-        of (Some (role.Source partition)) at = sources task partition at
-        of (Some (role.Operator number)) at = copied (role.Operator number) at refl
-        of (Some (role.Sink subtask)) at = copied (role.Sink subtask) at refl
+      of : (o : Option Role) → slice_get s.graph.tasks task ≡ o → copy_at h task ≢ None
+      of None at = absurd (no_task s.graph.tasks task within at)
+      of (Some (role.Source partition)) at = sources task partition at
+      of (Some (role.Operator number)) at = copied (role.Operator number) at refl
+      of (Some (role.Sink subtask)) at = copied (role.Sink subtask) at refl
 
-    pub copies_more : (old new : State O R K S) (place task : ℕ) → Bring old new → Keeps lang RecordFits IsGood new → slice_get new.graph.order place ≡ Some task → Holds old (λ g h. CopiesBefore g h place) → Holds new (λ g h. HaveCome g h false task)
-        → Holds new (λ g h. CopiesBefore g h (place + 1))
-    copies_more old new place task b keeps at p come =
-        holds_two new (Copies place) (λ g h. HaveCome g h false task) (Copies (place + 1))
-        (holds_kept lang RecordFits old new (Copies place) b p (λ h k goes a. record {
-          pending = pending_kept h k goes a.pending;
-          sources = λ t partition is. goes.copied t (a.sources t partition is);
-          copied = λ before t below is. goes.copied t (a.copied before t below is);
-        }))
-        come
-        (λ h is a here. record {
-          pending = a.pending;
-          sources = a.sources;
-          copied = copied_more new.graph h place task at a.copied (task_copied new h is keeps a.pending a.sources task (order_within new.graph keeps.expanded place task at) here);
-        })
+  pub copies_more : (old new : State O R K S) (place task : ℕ) → Bring old new → Keeps lang RecordFits IsGood new → slice_get new.graph.order place ≡ Some task → Holds old (λ g h. CopiesBefore g h place) → Holds new (λ g h. HaveCome g h false task)
+      → Holds new (λ g h. CopiesBefore g h (place + 1))
+  copies_more old new place task b keeps at p come =
+      holds_two new (Copies place) (λ g h. HaveCome g h false task) (Copies (place + 1))
+      (holds_kept lang RecordFits old new (Copies place) b p (λ h k goes a. record {
+        pending = pending_kept h k goes a.pending;
+        sources = λ t partition is. goes.copied t (a.sources t partition is);
+        copied = λ before t below is. goes.copied t (a.copied before t below is);
+      }))
+      come
+      (λ h is a here. record {
+        pending = a.pending;
+        sources = a.sources;
+        copied = copied_more new.graph h place task at a.copied (task_copied new h is keeps a.pending a.sources task (order_within new.graph keeps.expanded place task at) here);
+      })
 
-    pub copies_skip : (s : State O R K S) (place : ℕ) → slice_get s.graph.order place ≡ None → Holds s (λ g h. CopiesBefore g h place) → Holds s (λ g h. CopiesBefore g h (place + 1))
-    copies_skip s place none p =
-        holds_map s (Copies place) (Copies (place + 1)) p
-        (λ h is a. record {
-          pending = a.pending;
-          sources = a.sources;
-          copied = λ before task below at. elim (eq-or-lt_of_le (omega (arith, below))) [
-            | inl same ↦ absurd (none-some task (sym none ∙ sym (ap (slice_get s.graph.order) same) ∙ at))
-            | inr less ↦ a.copied before task less at
-          ];
-        })
+  pub copies_skip : (s : State O R K S) (place : ℕ) → slice_get s.graph.order place ≡ None → Holds s (λ g h. CopiesBefore g h place) → Holds s (λ g h. CopiesBefore g h (place + 1))
+  copies_skip s place none p =
+      holds_map s (Copies place) (Copies (place + 1)) p
+      (λ h is a. record {
+        pending = a.pending;
+        sources = a.sources;
+        copied = λ before task below at. elim (eq-or-lt_of_le (omega (arith, below))) [
+          | inl same ↦ absurd (none-some task (sym none ∙ sym (ap (slice_get s.graph.order) same) ∙ at))
+          | inr less ↦ a.copied before task less at
+        ];
+      })
 
-    pub copies_all : (s : State O R K S) (place : ℕ) → IsExpanded s.graph → length s.graph.tasks ≤ place → Holds s (λ g h. CopiesBefore g h place) → Holds s HaveCopied
-    copies_all s place expanded all p =
-        holds_map s (Copies place) HaveCopied p (λ h is a. copied_all s.graph h expanded (λ before task below at. a.copied before task (omega (arith, below, all, order_length s.graph expanded)) at))
+  pub copies_all : (s : State O R K S) (place : ℕ) → IsExpanded s.graph → length s.graph.tasks ≤ place → Holds s (λ g h. CopiesBefore g h place) → Holds s HaveCopied
+  copies_all s place expanded all p =
+      holds_map s (Copies place) HaveCopied p (λ h is a. copied_all s.graph h expanded (λ before task below at. a.copied before task (omega (arith, below, all, order_length s.graph expanded)) at))
 
-    abbrev Logs : ℕ → Expanded → Held R K S → Type 0
-    Logs n g h = LogsBefore g h n
+  abbrev Logs : ℕ → Expanded → Held R K S → Type 0
+  Logs n g h = LogsBefore g h n
 
-    pub logs_start : (s : State O R K S) → Holds s (λ g h. IsPending h × HaveCopied g h) → Holds s (λ g h. LogsBefore g h 0)
-    logs_start s p = holds_map s (λ g h. IsPending h × HaveCopied g h) (Logs 0) p (λ h is a. record { pending = a.0; copied = a.1; come = λ before task below. absurd (omega (arith, below)) })
+  pub logs_start : (s : State O R K S) → Holds s (λ g h. IsPending h × HaveCopied g h) → Holds s (λ g h. LogsBefore g h 0)
+  logs_start s p = holds_map s (λ g h. IsPending h × HaveCopied g h) (Logs 0) p (λ h is a. record { pending = a.0; copied = a.1; come = λ before task below. absurd (omega (arith, below)) })
 
-    pub logs_sent : (s : State O R K S) (place task : ℕ) → IsExpanded s.graph → Holds s (λ g h. LogsBefore g h place) → Holds s (λ g h. IsPending h × HaveSendersCopied g h true task)
-    logs_sent s place task expanded p = holds_map s (Logs place) (λ g h. IsPending h × HaveSendersCopied g h true task) p (λ h is a. (a.pending, senders_of_all s.graph h expanded a.copied task))
+  pub logs_sent : (s : State O R K S) (place task : ℕ) → IsExpanded s.graph → Holds s (λ g h. LogsBefore g h place) → Holds s (λ g h. IsPending h × HaveSendersCopied g h true task)
+  logs_sent s place task expanded p = holds_map s (Logs place) (λ g h. IsPending h × HaveSendersCopied g h true task) p (λ h is a. (a.pending, senders_of_all s.graph h expanded a.copied task))
 
-    pub logs_more : (old new : State O R K S) (place task : ℕ) → Bring old new → slice_get new.graph.order place ≡ Some task → Holds old (λ g h. LogsBefore g h place) → Holds new (λ g h. HaveCome g h true task) → Holds new (λ g h. LogsBefore g h (place + 1))
-    logs_more old new place task b at p come =
-        holds_two new (Logs place) (λ g h. HaveCome g h true task) (Logs (place + 1))
-        (holds_kept lang RecordFits old new (Logs place) b p (λ h k goes a. record {
-          pending = pending_kept h k goes a.pending;
-          copied = copied_kept old.graph h k a.copied goes;
-          come = come_before_kept old.graph h k place a.come goes;
-        }))
-        come
-        (λ h is a here. record { pending = a.pending; copied = a.copied; come = come_more new.graph h place task at a.come here })
+  pub logs_more : (old new : State O R K S) (place task : ℕ) → Bring old new → slice_get new.graph.order place ≡ Some task → Holds old (λ g h. LogsBefore g h place) → Holds new (λ g h. HaveCome g h true task) → Holds new (λ g h. LogsBefore g h (place + 1))
+  logs_more old new place task b at p come =
+      holds_two new (Logs place) (λ g h. HaveCome g h true task) (Logs (place + 1))
+      (holds_kept lang RecordFits old new (Logs place) b p (λ h k goes a. record {
+        pending = pending_kept h k goes a.pending;
+        copied = copied_kept old.graph h k a.copied goes;
+        come = come_before_kept old.graph h k place a.come goes;
+      }))
+      come
+      (λ h is a here. record { pending = a.pending; copied = a.copied; come = come_more new.graph h place task at a.come here })
 
-    pub logs_skip : (s : State O R K S) (place : ℕ) → slice_get s.graph.order place ≡ None → Holds s (λ g h. LogsBefore g h place) → Holds s (λ g h. LogsBefore g h (place + 1))
-    logs_skip s place none p =
-        holds_map s (Logs place) (Logs (place + 1)) p
-        (λ h is a. record {
-          pending = a.pending;
-          copied = a.copied;
-          come = λ before task below at. elim (eq-or-lt_of_le (omega (arith, below))) [
-            | inl same ↦ absurd (none-some task (sym none ∙ sym (ap (slice_get s.graph.order) same) ∙ at))
-            | inr less ↦ a.come before task less at
-          ];
-        })
+  pub logs_skip : (s : State O R K S) (place : ℕ) → slice_get s.graph.order place ≡ None → Holds s (λ g h. LogsBefore g h place) → Holds s (λ g h. LogsBefore g h (place + 1))
+  logs_skip s place none p =
+      holds_map s (Logs place) (Logs (place + 1)) p
+      (λ h is a. record {
+        pending = a.pending;
+        copied = a.copied;
+        come = λ before task below at. elim (eq-or-lt_of_le (omega (arith, below))) [
+          | inl same ↦ absurd (none-some task (sym none ∙ sym (ap (slice_get s.graph.order) same) ∙ at))
+          | inr less ↦ a.come before task less at
+        ];
+      })
 
-    pub logs_all : (s : State O R K S) (place : ℕ) → Keeps lang RecordFits IsGood s → length s.graph.tasks ≤ place → Holds s (λ g h. LogsBefore g h place) → Holds s HaveAllCome
-    logs_all s place keeps all p =
-        holds_map s (Logs place) HaveAllCome p
-        (λ h is a. come_all lang.cmp RecordFits IsGood s.graph s.operators h keeps.expanded (shape_at lang RecordFits IsGood s h is keeps) a.copied
-        (λ before task below at. a.come before task (omega (arith, below, all, order_length s.graph keeps.expanded)) at))
+  pub logs_all : (s : State O R K S) (place : ℕ) → Keeps lang RecordFits IsGood s → length s.graph.tasks ≤ place → Holds s (λ g h. LogsBefore g h place) → Holds s HaveAllCome
+  logs_all s place keeps all p =
+      holds_map s (Logs place) HaveAllCome p
+      (λ h is a. come_all lang.cmp RecordFits IsGood s.graph s.operators h keeps.expanded (shape_at lang RecordFits IsGood s h is keeps) a.copied
+      (λ before task below at. a.come before task (omega (arith, below, all, order_length s.graph keeps.expanded)) at))
 
   -- ---- the parts
 
