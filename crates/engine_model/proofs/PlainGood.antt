@@ -7,12 +7,15 @@ use Rattle.std.proofs.lemmas.Bool.{cases_Bool, false≢true}
 use Rattle.std.proofs.lemmas.Bool.Decides.{eqb_tells}
 use Rattle.std.proofs.lemmas.List.Elements.{All-nil, All-cons, All-head, All-tail, All-append, All-drop, All-filter, All-weaker}
 use Rattle.std.proofs.lemmas.Option.{none-some, same_Some, slice_get_within}
-use Rattle.dataflow_model.specs.Graph.{Task, SourceTask, OperatorTask, SinkTask, Channel, Job, admits}
+use Rattle.dataflow_model.specs.Graph.{Graph, Task, SourceTask, OperatorTask, SinkTask, Channel, Job, admits}
 use Rattle.dataflow_model.specs.Machine.{Configuration, Effect, Move, Read, Work, mover, state_under, kept_under, left, handled, received, Takes, Step, Reaches, start}
 use Rattle.operators.specs.Operator.{IsGoodState, MayBeSent}
 use Rattle.engine_model.specs.RestartLaws.{OperatorsAreLawful}
 
-module _ {R K S O : Type 0} (job : Job R K S O) (cmp : K → K → Ordering) (RecordFits : R → Type 0) (KeyFits : K → Type 0) (StateFits : S → Type 0) (Suits : O → S → Type 0) where
+module _ {R K S O : Type 0} (lang : Language R K S O) (RecordFits : R → Type 0) (KeyFits : K → Type 0) (StateFits : S → Type 0) (Suits : O → S → Type 0) (graph : Graph O) (partitions : ℕ → List R) where
+  abbrev job : Job R K S O
+  job = record { meaning = lang.meaning; graph = graph; partitions = partitions }
+
   pub record IsGoodAt (c : Configuration R K S) : Type 0 where
     pub offsets : (task partition : ℕ) → slice_get job.graph.tasks task ≡ Some (SourceTask partition) → (c.tasks task).offset ≤ length (job.partitions partition)
     pub states : (task : ℕ) (operator : O) (key : K) (state : S) → slice_get job.graph.tasks task ≡ Some (OperatorTask operator) → (c.tasks task).states key ≡ Some state → KeyFits key × IsGoodState StateFits Suits operator state
@@ -25,7 +28,7 @@ module _ {R K S O : Type 0} (job : Job R K S O) (cmp : K → K → Ordering) (Re
     records = λ channel. All-nil RecordFits;
   }
 
-  module _ (laws : OperatorsAreLawful job.meaning cmp RecordFits KeyFits StateFits Suits) (fit : (partition offset : ℕ) (r : R) → slice_get (job.partitions partition) offset ≡ Some r → RecordFits r) where
+  module _ (laws : OperatorsAreLawful lang.meaning lang.cmp RecordFits KeyFits StateFits Suits) (fit : (partition offset : ℕ) (r : R) → slice_get (job.partitions partition) offset ≡ Some r → RecordFits r) where
     first_of : (P : R → Type 0) (xs : List R) (r : R) → slice_get xs 0 ≡ Some r → All P xs → P r
     first_of P [] r at all = absurd (none-some r at)
     first_of P (x ∷ xs) r at all = subst P (same_Some x r at) (All-head P x xs all)
@@ -55,7 +58,7 @@ module _ {R K S O : Type 0} (job : Job R K S O) (cmp : K → K → Ordering) (Re
     kept_good operator (Some key) new states fits good each k state at =
         elim (cases_Bool (job.meaning.same_key key k)) [
           | inl here ↦
-              let same : key ≡ k = laws.exact key k (equal_from (cmp key k) (sym (laws.same_key key k) ∙ here)) in
+              let same : key ≡ k = laws.exact key k (equal_from (lang.cmp key k) (sym (laws.same_key key k) ∙ here)) in
               let value : new ≡ state = same_Some new state (ap (λ (b : Bool). if b then Some new else states k) (sym here) ∙ at) in
               (subst KeyFits same (fits key refl), subst (IsGoodState StateFits Suits operator) value good)
           | inr off ↦ each k state (ap (λ (b : Bool). if b then Some new else states k) (sym off) ∙ at)

@@ -93,9 +93,9 @@ module _ {R K S O : Type 0} (lang : Language R K S O) (RecordFits : R → Type 0
         let long : length whole.cuts ≡ suc (length front) = whole.legal.one_each ∙ ap length line ∙ longer front last in
         whole.legal.parts (length front) (last_from start whole.cuts) last (last_at start whole.cuts (length front) long) (ap (λ (l : List ℕ). slice_get l (length front)) line ∙ get_last front last) parts
 
-    good : IsGoodAt job lang.cmp RecordFits KeyFits StateFits Suits cut
+    good : IsGoodAt lang RecordFits KeyFits StateFits Suits job.graph job.partitions cut
     unfolding cut
-    good = let reached = to_last job start whole.cuts whole.legal.successive in runs_good job lang.cmp RecordFits KeyFits StateFits Suits laws fit reached.0 (last_from start whole.cuts) reached.1
+    good = let reached = to_last job start whole.cuts whole.legal.successive in runs_good lang RecordFits KeyFits StateFits Suits job.graph job.partitions laws fit reached.0 (last_from start whole.cuts) reached.1
 
     is_task_of : (task : ℕ) (r : Role) → slice_get s.graph.tasks task ≡ Some r → slice_get job.graph.tasks task ≡ Some (task_of s.operators r)
     is_task_of task r is = tasks-graph_of s.graph s.operators task ∙ ap (option_map (task_of s.operators)) is
