@@ -85,8 +85,7 @@ fn outcome_of<O: Operator>(
     row: &O::Record,
 ) -> Result<Outcome<O::State, O::Record>, NoMemory>
     requires key { key.now ≡ O.meaning.key operand.now.operator row.now }
-    requires operand { IsOperand O.meaning O.Key.cmp ⟦<O as Rules>⟧.RecordFits
-        ⟦<O as Rules>⟧.IsGood operand.now }
+    requires operand { IsOperand ⟦<O as Rules>⟧.all operand.now }
     requires fits { ⟦<O as Rules>⟧.RecordFits row.now }
     requires good { AllGood O.Key.cmp (⟦<O as Rules>⟧.IsGood operand.now.operator) left.now }
     ensures state { IfOk result (λ outcome. outcome.state
@@ -111,8 +110,7 @@ fn work_row<O: Operator>(
     left: &mut Map<O::Key, O::State>,
     sent: &mut Vec<(u32, O::Record)>,
 ) -> Result<(), NoMemory>
-    requires operand { IsOperand O.meaning O.Key.cmp ⟦<O as Rules>⟧.RecordFits
-        ⟦<O as Rules>⟧.IsGood operand.now }
+    requires operand { IsOperand ⟦<O as Rules>⟧.all operand.now }
     requires fits { ⟦<O as Rules>⟧.RecordFits row.now }
     requires good { AllGood O.Key.cmp (⟦<O as Rules>⟧.IsGood operand.now.operator) left.old }
     ensures works { OnOk result (WorksRow O.meaning O.Key.cmp operand.now left.old row.now
@@ -151,8 +149,7 @@ fn outcomes_of<O: Operator>(
     alloc: Global,
     operand: &Operand<O, O::Key, O::State, O::Record>,
 ) -> Result<Outcomes<O::Key, O::State, O::Record>, NoMemory>
-    requires { IsOperand O.meaning O.Key.cmp ⟦<O as Rules>⟧.RecordFits ⟦<O as Rules>⟧.IsGood
-        operand.now }
+    requires { IsOperand ⟦<O as Rules>⟧.all operand.now }
     ensures { IfOk result (IsOutcome O.meaning O.Key.cmp operand.now) }
 {
     let mut left = Map::new(alloc);
@@ -169,8 +166,7 @@ fn worked_operand<O: Operator>(
     alloc: Global,
     operand: Operand<O, O::Key, O::State, O::Record>,
 ) -> Worked<O>
-    requires { IsOperand O.meaning O.Key.cmp ⟦<O as Rules>⟧.RecordFits ⟦<O as Rules>⟧.IsGood
-        operand }
+    requires { IsOperand ⟦<O as Rules>⟧.all operand }
     ensures { given_of result ≡ Given.Operator operand }
 {
     match outcomes_of(alloc, &operand) {
