@@ -29,7 +29,7 @@ module _ {R K S O : Type 0} (lang : Language R K S O) where
   -- sound, and the job and its partitions as they were; they withdraw no committed row, and take no job up.
   pub record Works (RecordFits : R → Type 0) (moves : List Move) (old new : State O R K S) : Type 0 where
     pub goes : Goes lang old new
-    pub sound : IsSound lang RecordFits old → IsSound lang RecordFits new
+    pub sound : IsSound rules old → IsSound rules new
     pub same : new ≡ record old { stored = new.stored; ledger = new.ledger; held = new.held; faults = new.faults }
     pub down : old.held ≡ None → new.held ≡ None
     pub begins : (task subtask : ℕ) → slice_get old.graph.tasks task ≡ Some (role.Sink subtask) → Begins (committed_rows old.ledger subtask) (committed_rows new.ledger subtask)

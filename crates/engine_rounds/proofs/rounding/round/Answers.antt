@@ -2,11 +2,12 @@ use Rattle.std.proofs.Common.{[], ◌∙◌, refl, arith}
 use Rattle.abs_codec.specs.Spelling.{Fits}
 use Rattle.engine_model.specs.Language.{language}
 use Rattle.engine_rounds.proofs.Taking.{took_none, took_on, idle_on, stopped_on}
+use Rattle.engine_model.proofs.Rules.{rules_of}
 use Rattle.engine_rounds.proofs.rounding.round.Goals as goal
 
 pub loop-task-init : goal.loop-task-init
 loop-task-init g c = record {
-  made = took_none (language g.O.Operator.meaning g.O.Key.Ord.cmp g.O.Record.Codec.spelling g.O.Record.Codec.reading g.O.Key.Codec.reading g.O.State.Codec.reading) (Fits g.O.Record.Codec.HasSpelling g.O.Record.Codec.spelling) c.args.engine.now c.args.left.now c.requires.running;
+  made = took_none (rules_of g.O.Operator g.O.Key.Ord g.O.Record.Codec g.O.Key.Codec g.O.State.Codec) c.args.engine.now c.args.left.now c.requires.running;
   idle = λ same. (refl, λ t below. absurd (omega (arith, below)));
   faults = refl;
   pending = refl;
@@ -27,5 +28,5 @@ loop-task-preserved g c =
 
 pub returns-in-Err-clause-ends : goal.returns-in-Err-clause-ends
 returns-in-Err-clause-ends g c =
-    stopped_on (language g.O.Operator.meaning g.O.Key.Ord.cmp g.O.Record.Codec.spelling g.O.Record.Codec.reading g.O.Key.Codec.reading g.O.State.Codec.reading) (Fits g.O.Record.Codec.HasSpelling g.O.Record.Codec.spelling) c.args.engine.now c.loop-task.engine c.take_turn.new.engine c.args.left.now c.loop-task.left c.in-Err.fault
+    stopped_on (rules_of g.O.Operator g.O.Key.Ord g.O.Record.Codec g.O.Key.Codec g.O.State.Codec) c.args.engine.now c.loop-task.engine c.take_turn.new.engine c.args.left.now c.loop-task.left c.in-Err.fault
     c.loop-task.invariant.made [] (omega arith) c.in-Err.ensures.ends.0 c.in-Err.ensures.ends.1

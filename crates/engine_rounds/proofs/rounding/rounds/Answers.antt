@@ -2,11 +2,12 @@ use Rattle.std.proofs.Common.{◌∙◌, refl}
 use Rattle.abs_codec.specs.Spelling.{Fits}
 use Rattle.engine_model.specs.Language.{language}
 use Rattle.engine_rounds.proofs.Taking.{took_none, took_on, took_round, stopped_on}
+use Rattle.engine_model.proofs.Rules.{rules_of}
 use Rattle.engine_rounds.proofs.rounding.rounds.Goals as goal
 
 pub spending-init : goal.spending-init
 spending-init g c = record {
-  made = took_none (language g.O.Operator.meaning g.O.Key.Ord.cmp g.O.Record.Codec.spelling g.O.Record.Codec.reading g.O.Key.Codec.reading g.O.State.Codec.reading) (Fits g.O.Record.Codec.HasSpelling g.O.Record.Codec.spelling) c.args.engine.now c.args.turns c.requires.running;
+  made = took_none (rules_of g.O.Operator g.O.Key.Ord g.O.Record.Codec g.O.Key.Codec g.O.State.Codec) c.args.engine.now c.args.turns c.requires.running;
   faults = refl;
   pending = refl;
 }
@@ -25,5 +26,5 @@ spending-preserved g c =
 pub returns-in-Err-clause-ends : goal.returns-in-Err-clause-ends
 returns-in-Err-clause-ends g c =
     let ends = c.in-Err.ensures.ends in
-    stopped_on (language g.O.Operator.meaning g.O.Key.Ord.cmp g.O.Record.Codec.spelling g.O.Record.Codec.reading g.O.Key.Codec.reading g.O.State.Codec.reading) (Fits g.O.Record.Codec.HasSpelling g.O.Record.Codec.spelling) c.args.engine.now c.spending.engine c.round.new.engine c.args.turns c.spending.left c.in-Err.fault
+    stopped_on (rules_of g.O.Operator g.O.Key.Ord g.O.Record.Codec g.O.Key.Codec g.O.State.Codec) c.args.engine.now c.spending.engine c.round.new.engine c.args.turns c.spending.left c.in-Err.fault
     c.spending.invariant.made ends.0 ends.1 ends.2 ends.3

@@ -4,6 +4,7 @@ use Rattle.engine_model.specs.Language.{language}
 use Rattle.claims.specs.Carried.{records_of}
 use Rattle.engine_rounds.proofs.Turning.{offered_due, offered_single, accept_turns}
 use Rattle.engine_rounds.proofs.Waiting.{work_turn_waits}
+use Rattle.engine_model.proofs.Rules.{rules_of}
 use Rattle.engine_rounds.proofs.turns.work_at.Goals as goal
 
 pub returns-in-Ok-clause-ends : goal.returns-in-Ok-clause-ends
@@ -20,6 +21,6 @@ returns-in-Ok-clause-ends g c =
 pub returns-in-Ok-clause-pending : goal.returns-in-Ok-clause-pending
 returns-in-Ok-clause-pending g c =
     let lang = language g.O.Operator.meaning g.O.Key.Ord.cmp g.O.Record.Codec.spelling g.O.Record.Codec.reading g.O.Key.Codec.reading g.O.State.Codec.reading in
-    let one = offered_single lang (Fits g.O.Record.Codec.HasSpelling g.O.Record.Codec.spelling) c.args.engine.now c.args.task c.args.input c.requires.running c.requires.input c.in-Ok.work c.in-Ok.ensures in
+    let one = offered_single (rules_of g.O.Operator g.O.Key.Ord g.O.Record.Codec g.O.Key.Codec g.O.State.Codec) c.args.engine.now c.args.task c.args.input c.requires.running c.requires.input c.in-Ok.work c.in-Ok.ensures in
     rw c.turned.ensures
     (work_turn_waits c.args.engine.now c.accept.new.self lang c.args.task c.args.input c.requires.running c.run.result (ap records_of c.run.ensures ∙ one) c.accept.result c.accept.ensures.ends)

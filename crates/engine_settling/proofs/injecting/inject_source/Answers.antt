@@ -12,7 +12,7 @@ returns-clause-ends g c =
     let old = c.args.engine.now in
     let new = c.inject.new.self in
     rw c.done.ensures
-    (inject_part rules.lang rules.RecordFits
+    (inject_part rules
     rules.IsGood old new c.is_fresh.ensures.kept
     (record {
       goes = c.inject.ensures.goes;

@@ -10,7 +10,7 @@ returns-in-Ok-clause-ends g c =
     let rules = rules_of g.O.Operator g.O.Key.Ord g.O.Record.Codec g.O.Key.Codec g.O.State.Codec in
     let old = c.args.engine.now in
     let new = c.complete.new.self in
-    complete_done rules.lang rules.RecordFits rules.IsGood old new c.is_fresh.ensures.kept
+    complete_done rules old new c.is_fresh.ensures.kept
     (record {
       goes = c.in-Ok.ensures.goes;
       sound = c.in-Ok.ensures.sound;
@@ -23,7 +23,7 @@ returns-in-Err-clause-ends g c =
     let rules = rules_of g.O.Operator g.O.Key.Ord g.O.Record.Codec g.O.Key.Codec g.O.State.Codec in
     let old = c.args.engine.now in
     let new = c.complete.new.self in
-    complete_fails rules.lang rules.RecordFits rules.IsGood old new c.is_fresh.ensures.kept
+    complete_fails rules old new c.is_fresh.ensures.kept
     (record {
       goes = c.in-Err.ensures.goes;
       sound = c.in-Err.ensures.sound;

@@ -12,7 +12,7 @@ returns-clause-ends g c =
     let old = c.args.engine.now in
     let new = c.persist.new.self in
     rw c.done.ensures
-    (persist_part rules.lang rules.RecordFits
+    (persist_part rules
     rules.IsGood old new c.is_fresh.ensures.kept
     (record {
       goes = c.persist.ensures.goes;
