@@ -25,7 +25,8 @@ pub struct Work<O: Operator> {
 
 impl<O: Operator> Model for Work<O> {
     ghost use Rattle.abs_codec.specs.Spelling.{Fits};
-    ghost use Rattle.operators.specs.Operator.{IsGoodState};
+    ghost use Rattle.engine_model.specs.AllRules.{all_rules};
+    ghost use Rattle.engine_model.specs.Language.{language};
     ghost use Rattle.claims.specs.declared.parts.Given.{Given};
     ghost use Rattle.claims.specs.Carried.{IsGiven};
 
@@ -33,9 +34,10 @@ impl<O: Operator> Model for Work<O> {
 
     ghost view = { λ w. w.given };
 
-    ghost invariant = { λ w. IsGiven O.meaning O.Key.cmp
-        (Fits O.Record.HasSpelling O.Record.spelling)
-        (IsGoodState (Fits O.State.HasSpelling O.State.spelling) O.Suits) w.given };
+    ghost invariant = { λ w. IsGiven (all_rules (language O.meaning O.Key.cmp
+        O.Record.spelling O.Record.reading O.Key.reading O.State.reading)
+        (Fits O.Record.HasSpelling O.Record.spelling) (Fits O.Key.HasSpelling O.Key.spelling)
+        (Fits O.State.HasSpelling O.State.spelling) O.Suits) w.given };
 }
 
 /// Work that was done, or for which memory was refused, with what it was made of.
@@ -46,7 +48,8 @@ pub struct Worked<O: Operator> {
 
 impl<O: Operator> Model for Worked<O> {
     ghost use Rattle.abs_codec.specs.Spelling.{Fits};
-    ghost use Rattle.operators.specs.Operator.{IsGoodState};
+    ghost use Rattle.engine_model.specs.AllRules.{all_rules};
+    ghost use Rattle.engine_model.specs.Language.{language};
     ghost use Rattle.claims.specs.declared.parts.Made.{Made};
     ghost use Rattle.claims.specs.Carried.{IsMade};
 
@@ -54,10 +57,10 @@ impl<O: Operator> Model for Worked<O> {
 
     ghost view = { λ w. w.made };
 
-    ghost invariant = { λ w. IsMade O.meaning O.Key.cmp
-        (Fits O.Record.HasSpelling O.Record.spelling)
-        (IsGoodState (Fits O.State.HasSpelling O.State.spelling) O.Suits)
-        O.Record.spelling w.made };
+    ghost invariant = { λ w. IsMade (all_rules (language O.meaning O.Key.cmp
+        O.Record.spelling O.Record.reading O.Key.reading O.State.reading)
+        (Fits O.Record.HasSpelling O.Record.spelling) (Fits O.Key.HasSpelling O.Key.spelling)
+        (Fits O.State.HasSpelling O.State.spelling) O.Suits) O.Record.spelling w.made };
 }
 
 /// The state under a record's key: the one that was left, or else the one that was given.

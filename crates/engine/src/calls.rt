@@ -72,8 +72,8 @@ impl<O: Operator, S: SnapshotStore, X: Transactions, P: Partitions<Record = O::R
     ghost use Rattle.std.specs.Prelude.{◌+◌};
     ghost use Rattle.std.specs.Coded.{codes};
     ghost use Rattle.abs_codec.specs.Spelling.{Fits};
-    ghost use Rattle.operators.specs.Operator.{IsGoodState};
     ghost use Rattle.snapshot_store.specs.Store.{stored_code};
+    ghost use Rattle.engine_model.specs.AllRules.{all_rules};
     ghost use Rattle.engine_model.specs.Language.{language};
     ghost use Rattle.engine_model.specs.State.{State};
     ghost use Rattle.engine_model.specs.Keeps.{Keeps};
@@ -94,9 +94,10 @@ impl<O: Operator, S: SnapshotStore, X: Transactions, P: Partitions<Record = O::R
       attempts = c.attempts;
     } };
 
-    ghost invariant = { λ c. Keeps (language O.meaning O.Key.cmp O.Record.spelling O.Record.reading
-        O.Key.reading O.State.reading) (Fits O.Record.HasSpelling O.Record.spelling)
-        (IsGoodState (Fits O.State.HasSpelling O.State.spelling) O.Suits) (record {
+    ghost invariant = { λ c. Keeps (all_rules (language O.meaning O.Key.cmp
+        O.Record.spelling O.Record.reading O.Key.reading O.State.reading)
+        (Fits O.Record.HasSpelling O.Record.spelling) (Fits O.Key.HasSpelling O.Key.spelling)
+        (Fits O.State.HasSpelling O.State.spelling) O.Suits) (record {
           graph = c.graph;
           operators = c.operators.items;
           partitions = P.records c.log;

@@ -20,7 +20,7 @@ returns-in-Err-rounds-clause-ends g c =
 pub returns-in-Ok-end_at_rest-clause-ends : goal.returns-in-Ok-end_at_rest-clause-ends
 returns-in-Ok-end_at_rest-clause-ends g c =
     let rules = rules_of g.O.Operator g.O.Key.Ord g.O.Record.Codec g.O.Key.Codec g.O.State.Codec in
-    drain_rests rules c.args.engine.now c.settle_pending.new.engine c.rounds.new.engine c.end_at_rest.new.engine rules.IsGood c.is_fresh.ensures.kept c.args.turns c.in-Ok.ensures.ends.0
+    drain_rests rules c.args.engine.now c.settle_pending.new.engine c.rounds.new.engine c.end_at_rest.new.engine c.is_fresh.ensures.kept c.args.turns c.in-Ok.ensures.ends.0
     (subst (λ (d : Drained). EndsRounds rules c.settle_pending.new.engine c.rounds.new.engine c.args.turns (Ok d)) c.in-Ok-AtRest.field-0-is c.in-Ok-AtRest.ensures.ends) c.in-Ok-end_at_rest.ensures.ends
 
 pub returns-in-Err-end_at_rest-clause-ends : goal.returns-in-Err-end_at_rest-clause-ends
