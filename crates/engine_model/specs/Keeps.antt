@@ -197,7 +197,7 @@ AllOrNone {R} {K} {S} {O} job store =
 -- Each part in the store is what its task's role asks for: as every part that an engine has put.
 abbrev pub PartsAreFormed : {R K S O : Type 0} → AllRules R K S O → Expanded → Stored → Type 0
 PartsAreFormed {R} {K} {S} {O} rules graph stored =
-    (n task : ℕ) (r : Role) (bytes : List ℕ) → slice_get graph.tasks task ≡ Some r → part_of stored n task ≡ Some bytes → (p : Part R K S) × (whole_of lang.read_part bytes ≡ Ok p) × PartAs RecordFits graph task r p
+    (n task : ℕ) (r : Role) (bytes : List ℕ) → slice_get graph.tasks task ≡ Some r → part_of stored n task ≡ Some bytes → (p : Part R K S) × (whole_of rules.lang.read_part bytes ≡ Ok p) × PartAs rules.RecordFits graph task r p
 
 -- What every engine keeps. A fresh one is sound.
 pub record Keeps {R K S O : Type 0} (rules : AllRules R K S O) (s : State O R K S) : Type 0 where

@@ -12,8 +12,7 @@ returns-clause-ends g c =
     let old = c.args.engine.now in
     let new = c.inject.new.self in
     rw c.done.ensures
-    (inject_part rules
-    rules.IsGood old new c.is_fresh.ensures.kept
+    (inject_part rules old new c.is_fresh.ensures.kept
     (record {
       goes = c.inject.ensures.goes;
       sound = c.inject.ensures.sound;

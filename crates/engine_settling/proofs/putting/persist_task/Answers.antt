@@ -13,8 +13,7 @@ returns-clause-ends g c =
     let old = c.args.engine.now in
     let new = c.persist.new.self in
     rw c.done.ensures
-    (persist_part rules
-    rules.IsGood old new c.is_fresh.ensures.kept
+    (persist_part rules old new c.is_fresh.ensures.kept
     (record {
       goes = c.persist.ensures.goes;
       sound = c.persist.ensures.sound;
