@@ -1,8 +1,4 @@
 -- What operators mean and what they ask of records, keys and states, as one value.
-use Rattle.std.specs.Prelude.{ℕ, List}
-use Rattle.std.specs.declared.cmp.Ordering.{Ordering}
-use Rattle.abs_codec.specs.Reading.{Reading}
-use Rattle.dataflow_model.specs.Graph.{Meaning}
 use Rattle.operators.specs.Operator.{IsGoodState}
 use Rattle.engine_model.specs.Language.{Language}
 

@@ -53,7 +53,7 @@ module _ {R K S O : Type 0} (rules : AllRules R K S O) (graph : Expanded) (opera
   pub record SaysNoStart (number task : ℕ) (r : Role) : Type 0 where
     pub part : Part R K S
     pub reads : IsReadAs rules.lang stored number task (Ok part)
-    pub no_start : (st : Start R K S) → part ≡ part_for st → rules graph operators partitions task r st → ⊥
+    pub no_start : (st : Start R K S) → part ≡ part_for st → Suits rules graph operators partitions task r st → ⊥
 
   -- the bytes spell no part, by this fault; or one that the task can't start from
   abbrev pub IsDamage : ℕ → ℕ → Role → CodecFault → Type 0

@@ -199,7 +199,7 @@ module _ {R K S O : Type 0} (rules : AllRules R K S O) (graph : Expanded) (opera
       first_none (role.Operator number) = refl
       first_none (role.Sink subtask) = refl
 
-      of_suits : (n : ℕ) → last ≡ Some n → (r : Role) (st : Start R K S) → rules graph operators partitions task r st → Suited task st
+      of_suits : (n : ℕ) → last ≡ Some n → (r : Role) (st : Start R K S) → Suits rules graph operators partitions task r st → Suited task st
       of_suits n e (role.Source partition) (start.Source offset) suits = record { for = inl refl; fit = All-nil (λ (log : ℕ × List R). All rules.RecordFits log.1); none = λ h. refl }
       of_suits n e (role.Source partition) (start.Operator entries logs) suits = absurd suits
       of_suits n e (role.Source partition) (start.Sink number names logs) suits = absurd suits

@@ -129,7 +129,7 @@ first_of_kind R K S (role.Operator number) = tt
 first_of_kind R K S (role.Sink subtask) = refl
 
 module _ {R K S O : Type 0} (rules : AllRules R K S O) (graph : Expanded) (operators : List O) (partitions : List (List R)) where
-  suits_of_kind : (task : ℕ) (r : Role) (st : Start R K S) → rules graph operators partitions task r st → IsOfKind r st
+  suits_of_kind : (task : ℕ) (r : Role) (st : Start R K S) → Suits rules graph operators partitions task r st → IsOfKind r st
   suits_of_kind task (role.Source partition) (start.Source offset) suits = tt
   suits_of_kind task (role.Source partition) (start.Operator entries logs) suits = absurd suits
   suits_of_kind task (role.Source partition) (start.Sink number names logs) suits = absurd suits
