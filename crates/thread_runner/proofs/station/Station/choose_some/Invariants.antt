@@ -1,4 +1,4 @@
-use Rattle.std.proofs.Common.{◌≡◌, ◌≤◌, length}
+use Rattle.std.proofs.Common.{◌≡◌}
 use Rattle.dataflow_core.specs.Steps.{Preserves}
 use Rattle.thread_runner.proofs.station.Station.choose_some.Given as goal
 use Rattle.engine_model.proofs.Rules.{rules_of}
