@@ -89,7 +89,7 @@ module _ {R K S O : Type 0} (rules : AllRules R K S O) (graph : Expanded) (opera
         subst IsShape (sym reads.ends)
         (shape_channels rules graph operators moved first new.channels reads.sent.same_length
         (fit_puts rules.RecordFits (λ number. map Record (received meaning task ((0, row) ∷ []) (slice_get graph.channels number))) old.channels new.channels
-        (λ number. fit_records rules.RecordFits (received meaning task ((0, row) ∷ []) (slice_get graph.channels number)) (fit_received rules task ((0, row) ∷ []) (slice_get graph.channels number) sent_fits))
+        (λ number. fit_records rules.RecordFits (received meaning task ((0, row) ∷ []) (slice_get graph.channels number)) (fit_received rules.RecordFits meaning task ((0, row) ∷ []) (slice_get graph.channels number) sent_fits))
         reads.sent shape.fit))
       where
         one_fits : All (λ (s : ℕ × R). rules.RecordFits s.1) ((0, row) ∷ [])
@@ -139,7 +139,7 @@ module _ {R K S O : Type 0} (rules : AllRules R K S O) (graph : Expanded) (opera
         subst IsShape (sym operates.ends)
         (shape_channels rules graph operators moved second new.channels (operates.puts.same_length ∙ refl)
         (fit_puts rules.RecordFits (λ n. map Record (received meaning task sent (slice_get graph.channels n))) (without_head channel old.channels) new.channels
-        (λ n. fit_records rules.RecordFits (received meaning task sent (slice_get graph.channels n)) (fit_received rules task sent (slice_get graph.channels n) fits))
+        (λ n. fit_records rules.RecordFits (received meaning task sent (slice_get graph.channels n)) (fit_received rules.RecordFits meaning task sent (slice_get graph.channels n) fits))
         operates.puts second.fit))
       where
         by_test : (b : Bool) (s : S) (other : Option S) → IsGood rules operator state → (other ≡ Some s → IsGood rules operator s) → (if b then Some state else other) ≡ Some s → IsGood rules operator s
