@@ -1,6 +1,6 @@
 use Rattle.std.proofs.Common.{refl}
 use Rattle.claims.proofs.Dues.{takes_outcomes}
-use Rattle.engine_model.proofs.Rules.{rules_of}
+use Rattle.engine_model.proofs.RulesOf.{rules_of}
 use Rattle.claims.proofs.accepts.accept_outcomes.Goals as goal
 
 -- the work is not due

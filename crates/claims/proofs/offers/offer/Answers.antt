@@ -5,7 +5,7 @@ use Rattle.job_graph.specs.declared.role.Role.TheVariants as role
 use Rattle.job_state.specs.Sending.{items_at}
 use Rattle.claims.specs.declared.parts.Given.TheVariants as given
 use Rattle.claims.proofs.Dues.{offered, offered_whole, operator_found, within_gates}
-use Rattle.engine_model.proofs.Rules.{rules_of}
+use Rattle.engine_model.proofs.RulesOf.{rules_of}
 use Rattle.claims.proofs.offers.offer.Goals as goal
 
 -- each operator task has an operator

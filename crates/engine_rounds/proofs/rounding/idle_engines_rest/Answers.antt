@@ -1,5 +1,5 @@
 use Rattle.engine_rounds.proofs.Resting.{rests}
-use Rattle.engine_model.proofs.Rules.{rules_of}
+use Rattle.engine_model.proofs.RulesOf.{rules_of}
 use Rattle.engine_rounds.proofs.rounding.idle_engines_rest.Goals as goal
 
 pub returns : goal.returns

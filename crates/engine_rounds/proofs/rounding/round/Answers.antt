@@ -1,6 +1,6 @@
 use Rattle.std.proofs.Common.{[], ◌∙◌, refl, arith}
 use Rattle.engine_rounds.proofs.Taking.{took_none, took_on, idle_on, stopped_on}
-use Rattle.engine_model.proofs.Rules.{rules_of}
+use Rattle.engine_model.proofs.RulesOf.{rules_of}
 use Rattle.engine_rounds.proofs.rounding.round.Goals as goal
 
 pub loop-task-init : goal.loop-task-init

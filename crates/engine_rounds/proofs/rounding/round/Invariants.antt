@@ -4,7 +4,7 @@ use Rattle.dataflow_model.specs.Machine.{Move}
 use Rattle.engine_rounds.specs.Idle.{IsIdleIn}
 use Rattle.engine_rounds.specs.Turns.{Made}
 use Rattle.engine_rounds.proofs.rounding.round.Given as goal
-use Rattle.engine_model.proofs.Rules.{rules_of}
+use Rattle.engine_model.proofs.RulesOf.{rules_of}
 
 -- as many plain steps were made as turns were taken; and while none was, no task so far has one to make
 abbrev pub invariant-loop-task : goal.invariant-loop-task

@@ -1,6 +1,6 @@
 use Rattle.std.proofs.Common.{◌∙◌, refl}
 use Rattle.engine_rounds.proofs.Taking.{took_none, took_on, took_round, stopped_on}
-use Rattle.engine_model.proofs.Rules.{rules_of}
+use Rattle.engine_model.proofs.RulesOf.{rules_of}
 use Rattle.engine_rounds.proofs.rounding.rounds.Goals as goal
 
 pub spending-init : goal.spending-init

@@ -3,7 +3,7 @@ use Rattle.engine.specs.Readers.{pending_in}
 use Rattle.dataflow_model.specs.Machine.{Move}
 use Rattle.engine_rounds.specs.Turns.{Made}
 use Rattle.engine_rounds.proofs.rounding.rounds.Given as goal
-use Rattle.engine_model.proofs.Rules.{rules_of}
+use Rattle.engine_model.proofs.RulesOf.{rules_of}
 
 -- as many plain steps were made as turns were taken
 abbrev pub invariant-spending : goal.invariant-spending

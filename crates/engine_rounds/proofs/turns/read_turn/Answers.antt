@@ -4,7 +4,7 @@ use Rattle.engine_model.specs.Language.{language}
 use Rattle.engine_rounds.proofs.Many.{begins_same}
 use Rattle.engine_rounds.proofs.Turning.{read_turns}
 use Rattle.engine_rounds.proofs.Waiting.{read_turn_waits}
-use Rattle.engine_model.proofs.Rules.{rules_of}
+use Rattle.engine_model.proofs.RulesOf.{rules_of}
 use Rattle.engine_rounds.proofs.turns.read_turn.Goals as goal
 
 pub returns-clause-ends : goal.returns-clause-ends

@@ -3,7 +3,7 @@ use Rattle.engine_model.specs.Language.{language}
 use Rattle.claims.specs.Carried.{records_of}
 use Rattle.engine_rounds.proofs.Turning.{offered_due, offered_single, accept_turns}
 use Rattle.engine_rounds.proofs.Waiting.{work_turn_waits}
-use Rattle.engine_model.proofs.Rules.{rules_of}
+use Rattle.engine_model.proofs.RulesOf.{rules_of}
 use Rattle.engine_rounds.proofs.turns.work_at.Goals as goal
 
 pub returns-in-Ok-clause-ends : goal.returns-in-Ok-clause-ends

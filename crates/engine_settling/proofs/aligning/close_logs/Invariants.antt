@@ -2,7 +2,7 @@ use Rattle.std.proofs.Common.{◌≡◌}
 use Rattle.engine_settling.specs.Bringing.{Holds, Brings}
 use Rattle.engine_settling.proofs.Looping.{LogsBefore}
 use Rattle.engine_settling.proofs.aligning.close_logs.Given as goal
-use Rattle.engine_model.proofs.Rules.{rules_of}
+use Rattle.engine_model.proofs.RulesOf.{rules_of}
 
 -- the tasks so far in the order have taken the barriers of their marked inputs
 abbrev pub invariant-loop-place : goal.invariant-loop-place

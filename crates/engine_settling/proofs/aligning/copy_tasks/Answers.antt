@@ -4,7 +4,7 @@ use Rattle.engine_settling.specs.Advancing.{IsPending, HaveSourcesCopied, HaveCo
 use Rattle.engine_settling.proofs.Bringing.{brings_none, brings_both, part_early, holds_running, graph_same}
 use Rattle.engine_settling.proofs.Looping.{copies_start, copies_sent, copies_more, copies_all}
 use Rattle.engine_settling.proofs.Ordering.{order_length}
-use Rattle.engine_model.proofs.Rules.{rules_of}
+use Rattle.engine_model.proofs.RulesOf.{rules_of}
 use Rattle.engine_settling.proofs.aligning.copy_tasks.Goals as goal
 
 pub loop-place-init : goal.loop-place-init

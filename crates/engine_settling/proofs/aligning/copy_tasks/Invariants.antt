@@ -2,7 +2,7 @@ use Rattle.std.proofs.Common.{◌≡◌}
 use Rattle.engine_settling.specs.Bringing.{Holds, Brings}
 use Rattle.engine_settling.proofs.Looping.{CopiesBefore}
 use Rattle.engine_settling.proofs.aligning.copy_tasks.Given as goal
-use Rattle.engine_model.proofs.Rules.{rules_of}
+use Rattle.engine_model.proofs.RulesOf.{rules_of}
 
 -- the tasks so far in the order have copied
 abbrev pub invariant-loop-place : goal.invariant-loop-place

@@ -2,7 +2,7 @@ use Rattle.std.proofs.Common.{Ok, subst}
 use Rattle.engine_rounds.specs.Turns.{EndsRounds}
 use Rattle.engine_rounds.specs.declared.ending.Drained.{Drained}
 use Rattle.engine_settling.proofs.Chained.{drain_spent, drain_rounds, drain_rests, drain_ends}
-use Rattle.engine_model.proofs.Rules.{rules_of}
+use Rattle.engine_model.proofs.RulesOf.{rules_of}
 use Rattle.engine_settling.proofs.draining.drain.Goals as goal
 
 pub returns-in-Ok-TurnsSpent-clause-ends : goal.returns-in-Ok-TurnsSpent-clause-ends

@@ -3,7 +3,7 @@ use Rattle.commit_sink.specs.Ledger.{Ledger, committed_rows}
 use Rattle.engine_rounds.proofs.Many.{begins_same}
 use Rattle.engine_rounds.proofs.Turning.{Calls}
 use Rattle.engine_settling.proofs.Chained.{trigger_made, trigger_still, trigger_is, trigger_fails, rest_settles}
-use Rattle.engine_model.proofs.Rules.{rules_of}
+use Rattle.engine_model.proofs.RulesOf.{rules_of}
 use Rattle.engine_settling.proofs.draining.end_at_rest.Goals as goal
 
 pub returns-in-Ok-clause-ends : goal.returns-in-Ok-clause-ends

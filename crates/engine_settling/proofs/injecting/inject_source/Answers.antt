@@ -3,7 +3,7 @@ use Rattle.commit_sink.specs.Ledger.{Ledger, committed_rows}
 use Rattle.engine_rounds.proofs.Many.{begins_same}
 use Rattle.engine_settling.proofs.Bringing.{counted_done}
 use Rattle.engine_settling.proofs.Parts.{inject_part}
-use Rattle.engine_model.proofs.Rules.{rules_of}
+use Rattle.engine_model.proofs.RulesOf.{rules_of}
 use Rattle.engine_settling.proofs.injecting.inject_source.Goals as goal
 
 pub returns-clause-ends : goal.returns-clause-ends

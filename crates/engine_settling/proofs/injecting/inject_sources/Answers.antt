@@ -6,7 +6,7 @@ use Rattle.engine_settling.specs.Advancing.{IsPending, HaveSourcesCopied}
 use Rattle.engine_settling.proofs.Bringing.{brings_none, brings_both, part_early, holds_running, graph_same}
 use Rattle.engine_settling.proofs.Looping.{sources_start, sources_pending, sources_more, sources_skip, sources_all}
 use Rattle.engine_settling.proofs.injecting.inject_sources.Goals.{then-is_source+in-Ok, else-is_source}
-use Rattle.engine_model.proofs.Rules.{rules_of}
+use Rattle.engine_model.proofs.RulesOf.{rules_of}
 use Rattle.engine_settling.proofs.injecting.inject_sources.Goals as goal
 
 pub loop-task-init : goal.loop-task-init

@@ -2,7 +2,7 @@ use Rattle.std.proofs.Common.{◌≡◌}
 use Rattle.engine_settling.specs.Bringing.{Holds, Brings}
 use Rattle.engine_settling.proofs.Looping.{SourcesBefore}
 use Rattle.engine_settling.proofs.injecting.inject_sources.Given as goal
-use Rattle.engine_model.proofs.Rules.{rules_of}
+use Rattle.engine_model.proofs.RulesOf.{rules_of}
 
 -- the sources among the tasks so far have copied
 abbrev pub invariant-loop-task : goal.invariant-loop-task

@@ -2,7 +2,7 @@ use Rattle.std.proofs.Common.{ap, arith, refl, length, ◌∙◌}
 use Rattle.job_graph.specs.Expanded.{Expanded}
 use Rattle.engine_model.specs.State.{State}
 use Rattle.engine_settling.proofs.Chained.{commits_none, commits_both, commits_early, commit_next, committed_none, committed_all}
-use Rattle.engine_model.proofs.Rules.{rules_of}
+use Rattle.engine_model.proofs.RulesOf.{rules_of}
 use Rattle.engine_settling.proofs.putting.commit_sinks.Goals as goal
 
 pub loop-task-init : goal.loop-task-init

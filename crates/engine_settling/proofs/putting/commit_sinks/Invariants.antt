@@ -2,7 +2,7 @@ use Rattle.std.proofs.Common.{◌≡◌}
 use Rattle.engine_model.specs.Sound.{IsSound}
 use Rattle.engine_settling.specs.Settled.{Commits, HaveCommittedBefore}
 use Rattle.engine_settling.proofs.putting.commit_sinks.Given as goal
-use Rattle.engine_model.proofs.Rules.{rules_of}
+use Rattle.engine_model.proofs.RulesOf.{rules_of}
 
 -- the sinks among the tasks so far have committed
 abbrev pub invariant-loop-task : goal.invariant-loop-task

@@ -3,7 +3,7 @@ use Rattle.job_graph.specs.Expanded.{Expanded}
 use Rattle.std.proofs.lemmas.Option.{none-some}
 use Rattle.job_graph.specs.declared.role.Role.TheVariants as role
 use Rattle.engine_settling.proofs.Chained.{commit_at, commits_nothing}
-use Rattle.engine_model.proofs.Rules.{rules_of}
+use Rattle.engine_model.proofs.RulesOf.{rules_of}
 use Rattle.engine_settling.proofs.putting.commit_task.Goals as goal
 
 pub returns-in-Some-Sink-clause-ends : goal.returns-in-Some-Sink-clause-ends

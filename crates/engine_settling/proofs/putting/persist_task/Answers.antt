@@ -4,7 +4,7 @@ use Rattle.engine_rounds.proofs.Many.{begins_same}
 use Rattle.engine_settling.proofs.Bringing.{counted_done}
 use Rattle.engine_settling.proofs.Parts.{persist_part}
 use Rattle.task_part.specs.Spelling.{part_spelling}
-use Rattle.engine_model.proofs.Rules.{rules_of}
+use Rattle.engine_model.proofs.RulesOf.{rules_of}
 use Rattle.engine_settling.proofs.putting.persist_task.Goals as goal
 
 pub returns-clause-ends : goal.returns-clause-ends

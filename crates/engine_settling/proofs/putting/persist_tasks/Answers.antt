@@ -4,7 +4,7 @@ use Rattle.job_graph.specs.Expanded.{Expanded}
 use Rattle.engine_settling.proofs.Bringing.{brings_none, brings_both, part_early, holds_running, graph_same}
 use Rattle.engine_settling.proofs.Looping.{acks_start, acks_ended, acks_more, acks_all}
 use Rattle.engine_settling.specs.Advancing.{HaveEnded, HaveAcked}
-use Rattle.engine_model.proofs.Rules.{rules_of}
+use Rattle.engine_model.proofs.RulesOf.{rules_of}
 use Rattle.engine_settling.proofs.putting.persist_tasks.Goals as goal
 
 pub loop-task-init : goal.loop-task-init

@@ -2,7 +2,7 @@ use Rattle.std.proofs.Common.{◌≡◌}
 use Rattle.engine_settling.specs.Bringing.{Holds, Brings}
 use Rattle.engine_settling.proofs.Looping.{AcksBefore}
 use Rattle.engine_settling.proofs.putting.persist_tasks.Given as goal
-use Rattle.engine_model.proofs.Rules.{rules_of}
+use Rattle.engine_model.proofs.RulesOf.{rules_of}
 
 -- the tasks so far have acknowledged
 abbrev pub invariant-loop-task : goal.invariant-loop-task

@@ -1,7 +1,7 @@
 use Rattle.engine_settling.specs.Advancing.{HaveSourcesCopied, HaveCopied, HaveAllCome, HaveEnded}
 use Rattle.engine_settling.proofs.Bringing.{brings_both, part_on, part_early}
 use Rattle.engine_settling.proofs.Looping.{pending_all, sources_ready, copies_ready, ended_of}
-use Rattle.engine_model.proofs.Rules.{rules_of}
+use Rattle.engine_model.proofs.RulesOf.{rules_of}
 use Rattle.engine_settling.proofs.settling.bring_to_end.Goals as goal
 
 pub copy_tasks-requires : goal.copy_tasks-requires

@@ -1,7 +1,7 @@
 use Rattle.engine_settling.specs.Advancing.{HaveEnded, HaveAcked}
 use Rattle.engine_settling.proofs.Bringing.{part_on, part_early, holds_two}
 use Rattle.engine_settling.proofs.Looping.{pending_all, ended_all}
-use Rattle.engine_model.proofs.Rules.{rules_of}
+use Rattle.engine_model.proofs.RulesOf.{rules_of}
 use Rattle.engine_settling.proofs.settling.put_parts.Goals as goal
 
 pub returns-in-Err-clause-ends : goal.returns-in-Err-clause-ends

@@ -1,6 +1,6 @@
 use Rattle.engine_settling.specs.Advancing.{HaveEnded, HaveAcked}
 use Rattle.engine_settling.proofs.Chained.{settle_early, settle_uncompleted, settle_by, rests_by}
-use Rattle.engine_model.proofs.Rules.{rules_of}
+use Rattle.engine_model.proofs.RulesOf.{rules_of}
 use Rattle.engine_settling.proofs.settling.settle.Goals as goal
 
 pub returns-in-Err-clause-ends : goal.returns-in-Err-clause-ends

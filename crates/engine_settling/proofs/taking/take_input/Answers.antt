@@ -7,7 +7,7 @@ use Rattle.engine_settling.specs.Awaiting.{HasCome}
 use Rattle.engine_settling.proofs.Bringing.{brings_none, holds_running, graph_same, part_on}
 use Rattle.engine_settling.proofs.Gating.{works_from}
 use Rattle.engine_settling.proofs.Looping.{differ, agree, came_holds, input_awaited, input_other, input_came, input_none}
-use Rattle.engine_model.proofs.Rules.{rules_of}
+use Rattle.engine_model.proofs.RulesOf.{rules_of}
 use Rattle.engine_settling.proofs.taking.take_input.Goals as goal
 
 pub returns-in_default-clause-ends : goal.returns-in_default-clause-ends

@@ -5,7 +5,7 @@ use Rattle.engine_settling.specs.Advancing.{IsPending, HaveSendersCopied, HaveCo
 use Rattle.engine_settling.specs.Awaiting.{HasCome}
 use Rattle.engine_settling.proofs.Bringing.{brings_none, brings_both, part_early, holds_running, graph_same}
 use Rattle.engine_settling.proofs.Looping.{inputs_start, inputs_sent, inputs_more, inputs_all}
-use Rattle.engine_model.proofs.Rules.{rules_of}
+use Rattle.engine_model.proofs.RulesOf.{rules_of}
 use Rattle.engine_settling.proofs.taking.take_inputs.Goals as goal
 
 pub overflow_cast-inputs : goal.overflow_cast-inputs

@@ -2,7 +2,7 @@ use Rattle.std.proofs.Common.{◌≡◌}
 use Rattle.engine_settling.specs.Bringing.{Holds, Brings}
 use Rattle.engine_settling.proofs.Looping.{InputsBefore}
 use Rattle.engine_settling.proofs.taking.take_inputs.Given as goal
-use Rattle.engine_model.proofs.Rules.{rules_of}
+use Rattle.engine_model.proofs.RulesOf.{rules_of}
 
 -- the barriers of the inputs so far that are marked so were taken
 abbrev pub invariant-loop-input : goal.invariant-loop-input

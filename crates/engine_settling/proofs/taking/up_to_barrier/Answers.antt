@@ -4,7 +4,7 @@ use Rattle.engine_settling.specs.Awaiting.{IsAwaited}
 use Rattle.engine_settling.proofs.Bringing.{brings_none, brings_both, part_early, holds_running}
 use Rattle.engine_settling.proofs.Parts.{barrier_done, barrier_fails}
 use Rattle.engine_settling.proofs.Works.{no_head}
-use Rattle.engine_model.proofs.Rules.{rules_of}
+use Rattle.engine_model.proofs.RulesOf.{rules_of}
 use Rattle.engine_settling.proofs.taking.up_to_barrier.Goals as goal
 
 pub working-init : goal.working-init

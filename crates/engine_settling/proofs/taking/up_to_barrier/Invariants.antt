@@ -2,7 +2,7 @@ use Rattle.std.proofs.Common.{◌≡◌}
 use Rattle.engine_settling.specs.Bringing.{Holds, Brings}
 use Rattle.engine_settling.specs.Awaiting.{IsAwaited, leading_in}
 use Rattle.engine_settling.proofs.taking.up_to_barrier.Given as goal
-use Rattle.engine_model.proofs.Rules.{rules_of}
+use Rattle.engine_model.proofs.RulesOf.{rules_of}
 
 -- records were worked, and the barrier is still awaited
 abbrev pub invariant-working : goal.invariant-working

@@ -2,7 +2,7 @@ use Rattle.std.proofs.Common.{ap, ◌∙◌}
 use Rattle.claims.specs.Carried.{records_of}
 use Rattle.engine_rounds.proofs.Turning.{offered_due, offered_single}
 use Rattle.engine_settling.proofs.Works.{await_runs, await_works, offer_part, accept_part, accept_falls}
-use Rattle.engine_model.proofs.Rules.{rules_of}
+use Rattle.engine_model.proofs.RulesOf.{rules_of}
 use Rattle.engine_settling.proofs.taking.work_first.Goals as goal
 
 pub returns-in-Ok-clause-ends : goal.returns-in-Ok-clause-ends

@@ -3,7 +3,7 @@ use Rattle.std.proofs.lemmas.List.{length-append}
 use Rattle.std.proofs.lemmas.Option.{slice_get-get_or}
 use Rattle.job_graph.specs.declared.role.Role.TheVariants.{Source}
 use Rattle.recovery.proofs.Starting.{task_stops, starts_more}
-use Rattle.engine_model.proofs.Rules.{rules_of}
+use Rattle.engine_model.proofs.RulesOf.{rules_of}
 use Rattle.recovery.proofs.parts.starts_at.Goals as goal
 
 pub loop-task-preserved : goal.loop-task-preserved

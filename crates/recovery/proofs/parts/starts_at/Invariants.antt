@@ -3,7 +3,7 @@ use Rattle.engine_model.specs.Restart.{IsStart}
 use Rattle.engine_model.specs.declared.start.Start.{Start}
 use Rattle.job_graph.specs.declared.role.Role.{Role}
 use Rattle.recovery.proofs.parts.starts_at.Given as goal
-use Rattle.engine_model.proofs.Rules.{rules_of}
+use Rattle.engine_model.proofs.RulesOf.{rules_of}
 
 -- the tasks met so far have a start each
 abbrev pub invariant-loop-task : goal.invariant-loop-task

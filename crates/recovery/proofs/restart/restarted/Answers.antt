@@ -2,7 +2,7 @@ use Rattle.std.proofs.Common.{rules, arith}
 use Rattle.engine_model.specs.Restart.{AreStarts, before_tasks}
 use Rattle.engine_model.proofs.Restart.Starts.{takes_length}
 use Rattle.recovery.proofs.Starting.{starts_below, restart_full}
-use Rattle.engine_model.proofs.Rules.{rules_of}
+use Rattle.engine_model.proofs.RulesOf.{rules_of}
 use Rattle.recovery.proofs.restart.restarted.Goals as goal
 
 pub settle_transactions-requires-clause-below : goal.settle_transactions-requires-clause-below

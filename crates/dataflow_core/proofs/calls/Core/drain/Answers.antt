@@ -1,6 +1,6 @@
 use Rattle.engine_settling.proofs.Chained.{drain_works}
 use Rattle.dataflow_core.proofs.Unclaiming.{step_works}
-use Rattle.engine_model.proofs.Rules.{rules_of}
+use Rattle.engine_model.proofs.RulesOf.{rules_of}
 use Rattle.dataflow_core.proofs.calls.Core.drain.Goals as goal
 
 pub returns-clause-step : goal.returns-clause-step

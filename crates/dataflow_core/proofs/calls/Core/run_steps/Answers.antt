@@ -4,7 +4,7 @@ use Rattle.task_part.specs.Spelling.{part_spelling}
 use Rattle.engine.proofs.Raising.{sound_exact}
 use Rattle.dataflow_core.proofs.Preserving.{of_none, of_both}
 use Rattle.dataflow_core.proofs.Running.{run_more}
-use Rattle.engine_model.proofs.Rules.{rules_of}
+use Rattle.engine_model.proofs.RulesOf.{rules_of}
 use Rattle.dataflow_core.proofs.calls.Core.run_steps.Goals as goal
 
 pub returns-then-is_err-clause-exact : goal.returns-then-is_err-clause-exact

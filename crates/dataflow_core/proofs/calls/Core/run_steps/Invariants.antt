@@ -4,7 +4,7 @@ use Rattle.task_part.specs.Spelling.{part_spelling}
 use Rattle.dataflow_core.specs.Runs.{IsRun}
 use Rattle.dataflow_core.specs.Steps.{Preserves}
 use Rattle.dataflow_core.proofs.calls.Core.run_steps.Given as goal
-use Rattle.engine_model.proofs.Rules.{rules_of}
+use Rattle.engine_model.proofs.RulesOf.{rules_of}
 
 -- a reply for each step so far, and room for the others
 abbrev pub invariant-loop-step : goal.invariant-loop-step

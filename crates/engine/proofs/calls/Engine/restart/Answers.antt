@@ -4,7 +4,7 @@ use Rattle.engine_model.proofs.Calls.Restarts.{restart_withdraws}
 use Rattle.engine_model.specs.RestartLaws.{OperatorsAreLawful}
 use Rattle.engine.proofs.Raising.{none_is, raised_by, number_bad, restart_kept, restart_sound, restart_goes_on, cut_by, not_bad}
 use Rattle.engine.proofs.Counting.{restart_counted}
-use Rattle.engine_model.proofs.Rules.{rules_of}
+use Rattle.engine_model.proofs.RulesOf.{rules_of}
 use Rattle.engine.proofs.calls.Engine.restart.Goals as goal
 
 pub restarted-outcome-requires : goal.restarted-outcome-requires

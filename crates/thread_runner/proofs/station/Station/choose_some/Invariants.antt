@@ -1,7 +1,7 @@
 use Rattle.std.proofs.Common.{◌≡◌}
 use Rattle.dataflow_core.specs.Steps.{Preserves}
 use Rattle.thread_runner.proofs.station.Station.choose_some.Given as goal
-use Rattle.engine_model.proofs.Rules.{rules_of}
+use Rattle.engine_model.proofs.RulesOf.{rules_of}
 
 abbrev pub invariant-loop : goal.invariant-loop
 invariant-loop g l = record {
