@@ -14,11 +14,12 @@ use Rattle.engine_model.proofs.Calls.Exact.{keeps_bare}
 use Rattle.engine_plain.specs.Plain.{StandsFor}
 use Rattle.engine_plain.proofs.Stands.{HoldsFor}
 
-pub plain_reached : {R K S O : Type 0} (rules : AllRules R K S O) (s : State O R K S) (h : Held R K S) → Keeps rules s → s.held ≡ Some h → s.is_fresh ≡ true
-    → (moves : List Move) × (at : Configuration R K S) × Reaches (job_of rules.lang s) moves start at × StandsFor rules.lang s at
-plain_reached rules s h keeps was fresh =
-    let b = keeps_bare rules s keeps fresh h was in
-    (b.0, b.1, b.2, subst (λ (o : Option (Held R K S)). MatchOption o ⊥ (λ k. HoldsFor rules.lang s k b.1)) (sym was) b.3)
+module _ {R K S O : Type 0} (rules : AllRules R K S O) where
+  pub plain_reached : (s : State O R K S) (h : Held R K S) → Keeps rules s → s.held ≡ Some h → s.is_fresh ≡ true
+      → (moves : List Move) × (at : Configuration R K S) × Reaches (job_of rules.lang s) moves start at × StandsFor rules.lang s at
+  plain_reached s h keeps was fresh =
+      let b = keeps_bare rules s keeps fresh h was in
+      (b.0, b.1, b.2, subst (λ (o : Option (Held R K S)). MatchOption o ⊥ (λ k. HoldsFor rules.lang s k b.1)) (sym was) b.3)
 
 module _ {R K S O : Type 0} (lang : Language R K S O) where
   pub stand_for_one : (s : State O R K S) (one other : Configuration R K S) → SpellsOnce lang.spelling → StandsFor lang s one → StandsFor lang s other → one ≡ other
