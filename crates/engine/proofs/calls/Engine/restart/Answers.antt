@@ -17,7 +17,7 @@ invariant_of-self g c =
     let down = none_is c.self.inside.attempt (sym c.is_some.ensures ∙ c.if-is_some.false) in
     let ledger = g.X.Transactions.state c.restarted-outcome.new.transactions in
     rw (c.restarted-outcome.ensures.same, c.raise.ensures.holds, raised_by c.restarted-outcome.result c.self.inside.attempt down)
-    (restart_kept (rules_of g.O.Operator g.O.Key.Ord g.O.Record.Codec g.O.Key.Codec g.O.State.Codec) _ _ _ c.self.invariant down ledger _ _ c.restarted-outcome.result (rw (← c.deref.ensures.value) c.restarted-outcome.ensures.ends))
+    (restart_kept (rules_of g.O.Operator g.O.Key.Ord g.O.Record.Codec g.O.Key.Codec g.O.State.Codec) _ c.self.invariant down ledger _ _ c.restarted-outcome.result (rw (← c.deref.ensures.value) c.restarted-outcome.ensures.ends))
 
 pub returns-clause-sound : goal.returns-clause-sound
 returns-clause-sound g c =
