@@ -71,9 +71,8 @@ fn source_start<O: Operator, P: Partitions<Record = O::Record>>(
 ) -> Option<Start<O::Record, O::Key, O::State>>
     ensures some { IfSome result (λ st. (st ≡ Start.Source offset) × ((operators : List O)
         → Suits ⟦<O as Rules>⟧.all graph.now operators (P.records log.now) task role st)) }
-    ensures none { IfNone result ((operators : List O) → Suits ⟦<O as Rules>⟧.all
-        graph.now operators
-        (P.records log.now) task role (Start.Source offset) → ⊥) }
+    ensures none { IfNone result ((operators : List O) → Suits ⟦<O as Rules>⟧.all graph.now
+        operators (P.records log.now) task role (Start.Source offset) → ⊥) }
 {
     match role {
         Role::Source(partition) => {
@@ -101,8 +100,7 @@ fn operator_start<O: Operator>(
         × ((partitions : List (List O.Record))
         → Suits ⟦<O as Rules>⟧.all graph.now operators.now partitions task role st)) }
     ensures none { IfNone result ((partitions : List (List O.Record)) → Suits ⟦<O as Rules>⟧.all
-        graph.now
-        operators.now partitions task role (Start.Operator states logs) → ⊥) }
+        graph.now operators.now partitions task role (Start.Operator states logs) → ⊥) }
 {
     match role {
         Role::Operator(number) => {
@@ -130,8 +128,8 @@ fn sink_start<O: Operator>(
         × ((operators : List O) (partitions : List (List O.Record))
         → Suits ⟦<O as Rules>⟧.all graph.now operators partitions task role st)) }
     ensures none { IfNone result ((subtask : ℕ) (operators : List O)
-        (partitions : List (List O.Record)) → Suits ⟦<O as Rules>⟧.all
-        graph.now operators partitions task role
+        (partitions : List (List O.Record)) → Suits ⟦<O as Rules>⟧.all graph.now operators
+        partitions task role
         (Start.Sink subtask names logs) → ⊥) }
 {
     match role {
