@@ -138,12 +138,7 @@ fn entries_of<K: Ord + Drop, S: Drop>(
     ensures entries { IfOk result (λ entries. entries.items ≡ map) }
     ensures rising { IsStrictlySortedBy K.cmp (keys_of map) }
 {
-    let mut entries = Vec::with_capacity(alloc, map.len())?;
-    let mut rest = map.into_btree_map();
-    while let Some(entry) = rest.pop_first() {
-        entries.push(entry)?;
-    }
-    Ok(entries)
+    Ok(map.into_btree_map().into_iter().collect(alloc)?)
 }
 
 /// What an operator makes of its records, from the first to the last, each in the state that the
