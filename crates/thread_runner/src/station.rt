@@ -258,8 +258,8 @@ impl<
         book.audit(share);
     }
 
-    /// A run of so many turns and restarts begins, by so many workers. A claim takes so many records
-    /// at most.
+    /// A run of so many turns and restarts begins, by so many workers. A claim takes so many
+    /// records at most.
     pub(crate) fn begin(
         &mut self,
         workers: usize,
@@ -308,8 +308,8 @@ impl<
         (next, turns.left())
     }
 
-    /// Turns of one hold of the lock, until one leaves the worker something to do: what that is, and
-    /// how many turns were left before them and are after them.
+    /// Turns of one hold of the lock, until one leaves the worker something to do: what that is,
+    /// and how many turns were left before them and are after them.
     pub(crate) fn choose_some(&mut self) -> (Next<O>, u64, u64)
         ensures total { self.new.total ≡ self.old.total }
         ensures step { Preserves ⟦<O as Rules>⟧.all self.old.core.engine self.new.core.engine }
