@@ -1,6 +1,6 @@
 use Rattle.std.proofs.Common.{refl, arith}
 use Rattle.std.specs.Vec.{with_item}
-use Rattle.plain_machine.proofs.Made.{operator_within, operator_made, unmade, on_err, no_value, not_unfit, if_unfit, memory_passed, not_other, hands_unfit}
+use Rattle.plain_machine.proofs.Made.{operator_within, operator_made, unmade, on_err, no_value, not_unfit, passed_on, memory_passed, not_other, hands_unfit}
 use Rattle.plain_machine.proofs.plain.PlainMachine+O+O+Record+O+Key+O+State.operate.Goals as goal
 
 pub returns-in_err-keep_under-clause-err : goal.returns-in_err-keep_under-clause-err
@@ -65,7 +65,7 @@ returns-in_err-outcome-clause-err g c = on_err c.from_residual-in_err-outcome.re
 
 pub returns-in_err-outcome-clause-unfit : goal.returns-in_err-outcome-clause-unfit
 returns-in_err-outcome-clause-unfit g c =
-    if_unfit c.from_residual-in_err-outcome.result c.in_err-outcome.field-0.0 _ c.from_residual-in_err-outcome.ensures.1 (λ unfit.
+    passed_on c.from_residual-in_err-outcome.result c.in_err-outcome.field-0.0 _ c.from_residual-in_err-outcome.ensures.1 (λ unfit.
     hands_unfit g.O.Operator.meaning g.O.Key.Ord.cmp c.args.self.now.job c.args.self.now.configuration c.args.self.now.configuration _ _ c.args.task c.args.input c.args.taken c.index.result.now c.in-Operator.operator c.in_ok-key.key c.index-2.result.now
     c.args.self.now.all_tasks
     c.requires.operator
