@@ -1,5 +1,5 @@
 -- A move that the plain program made is a step of the machine.
-use Rattle.std.proofs.Common.{◌≡◌, ◌++◌, ◌+◌, ◌<◌, ◌==◌, inl, inr, if◌then◌else◌, Option, Some, None, slice_get, slice_set, get_or, length, map, ℕ, zero, suc, Bool, true, false, List, [], ◌∷◌, refl, sym, ap, ◌∙◌, ap₂, subst, arith, Ordering, Result, Ok, Err, OnErr, IfOk, IfErr, IsErr, IsErrAnd}
+use Rattle.std.proofs.Common.{◌≡◌, ◌++◌, ◌+◌, ◌<◌, ◌^◌, ◌==◌, inl, inr, if◌then◌else◌, Option, Some, None, slice_get, slice_set, get_or, length, map, ℕ, zero, suc, Bool, true, false, List, [], ◌∷◌, refl, sym, ap, ◌∙◌, ap₂, subst, arith, Ordering, Vec, Global, Result, Ok, Err, OnErr, IfOk, IfErr, IsErr, IsErrAnd}
 use Rattle.std.proofs.lemmas.Option.{none-some, same_Some, slice_get_within, slice_get_read, slice_get-map}
 use Rattle.std.proofs.lemmas.Bool.Decides.{eqb_tells}
 use Rattle.std.specs.Option.{option_map}
@@ -73,6 +73,29 @@ module _ {R K S O : Type 0} (meaning : Meaning R K S O) (compare : K → K → O
   source_of partitions (Some (OperatorTask operator)) offset r e = absurd (none-some r e)
   source_of partitions (Some SinkTask) offset r e = absurd (none-some r e)
 
+  pub reads_within : (task : ℕ) (next : R) → Some next ≡ offered (job_of meaning job) (Read task) (configuration_of compare old) → task < length job.tasks.items
+  reads_within task next offers =
+      let source = source_of (job_of meaning job).partitions (slice_get (map task_of job.tasks.items) task) _ next (sym offers) in
+      omega (arith, map_length task_of job.tasks.items, slice_get_within (map task_of job.tasks.items) task (SourceTask source.0) source.1)
+
+  -- a source's offset is a place in its partition
+  pub offset_fits : (task : ℕ) (next : R) (current : code_state.TaskState R K S) →
+      length old.tasks.items ≡ length job.tasks.items →
+      Some next ≡ offered (job_of meaning job) (Read task) (configuration_of compare old) →
+      current ≡ get_or old.tasks.items task current →
+      current.offset + 1 < 2 ^ 64
+  offset_fits task next current lengths offers now =
+      let source = source_of (job_of meaning job).partitions (slice_get (map task_of job.tasks.items) task) _ next (sym offers) in
+      let within : task < length old.tasks.items = omega (arith, lengths, reads_within task next offers) in
+      let here : slice_get old.tasks.items task ≡ Some current = slice_get_read old.tasks.items (length old.tasks.items) task current refl within now in
+      let at : slice_get (records_of (slice_get job.partitions.items source.0)) current.offset ≡ Some next =
+      ap₂ (λ o h. next_of (job_of meaning job).partitions o (state_of compare h).offset) (sym source.1) (sym here) ∙ sym offers in
+      few (slice_get job.partitions.items source.0) at
+    where
+      few : (rows : Option (Vec R Global)) → slice_get (records_of rows) current.offset ≡ Some next → current.offset + 1 < 2 ^ 64
+      few None e = absurd (none-some next e)
+      few (Some rows) e = omega (arith, slice_get_within rows.items current.offset next e, rows.ok.0, rows.ok.1, rows.small)
+
   pub read_made : (task : ℕ) (next copy : R) (sent : List (ℕ × R)) (current : code_state.TaskState R K S) →
       length old.tasks.items ≡ length job.tasks.items →
       Some next ≡ offered (job_of meaning job) (Read task) (configuration_of compare old) →
@@ -85,7 +108,7 @@ module _ {R K S O : Type 0} (meaning : Meaning R K S O) (compare : K → K → O
   read_made task next copy sent current lengths offers copied sends now held queues =
       let source = source_of (job_of meaning job).partitions (slice_get (map task_of job.tasks.items) task) _ next (sym offers) in
       let k : Task O = SourceTask source.0 in
-      let within : task < length old.tasks.items = omega (arith, lengths, map_length task_of job.tasks.items, slice_get_within (map task_of job.tasks.items) task k source.1) in
+      let within : task < length old.tasks.items = omega (arith, lengths, reads_within task next offers) in
       let here : slice_get old.tasks.items task ≡ Some current = slice_get_read old.tasks.items (length old.tasks.items) task current refl within now in
       let state = state_of compare (slice_get old.tasks.items task) in
       let same : sent ≡ (0, next) ∷ [] = sends ∙ ap (λ r. (0, r) ∷ []) copied in
@@ -271,6 +294,10 @@ not_unfit (Err f) P h = λ e. cc
 pub passed_on : {T E : Type 0} (r : Result T E) (was : E) (P : E → Type 0) → IsErrAnd r (λ e. e ≡ was) → P was → IfErr r P
 passed_on (Ok x) was P h p = absurd h
 passed_on (Err e) was P h p = subst P (sym h) p
+
+pub on_error : {T E : Type 0} (r : Result T E) (P : E → Type 0) → IsErrAnd r P → IfErr r P
+on_error (Ok x) P h = tt
+on_error (Err e) P h = h
 
 pub memory_passed : {T : Type 0} (r : Result T PlainFault) (was : PlainFault) → IsErrAnd r (λ f. f ≡ was) → was ≡ Memory → IsErrAnd r (λ f. f ≡ Memory)
 memory_passed (Ok x) was h e = absurd h
