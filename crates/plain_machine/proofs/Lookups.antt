@@ -1,5 +1,5 @@
 -- What a list has at an index, in what a move takes.
-use Rattle.std.proofs.Common.{◌≡◌, ◌<◌, ◌==◌, ◌&&◌, Bool, true, false, Bor, List, [], Option, Some, None, slice_get, length, map, ℕ, if◌then◌else◌, refl, sym, ap, ap₂, ◌∙◌, Vec, Global}
+use Rattle.std.proofs.Common.{◌≡◌, ◌==◌, ◌&&◌, Bool, true, false, Bor, List, [], Option, Some, None, slice_get, length, map, ℕ, if◌then◌else◌, refl, sym, ap, ap₂, ◌∙◌, Vec, Global}
 use Rattle.std.specs.Option.{option_map, option_copied}
 use Rattle.std.specs.Slice.{IsItemAt}
 use Rattle.std.proofs.lemmas.Option.{slice_get_read, slice_get_past, slice_get-map}
@@ -7,7 +7,6 @@ use Rattle.std.proofs.lemmas.Bool.{eq-eqb, ne_eqb}
 use Rattle.plain_machine.specs.declared.job.Channel as code_channel
 use Rattle.plain_machine.specs.declared.job.Task as code_task
 use Rattle.plain_machine.specs.declared.job.Task.TheVariants.{Source}
-use Rattle.dataflow_model.specs.Graph.{Task, Channel}
 use Rattle.plain_machine.specs.Offered.{has_inputs, next_of, first_of}
 use Rattle.plain_machine.specs.Plain.{task_of, channel_of, records_of}
 

@@ -1,4 +1,4 @@
-use Rattle.std.proofs.Common.{◌≡◌, ◌+◌, ℕ, List, Option, Some, None, [], ◌∷◌, ◌++◌, length, length-append, slice_get, refl, sym, ap, ap₂, ◌∙◌, arith, Ordering, Vec, Global}
+use Rattle.std.proofs.Common.{◌≡◌, ◌+◌, ℕ, List, Option, None, [], ◌∷◌, ◌++◌, length, length-append, slice_get, refl, ap, ap₂, ◌∙◌, arith, Ordering, Vec, Global}
 use Rattle.std.specs.BTreeMap as tree
 use Rattle.std.specs.BTreeMap.{BTreeMap, IsEmpty, is_at}
 use Rattle.std.specs.Map.{lookup}
@@ -39,18 +39,18 @@ loop-task-init g c = (ap length c.new-tasks.ensures.items, λ k. ap (λ l. state
 
 pub loop-task-preserved : goal.loop-task-preserved
 loop-task-preserved g c = (
-      one_more c.loop-task.tasks.items c.push.new.self.items _ c.loop-task.task c.in_ok-push.ensures.items c.loop-task.invariant.0,
-      fresh_too g.O.Key.Ord.cmp c.loop-task.tasks.items c.push.new.self.items c.new.result c.new-in-loop-task.result c.in_ok-push.ensures.items c.new.ensures.empty c.new-in-loop-task.ensures.items c.loop-task.invariant.1,
-    )
+  one_more c.loop-task.tasks.items c.push.new.self.items _ c.loop-task.task c.in_ok-push.ensures.items c.loop-task.invariant.0,
+  fresh_too g.O.Key.Ord.cmp c.loop-task.tasks.items c.push.new.self.items c.new.result c.new-in-loop-task.result c.in_ok-push.ensures.items c.new.ensures.empty c.new-in-loop-task.ensures.items c.loop-task.invariant.1,
+)
 
 pub loop-channel-init : goal.loop-channel-init
 loop-channel-init g c = (ap length c.new-channels.ensures.items, λ k. ap (λ l. records_of (slice_get l k)) c.new-channels.ensures.items)
 
 pub loop-channel-preserved : goal.loop-channel-preserved
 loop-channel-preserved g c = (
-      one_more c.loop-channel.channels.items c.push-in-loop-channel.new.self.items c.new-in-loop-channel.result c.loop-channel.channel c.in_ok-push-2.ensures.items c.loop-channel.invariant.0,
-      empty_too c.loop-channel.channels.items c.push-in-loop-channel.new.self.items c.new-in-loop-channel.result c.in_ok-push-2.ensures.items c.new-in-loop-channel.ensures.items c.loop-channel.invariant.1,
-    )
+  one_more c.loop-channel.channels.items c.push-in-loop-channel.new.self.items c.new-in-loop-channel.result c.loop-channel.channel c.in_ok-push-2.ensures.items c.loop-channel.invariant.0,
+  empty_too c.loop-channel.channels.items c.push-in-loop-channel.new.self.items c.new-in-loop-channel.result c.in_ok-push-2.ensures.items c.new-in-loop-channel.ensures.items c.loop-channel.invariant.1,
+)
 
 pub returns-in_err-push-clause-job : goal.returns-in_err-push-clause-job
 returns-in_err-push-clause-job g c = no_value c.from_residual.result _ c.from_residual.ensures.0

@@ -10,9 +10,9 @@ returns-in_default-clause-made g c = λ made. absurd (not_both false refl made)
 
 pub returns-in_default-clause-not_made : goal.returns-in_default-clause-not_made
 returns-in_default-clause-not_made g c = λ _. (
-      none_offered (job_of g.O.Operator.meaning c.args.self.now.job) (Work c.args.task c.args.input) (configuration_of g.O.Key.Ord.cmp c.args.self.now.configuration) (sym c.in_default.ensures),
-      refl,
-    )
+  none_offered (job_of g.O.Operator.meaning c.args.self.now.job) (Work c.args.task c.args.input) (configuration_of g.O.Key.Ord.cmp c.args.self.now.configuration) (sym c.in_default.ensures),
+  refl,
+)
 
 pub returns-in_err-taken-clause-made : goal.returns-in_err-taken-clause-made
 returns-in_err-taken-clause-made g c = no_value c.from_residual.result _ c.from_residual.ensures.0
