@@ -1,3 +1,4 @@
 pub mod Offered
 pub mod Made
+pub mod Lookups
 pub mod Queues

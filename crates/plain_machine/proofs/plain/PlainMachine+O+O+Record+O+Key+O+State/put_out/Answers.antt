@@ -1,6 +1,6 @@
-use Rattle.std.proofs.Common.{◌∙◌, refl}
+use Rattle.std.proofs.Common.{◌∙◌, refl, arith}
 use Rattle.std.specs.Vec.{with_item}
-use Rattle.plain_machine.proofs.Made.{sink_within, sink_made, unmade, on_err}
+use Rattle.plain_machine.proofs.Made.{sink_within, sink_made, unmade, on_err, on_error, no_value, memory_passed}
 use Rattle.plain_machine.proofs.plain.PlainMachine+O+O+Record+O+Key+O+State.put_out.Goals as goal
 
 pub returns-clause-made : goal.returns-clause-made
@@ -29,3 +29,22 @@ returns-in_err-push-clause-err g c =
     c.in_err-push.ensures.items
     refl
     refl)
+
+pub returns-in_err-queues-clause-made : goal.returns-in_err-queues-clause-made
+returns-in_err-queues-clause-made g c = no_value c.from_residual.result _ c.from_residual.ensures.0
+
+pub returns-in_err-queues-clause-err : goal.returns-in_err-queues-clause-err
+returns-in_err-queues-clause-err g c = on_err c.from_residual.result _ refl
+
+pub returns-in_err-queues-clause-memory : goal.returns-in_err-queues-clause-memory
+returns-in_err-queues-clause-memory g c = on_error c.from_residual.result _ (memory_passed c.from_residual.result c.in_err-queues.field-0.0 c.from_residual.ensures.1 c.in_err-queues.ensures.memory)
+
+pub returns-in_err-push-clause-made : goal.returns-in_err-push-clause-made
+returns-in_err-push-clause-made g c = no_value c.from_residual-in_err-push.result _ c.from_residual-in_err-push.ensures.0
+
+pub returns-in_err-push-clause-memory : goal.returns-in_err-push-clause-memory
+returns-in_err-push-clause-memory g c = on_error c.from_residual-in_err-push.result _ c.from_residual-in_err-push.ensures.1
+
+pub index_mut-held-requires : goal.index_mut-held-requires
+index_mut-held-requires g c =
+    omega (arith, c.args.self.now.all_tasks, sink_within g.O.Operator.meaning g.O.Key.Ord.cmp c.args.self.now.job c.args.self.now.configuration c.args.self.now.configuration c.args.task c.requires.sink)
