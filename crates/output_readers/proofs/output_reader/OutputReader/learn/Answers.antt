@@ -1,10 +1,10 @@
 use Rattle.std.proofs.Common.{le_trans, length, ap, sym, ◌∙◌, subst}
-use Rattle.output_readers.specs.Editions.{Follows}
-use Rattle.output_readers.specs.Rows.{rows_of}
+use Rattle.published_lists.specs.Editions.{Follows}
+use Rattle.published_lists.specs.Rows.{rows_of}
 use Rattle.output_readers.specs.Seeing.{Knowledge}
-use Rattle.output_readers.proofs.Beginnings.{begins_length}
-use Rattle.output_readers.proofs.EachRow.{length-each_take}
-use Rattle.output_readers.proofs.Growing.{follows_trans}
+use Rattle.published_lists.proofs.Beginnings.{begins_length}
+use Rattle.published_lists.proofs.EachRow.{length-each_take}
+use Rattle.published_lists.proofs.Growing.{follows_trans}
 use Rattle.output_readers.proofs.Knowing.{view_told}
 use Rattle.output_readers.proofs.output_reader.OutputReader.learn.Goals as goal
 
