@@ -1,6 +1,6 @@
 -- What a reader knows after a look.
-use Rattle.std.proofs.Common.{◌≡◌, ◌≢◌, ℕ, ◌+◌, ◌<◌, ◌≤◌, List, [], ◌∷◌, ◌++◌, map, take, length, get_or, set, sym, ap, ◌∙◌, subst}
-use Rattle.std.proofs.lemmas.List.{take_more, get_or-map, get_or-set_other, get_or-set_same, length-map}
+use Rattle.std.proofs.Common.{◌≡◌, ◌≢◌, ℕ, ◌<◌, ◌≤◌, List, take, length, get_or, set, sym, ap, ◌∙◌, subst}
+use Rattle.std.proofs.lemmas.List.{get_or-set_other, get_or-set_same}
 use Rattle.std.proofs.Math.Seq.{take-length}
 use Rattle.published_lists.specs.Beginnings.{IsBeginning, longer}
 use Rattle.published_lists.specs.Rows.{rows_of, EachBegins, each_take}

@@ -38,6 +38,15 @@ impl Model for OutputReader {
     ghost invariant = { λ r. IsReading r.told r.place r.read.items };
 }
 
+// `look`, by a name of this crate.
+fn looked(place: Told, ask: (Global, usize)) -> (Told, Result<Vec<Vec<u8>>, OutputFault>)
+    ensures grows { Follows place result.0 }
+    ensures rows { IfOk result.1 (λ rows.
+        map (λ row. row.items) rows.items ≡ rows_of result.0.lists ask.1) }
+{
+    look(place, ask)
+}
+
 // Of two editions of one history the one that follows the other.
 fn later(old: &Edition, new: &Edition) -> Edition
     requires { new.now.history ≡ old.now.history }
@@ -106,7 +115,7 @@ impl OutputReader {
         ensures subtasks { length self.new.read ≡ length self.old.read }
         ensures history { self.new.history ≡ self.old.history }
     {
-        let rows = replace_with(&mut self.place, (self.alloc, subtask), look)?;
+        let rows = replace_with(&mut self.place, (self.alloc, subtask), looked)?;
         note(self.read.as_mut_slice(), subtask, rows.len());
         Ok(rows)
     }
