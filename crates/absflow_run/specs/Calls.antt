@@ -3,6 +3,7 @@ use Rattle.std.specs.Prelude.{◌≡◌, ◌⊎◌, Bool, true, false, ℕ, ◌-
 use Rattle.abs_codec.specs.Spelling.{Fits, IsTextWithin, bytes_spelling}
 use Rattle.claims.specs.Carried.{given_of}
 use Rattle.claims.specs.declared.parts.Made.{Made}
+use Rattle.engine_model.specs.AllRules.{all_rules}
 use Rattle.engine_model.specs.Language.{Language}
 use Rattle.engine_model.specs.declared.fault.CoreFault.{CoreFault}
 use Rattle.dataflow_core.specs.Claims.{Refuses, Claims, EndsFinish}
@@ -15,7 +16,6 @@ use Rattle.dataflow_core.specs.declared.replies.Reply.TheVariants.{Accepted, Ref
 use Rattle.engine.specs.Rows.{row_language}
 use Rattle.engine_steps.specs.declared.step.Step.{Step}
 use Rattle.engine_steps.specs.declared.step.Step.TheVariants.{PersistSome}
-use Rattle.operators.specs.Operator.{IsGoodState}
 use Rattle.operators.specs.RowMeaning.{RowSuits}
 use Rattle.operators.specs.RowSpelling.{RowIsSpelled, row_spelling, StateIsSpelled, state_spelling}
 use Rattle.operators.specs.declared.row.Row.{Row}
@@ -53,7 +53,7 @@ RowJobs = DeskJobs RowOp (List ℕ) RowState Row
 -- the core's call may lead from the core and the desk to these, with this reply
 abbrev pub EndsCall : Step Row → Rows → RowJobs → Rows → RowJobs → Reply → Type 0
 EndsCall =
-    EndsStep row_language (Fits (IsTextWithin (2 ^ 32 - 1)) bytes_spelling) (Fits RowIsSpelled row_spelling) (IsGoodState (Fits StateIsSpelled state_spelling) RowSuits)
+    EndsStep (all_rules row_language (Fits RowIsSpelled row_spelling) (Fits (IsTextWithin (2 ^ 32 - 1)) bytes_spelling) (Fits StateIsSpelled state_spelling) RowSuits)
     (part_spelling row_spelling bytes_spelling state_spelling)
 
 -- The call that the step names is made, or the task's work is; a fault is accepted, and the core stays as it is.

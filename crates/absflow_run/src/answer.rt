@@ -69,9 +69,8 @@ fn reply_to<O: Operator, S: SnapshotStore, X: Transactions, P: Partitions<Record
     call: &Step<O::Record>,
 ) -> Reply
     requires { StepFits ⟦<O as Rules>⟧.RecordFits call.now }
-    ensures { EndsStep ⟦<O as Rules>⟧.lang ⟦<O as Rules>⟧.KeyFits ⟦<O as Rules>⟧.RecordFits
-        ⟦<O as Rules>⟧.IsGood ⟦<O as Rules>⟧.spelling call.now core.old desk.old core.new
-        desk.new result }
+    ensures { EndsStep ⟦<O as Rules>⟧.all ⟦<O as Rules>⟧.spelling call.now core.old desk.old
+        core.new desk.new result }
 {
     core.step(desk, call)
 }

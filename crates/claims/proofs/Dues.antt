@@ -16,9 +16,9 @@ use Rattle.job_state.specs.Batch.{Turn, OperatesEach}
 use Rattle.job_state.specs.Held.{Held, gate_at}
 use Rattle.job_state.specs.Sending.{items_at}
 use Rattle.job_state.specs.declared.holding.Holding.TheVariants as holds
+use Rattle.engine_model.specs.AllRules.{AllRules, IsGood}
 use Rattle.engine_model.specs.Calls.{input_at, IsBlocked, IsRecordDue}
 use Rattle.engine_model.specs.Keeps.{GateFits, Shape}
-use Rattle.engine_model.specs.Language.{Language}
 use Rattle.engine_model.proofs.Shape.Gates.{within_gate}
 use Rattle.engine_model.proofs.Numbers.{none_past, operator_within}
 use Rattle.claims.specs.Carried.{AreStatesOf, IsCarried, IsOperand, turns_given}
@@ -46,11 +46,11 @@ pub within_gates : {R K S : Type 0} (graph : Expanded) (h : Held R K S) → ((t 
     → input_at graph task input ≡ Some channel → input < length (gate_at h task).inputs
 within_gates graph h gates task input channel r at leads = within_gate graph h task (gates task (slice_get_within graph.tasks task r at)) input channel leads
 
-module _ {R K S O : Type 0} (lang : Language R K S O) (graph : Expanded) (operators : List O) (task input : ℕ) (h : Held R K S) (channel : ℕ) where
+module _ {R K S O : Type 0} (rules : AllRules R K S O) (graph : Expanded) (operators : List O) (task input : ℕ) (h : Held R K S) (channel : ℕ) where
   -- work that was copied is due
   pub copied_due : (number : ℕ) (entries : List (K × S)) (operator : O) (count : ℕ) (p : Operand O K S R) → slice_get graph.tasks task ≡ Some (role.Operator number) → slice_get operators number ≡ Some operator → input_at graph task input ≡ Some channel
       → ¬ IsBlocked task input h → slice_get h.tasks task ≡ Some (holds.Operator entries) → p.operator ≡ operator → count ≤ length (leading_records (items_at h.channels channel)) → p.rows.items ≡ take count (leading_records (items_at h.channels channel))
-      → AreStatesOf lang.cmp entries p.states → IsOperandDue lang graph operators task input h channel p
+      → AreStatesOf rules.lang.cmp entries p.states → IsOperandDue rules.lang graph operators task input h channel p
   copied_due number entries operator count p at op leads free was o within rows same =
       let items = items_at h.channels channel in
       let long : length p.rows.items ≡ count = ap (λ (rs : List R). length rs) rows ∙ length-take-le count (leading_records items) within in
@@ -74,7 +74,7 @@ module _ {R K S O : Type 0} (lang : Language R K S O) (graph : Expanded) (operat
 
   module _ (number : ℕ) (entries : List (K × S)) (operator : O) (count most : ℕ) (p : Operand O K S R) (row : R) (at : slice_get graph.tasks task ≡ Some (role.Operator number)) (op : slice_get operators number ≡ Some operator) (was : slice_get h.tasks task ≡ Some (holds.Operator entries))
       (due : IsRecordDue task input h channel row) (o : p.operator ≡ operator) (all : count ≡ length (leading_records (items_at h.channels channel))) (some : 0 < most) (rows : p.rows.items ≡ take (min count most) (leading_records (items_at h.channels channel)))
-      (carried : IsCarried lang.meaning lang.cmp entries p) where
+      (carried : IsCarried rules.lang.meaning rules.lang.cmp entries p) where
     -- a record is carried at least
     one_at_least : 0 < length p.rows.items
     one_at_least =
@@ -83,29 +83,29 @@ module _ {R K S O : Type 0} (lang : Language R K S O) (graph : Expanded) (operat
         omega arith
 
     -- what is carried is offered
-    pub offered : input_at graph task input ≡ Some channel → (work : Given O K S R) → work ≡ given.Operator p → EndsOffer lang graph operators task input h most (Ok work)
+    pub offered : input_at graph task input ≡ Some channel → (work : Given O K S R) → work ≡ given.Operator p → EndsOffer rules.lang graph operators task input h most (Ok work)
     offered leads work is =
-        subst (λ (g : Given O K S R). EndsOffer lang graph operators task input h most (Ok g)) (sym is) (
+        subst (λ (g : Given O K S R). EndsOffer rules.lang graph operators task input h most (Ok g)) (sym is) (
           (channel, copied_due number entries operator (min count most) p at op leads due.0 was o (omega arith) rows carried.same),
           (one_at_least, (channel, leads, takes_most count most p.rows.items some all rows)),
         )
 
     -- and is whole
-    pub offered_whole : (RecordFits : R → Type 0) (IsGood : O → S → Type 0) → Shape lang.cmp RecordFits IsGood graph operators h → IsOperand lang.meaning lang.cmp RecordFits IsGood p
-    offered_whole RecordFits IsGood shape =
-        carried_whole lang.meaning lang.cmp RecordFits IsGood entries p carried one_at_least (subst (All RecordFits) (sym rows) (All-take RecordFits (min count most) (leading_records (items_at h.channels channel)) (leading_fit RecordFits (items_at h.channels channel) (shape.fit channel))))
-        (λ key state found. subst (λ (x : O). IsGood x state) (sym o) (shape.good task number operator entries key state at op was found))
+    pub offered_whole : Shape rules graph operators h → IsOperand rules p
+    offered_whole shape =
+        carried_whole rules entries p carried one_at_least (subst (All rules.RecordFits) (sym rows) (All-take rules.RecordFits (min count most) (leading_records (items_at h.channels channel)) (leading_fit rules.RecordFits (items_at h.channels channel) (shape.fit channel))))
+        (λ key state found. subst (λ (x : O). IsGood rules x state) (sym o) (shape.good task number operator entries key state at op was found))
 
   -- what was made of work that is due is what the operator would make, step by step
-  pub takes_outcomes : (RecordFits : R → Type 0) (IsGood : O → S → Type 0) (k : Held R K S) (ledger : Ledger) (p : Operand O K S R) → IsOperandDue lang graph operators task input h channel p → IsOperand lang.meaning lang.cmp RecordFits IsGood p
-      → OperatesEach lang.meaning lang.cmp graph task input channel (turns_given lang.meaning lang.cmp p) h k → (u : Unit) → EndsTaking lang graph operators task input h k ledger ledger (given.Operator p) (Ok u)
-  takes_outcomes RecordFits IsGood k ledger p due whole each u =
-      let turns = worked_same lang.meaning lang.cmp p due.entries whole.keyed due.same_states in
+  pub takes_outcomes : (k : Held R K S) (ledger : Ledger) (p : Operand O K S R) → IsOperandDue rules.lang graph operators task input h channel p → IsOperand rules p
+      → OperatesEach rules.lang.meaning rules.lang.cmp graph task input channel (turns_given rules.lang.meaning rules.lang.cmp p) h k → (u : Unit) → EndsTaking rules.lang graph operators task input h k ledger ledger (given.Operator p) (Ok u)
+  takes_outcomes k ledger p due whole each u =
+      let turns = worked_same rules.lang.meaning rules.lang.cmp p due.entries whole.keyed due.same_states in
       record {
         channel = channel;
         due = due;
         works =
-            worked_in_turn lang p.operator graph task input channel p.rows.items (value_at lang.cmp due.entries) due.entries h k due.first.0 due.was refl
-            (subst (λ (ts : List (Turn R K S)). OperatesEach lang.meaning lang.cmp graph task input channel ts h k) turns each);
+            worked_in_turn rules.lang p.operator graph task input channel p.rows.items (value_at rules.lang.cmp due.entries) due.entries h k due.first.0 due.was refl
+            (subst (λ (ts : List (Turn R K S)). OperatesEach rules.lang.meaning rules.lang.cmp graph task input channel ts h k) turns each);
         stays = refl;
       }

@@ -1,6 +1,5 @@
 -- What a running job gives a task's work.
 use Rattle.std.proofs.Common.{◌≡◌, ◌<◌, Some, None, slice_get, length, ℕ, List, sym, subst, arith}
-use Rattle.std.specs.declared.cmp.Ordering.{Ordering}
 use Rattle.std.proofs.lemmas.Option.{slice_get_within}
 use Rattle.commit_sink.specs.Ledger.{Ledger, open_refusal}
 use Rattle.commit_sink.specs.Sink.{Sinking}
@@ -9,12 +8,13 @@ use Rattle.job_graph.specs.declared.role.Role.{Role}
 use Rattle.job_graph.specs.declared.role.Role.TheVariants as role
 use Rattle.job_state.specs.Held.{Held}
 use Rattle.job_state.specs.declared.holding.Holding.TheVariants as holds
+use Rattle.engine_model.specs.AllRules.{AllRules}
 use Rattle.engine_model.specs.Keeps.{GateFits}
 use Rattle.engine_model.proofs.Ledger.Sinks.{open_not_refused}
 use Rattle.engine_model.proofs.Numbers.{none_past, operator_within, sink_within}
 use Rattle.claims.specs.Tasks.{Serves}
 
-module _ {R K S O : Type 0} (cmp : K → K → Ordering) (RecordFits : R → Type 0) (IsGood : O → S → Type 0) (graph : Expanded) (operators : List O) (ledger : Ledger) (h : Held R K S) (serves : Serves cmp RecordFits IsGood graph operators ledger h) (task : ℕ) where
+module _ {R K S O : Type 0} (rules : AllRules R K S O) (graph : Expanded) (operators : List O) (ledger : Ledger) (h : Held R K S) (serves : Serves rules graph operators ledger h) (task : ℕ) where
   -- a task has its place among the copies
   pub copies_within : (r : Role) → slice_get graph.tasks task ≡ Some r → task < length h.copies
   copies_within r at = let less = slice_get_within graph.tasks task r at in omega (arith, less, serves.shape.copies)

@@ -22,6 +22,7 @@ use Rattle.claims.specs.Carried.{states_given, turns_given, HasItsState, AreStat
 use Rattle.claims.specs.Left.{either, left_over, state_left, made_of, WorksRow, AllGood}
 use Rattle.claims.specs.declared.parts.Operand.{Operand}
 use Rattle.claims.specs.declared.parts.Outcomes.{Outcomes}
+use Rattle.engine_model.specs.AllRules.{AllRules, IsGood}
 
 -- the rest of the records is to be worked
 pub record IsWorking {R K S O : Type 0} (meaning : Meaning R K S O) (cmp : K → K → Ordering) (p : Operand O K S R) (rest : List R) (left : List (K × S)) (sent : List (ℕ × R)) : Type 0 where
@@ -135,16 +136,16 @@ module _ {R K S O : Type 0} (meaning : Meaning R K S O) (cmp : K → K → Order
   worked_same p entries keyed same =
       turns_same meaning p.operator p.rows.items (states_given cmp p.states) (value_at cmp entries) (λ i d less key is. given_is p.states entries key (keyed i d less key is) same)
 
-  -- what is carried is whole
-  pub carried_whole : (RecordFits : R → Type 0) (IsGood : O → S → Type 0) (entries : List (K × S)) (p : Operand O K S R) → IsCarried meaning cmp entries p → 0 < length p.rows.items → All RecordFits p.rows.items
-      → ((key : K) (state : S) → value_at cmp entries key ≡ Some state → IsGood p.operator state) → IsOperand meaning cmp RecordFits IsGood p
-  carried_whole RecordFits IsGood entries p carried some fit good = record {
-    rising = carried.rising;
-    keyed = carried.keyed;
-    some = some;
-    fit = fit;
-    good = λ key state found. good key state (carried.same key (Some state) found);
-  }
+-- what is carried is whole
+pub carried_whole : {R K S O : Type 0} (rules : AllRules R K S O) (entries : List (K × S)) (p : Operand O K S R) → IsCarried rules.lang.meaning rules.lang.cmp entries p → 0 < length p.rows.items → All rules.RecordFits p.rows.items
+    → ((key : K) (state : S) → value_at rules.lang.cmp entries key ≡ Some state → IsGood rules p.operator state) → IsOperand rules p
+carried_whole rules entries p carried some fit good = record {
+  rising = carried.rising;
+  keyed = carried.keyed;
+  some = some;
+  fit = fit;
+  good = λ key state found. good key state (carried.same key (Some state) found);
+}
 
 -- the entries have the state of the place, or none where it has none
 abbrev pub Has : {K S : Type 0} → (K → K → Ordering) → List (K × S) → K × Option S → Type 0

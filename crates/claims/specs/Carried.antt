@@ -12,6 +12,7 @@ use Rattle.claims.specs.declared.parts.Given.{Given}
 use Rattle.claims.specs.declared.parts.Given.TheVariants as given
 use Rattle.claims.specs.declared.parts.Made.{Made}
 use Rattle.claims.specs.declared.parts.Made.TheVariants as made
+use Rattle.engine_model.specs.AllRules.{AllRules, IsGood}
 
 module _ {K S : Type 0} where
   -- the states that are given, by key
@@ -48,14 +49,14 @@ module _ {R K S O : Type 0} where
   abbrev pub turns_given : Meaning R K S O → (K → K → Ordering) → Operand O K S R → List (Turn R K S)
   turns_given meaning cmp p = turns_of meaning p.operator p.rows.items (states_given cmp p.states)
 
-  module _ (meaning : Meaning R K S O) (cmp : K → K → Ordering) (RecordFits : R → Type 0) (IsGood : O → S → Type 0) where
+  module _ (rules : AllRules R K S O) where
     -- Each record's key has its place among the states, which stand by rising keys; the records fit, and the states are good.
     pub record IsOperand (p : Operand O K S R) : Type 0 where
-      pub rising : IsStrictlySortedBy cmp (keys_of p.states)
-      pub keyed : All (HasItsState meaning cmp p.operator p.states) p.rows.items
+      pub rising : IsStrictlySortedBy rules.lang.cmp (keys_of p.states)
+      pub keyed : All (HasItsState rules.lang.meaning rules.lang.cmp p.operator p.states) p.rows.items
       pub some : 0 < length p.rows.items
-      pub fit : All RecordFits p.rows.items
-      pub good : (key : K) (state : S) → value_at cmp p.states key ≡ Some (Some state) → IsGood p.operator state
+      pub fit : All rules.RecordFits p.rows.items
+      pub good : (key : K) (state : S) → value_at rules.lang.cmp p.states key ≡ Some (Some state) → IsGood rules p.operator state
 
     abbrev pub IsGiven : Given O K S R → Type 0
     IsGiven (given.Operator operand) = IsOperand operand
@@ -75,8 +76,8 @@ module _ {R K S O : Type 0} where
       pub last : AreLastStates meaning.same_key (turns_given meaning cmp p) outcomes.states.items
       pub rising : IsStrictlySortedBy cmp (keys_of outcomes.states.items)
 
-    -- what was made is what the work means: an operator's outcomes, or the spelling of a sink's record
-    abbrev pub IsMade : (RecordFits : R → Type 0) → (IsGood : O → S → Type 0) → (R → List ℕ) → Made O K S R → Type 0
-    IsMade RecordFits IsGood spelling (made.Operator operand outcomes) = IsOperand meaning cmp RecordFits IsGood operand × IsOutcome operand outcomes
-    IsMade RecordFits IsGood spelling (made.Sink row bytes) = bytes.items ≡ spelling row
-    IsMade RecordFits IsGood spelling (made.Refused work) = IsGiven meaning cmp RecordFits IsGood work
+  -- what was made is what the work means: an operator's outcomes, or the spelling of a sink's record
+  abbrev pub IsMade : (rules : AllRules R K S O) → (R → List ℕ) → Made O K S R → Type 0
+  IsMade rules spelling (made.Operator operand outcomes) = IsOperand rules operand × IsOutcome rules.lang.meaning rules.lang.cmp operand outcomes
+  IsMade rules spelling (made.Sink row bytes) = bytes.items ≡ spelling row
+  IsMade rules spelling (made.Refused work) = IsGiven rules work

@@ -1,6 +1,5 @@
 -- How the calls end in which a task takes what stands at the head of its input.
 use Rattle.std.specs.Prelude.{◌≡◌, ℕ, List, Option, Some, None, Result, Err, count_by, slice_get}
-use Rattle.std.specs.declared.cmp.Ordering.{Ordering}
 use Rattle.alignment.specs.declared.input.Effect.{Effect}
 use Rattle.commit_sink.specs.Ledger.{Ledger}
 use Rattle.commit_sink.specs.Sink.{Sinking}
@@ -10,6 +9,7 @@ use Rattle.job_graph.specs.declared.role.Role.{Role}
 use Rattle.job_graph.specs.declared.role.Role.TheVariants as role
 use Rattle.job_state.specs.Held.{Held}
 use Rattle.job_state.specs.declared.holding.Holding.TheVariants as holds
+use Rattle.engine_model.specs.AllRules.{AllRules}
 use Rattle.engine_model.specs.Calls.{input_at, IsBlocked, NoRecord, EndsOperate, EndsPutOut, EndsOperatorBarrier, EndsSinkBarrier}
 use Rattle.engine_model.specs.Keeps.{Shape, SinkIn}
 use Rattle.engine_model.specs.Language.{Language}
@@ -17,11 +17,11 @@ use Rattle.engine_model.specs.declared.fault.CoreFault.{CoreFault}
 use Rattle.engine_model.specs.declared.fault.CoreFault.TheVariants.{NoSuchTask, NotReady, ChannelBlocked}
 
 -- what a running job holds, by its graph, its operators and its transactions
-pub record Serves {R K S O : Type 0} (cmp : K → K → Ordering) (RecordFits : R → Type 0) (IsGood : O → S → Type 0) (graph : Expanded) (operators : List O) (ledger : Ledger) (held : Held R K S) : Type 0 where
+pub record Serves {R K S O : Type 0} (rules : AllRules R K S O) (graph : Expanded) (operators : List O) (ledger : Ledger) (held : Held R K S) : Type 0 where
   pub expanded : IsExpanded graph
   pub given : HaveOperators graph operators
   pub subtasks : ledger.subtasks ≡ count_by is_sink graph.tasks
-  pub shape : Shape cmp RecordFits IsGood graph operators held
+  pub shape : Shape rules graph operators held
   pub sinks : (task subtask : ℕ) (sink : Sinking) → slice_get graph.tasks task ≡ Some (role.Sink subtask) → slice_get held.tasks task ≡ Some (holds.Sink sink) → SinkIn ledger subtask sink
 
 module _ {R K S : Type 0} (task input channel : ℕ) (h : Held R K S) where

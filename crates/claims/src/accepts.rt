@@ -35,8 +35,7 @@ fn operate<O: Operator>(
     outcomes: Outcomes<O::Key, O::State, O::Record>,
 ) -> Result<(), NoMemory>
     ghost turns: { List (Turn O.Record O.Key O.State) }
-    requires shape { (operators : List O) × Shape O.Key.cmp ⟦<O as Rules>⟧.RecordFits
-        ⟦<O as Rules>⟧.IsGood graph.now operators attempt.old
+    requires shape { (operators : List O) × Shape ⟦<O as Rules>⟧.all graph.now operators attempt.old
         × IsOperandDue ⟦<O as Rules>⟧.lang graph.now operators task input attempt.old channel
         operand }
     requires outcomes { IsOutcome O.meaning O.Key.cmp operand outcomes }
@@ -67,10 +66,9 @@ fn accept_outcomes<O: Operator>(
     operand: Operand<O, O::Key, O::State, O::Record>,
     outcomes: Outcomes<O::Key, O::State, O::Record>,
 ) -> Result<(), CoreFault>
-    requires serves { (ledger : Ledger) × Serves O.Key.cmp ⟦<O as Rules>⟧.RecordFits
-        ⟦<O as Rules>⟧.IsGood graph.now operators.now ledger attempt.old }
-    requires operand { IsOperand O.meaning O.Key.cmp ⟦<O as Rules>⟧.RecordFits
-        ⟦<O as Rules>⟧.IsGood operand }
+    requires serves { (ledger : Ledger) × Serves ⟦<O as Rules>⟧.all
+        graph.now operators.now ledger attempt.old }
+    requires operand { IsOperand ⟦<O as Rules>⟧.all operand }
     requires outcomes { IsOutcome O.meaning O.Key.cmp operand outcomes }
     ensures told { result ≢ Err CoreFault.Device }
     ensures ends { (ledger : Ledger) → EndsTaking ⟦<O as Rules>⟧.lang graph.now operators.now task
@@ -135,8 +133,8 @@ fn accept_row<O: Operator, X: Transactions>(
     row: &O::Record,
     bytes: &[u8],
 ) -> Result<(), CoreFault>
-    requires serves { (operators : List O) × Serves O.Key.cmp ⟦<O as Rules>⟧.RecordFits
-        ⟦<O as Rules>⟧.IsGood graph.now operators (X.state transactions.old) attempt.old }
+    requires serves { (operators : List O) × Serves ⟦<O as Rules>⟧.all
+        graph.now operators (X.state transactions.old) attempt.old }
     requires spelled { bytes.now ≡ O.Record.spelling row.now }
     ensures ends { (operators : List O)
         → EndsTaking ⟦<O as Rules>⟧.lang graph.now operators task input attempt.old attempt.new
@@ -164,7 +162,7 @@ pub fn accept<O: Operator, X: Transactions>(
     input: u32,
     worked: Worked<O>,
 ) -> Result<(), CoreFault>
-    requires serves { Serves O.Key.cmp ⟦<O as Rules>⟧.RecordFits ⟦<O as Rules>⟧.IsGood graph.now
+    requires serves { Serves ⟦<O as Rules>⟧.all graph.now
         operators.now (X.state transactions.old) attempt.old }
     ensures ends { EndsAccept ⟦<O as Rules>⟧.lang graph.now operators.now task input attempt.old
         attempt.new (X.state transactions.old) (X.state transactions.new) worked result }

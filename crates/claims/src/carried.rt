@@ -25,7 +25,8 @@ pub struct Work<O: Operator> {
 
 impl<O: Operator> Model for Work<O> {
     ghost use Rattle.abs_codec.specs.Spelling.{Fits};
-    ghost use Rattle.operators.specs.Operator.{IsGoodState};
+    ghost use Rattle.engine_model.specs.AllRules.{all_rules};
+    ghost use Rattle.engine_model.specs.Language.{language};
     ghost use Rattle.claims.specs.declared.parts.Given.{Given};
     ghost use Rattle.claims.specs.Carried.{IsGiven};
 
@@ -33,9 +34,10 @@ impl<O: Operator> Model for Work<O> {
 
     ghost view = { λ w. w.given };
 
-    ghost invariant = { λ w. IsGiven O.meaning O.Key.cmp
-        (Fits O.Record.HasSpelling O.Record.spelling)
-        (IsGoodState (Fits O.State.HasSpelling O.State.spelling) O.Suits) w.given };
+    ghost invariant = { λ w. IsGiven (all_rules (language O.meaning O.Key.cmp
+        O.Record.spelling O.Record.reading O.Key.reading O.State.reading)
+        (Fits O.Record.HasSpelling O.Record.spelling) (Fits O.Key.HasSpelling O.Key.spelling)
+        (Fits O.State.HasSpelling O.State.spelling) O.Suits) w.given };
 }
 
 /// Work that was done, or for which memory was refused, with what it was made of.
@@ -46,7 +48,8 @@ pub struct Worked<O: Operator> {
 
 impl<O: Operator> Model for Worked<O> {
     ghost use Rattle.abs_codec.specs.Spelling.{Fits};
-    ghost use Rattle.operators.specs.Operator.{IsGoodState};
+    ghost use Rattle.engine_model.specs.AllRules.{all_rules};
+    ghost use Rattle.engine_model.specs.Language.{language};
     ghost use Rattle.claims.specs.declared.parts.Made.{Made};
     ghost use Rattle.claims.specs.Carried.{IsMade};
 
@@ -54,10 +57,10 @@ impl<O: Operator> Model for Worked<O> {
 
     ghost view = { λ w. w.made };
 
-    ghost invariant = { λ w. IsMade O.meaning O.Key.cmp
-        (Fits O.Record.HasSpelling O.Record.spelling)
-        (IsGoodState (Fits O.State.HasSpelling O.State.spelling) O.Suits)
-        O.Record.spelling w.made };
+    ghost invariant = { λ w. IsMade (all_rules (language O.meaning O.Key.cmp
+        O.Record.spelling O.Record.reading O.Key.reading O.State.reading)
+        (Fits O.Record.HasSpelling O.Record.spelling) (Fits O.Key.HasSpelling O.Key.spelling)
+        (Fits O.State.HasSpelling O.State.spelling) O.Suits) O.Record.spelling w.made };
 }
 
 /// The state under a record's key: the one that was left, or else the one that was given.
@@ -85,8 +88,7 @@ fn outcome_of<O: Operator>(
     row: &O::Record,
 ) -> Result<Outcome<O::State, O::Record>, NoMemory>
     requires key { key.now ≡ O.meaning.key operand.now.operator row.now }
-    requires operand { IsOperand O.meaning O.Key.cmp ⟦<O as Rules>⟧.RecordFits
-        ⟦<O as Rules>⟧.IsGood operand.now }
+    requires operand { IsOperand ⟦<O as Rules>⟧.all operand.now }
     requires fits { ⟦<O as Rules>⟧.RecordFits row.now }
     requires good { AllGood O.Key.cmp (⟦<O as Rules>⟧.IsGood operand.now.operator) left.now }
     ensures state { IfOk result (λ outcome. outcome.state
@@ -111,8 +113,7 @@ fn work_row<O: Operator>(
     left: &mut Map<O::Key, O::State>,
     sent: &mut Vec<(u32, O::Record)>,
 ) -> Result<(), NoMemory>
-    requires operand { IsOperand O.meaning O.Key.cmp ⟦<O as Rules>⟧.RecordFits
-        ⟦<O as Rules>⟧.IsGood operand.now }
+    requires operand { IsOperand ⟦<O as Rules>⟧.all operand.now }
     requires fits { ⟦<O as Rules>⟧.RecordFits row.now }
     requires good { AllGood O.Key.cmp (⟦<O as Rules>⟧.IsGood operand.now.operator) left.old }
     ensures works { OnOk result (WorksRow O.meaning O.Key.cmp operand.now left.old row.now
@@ -137,12 +138,7 @@ fn entries_of<K: Ord + Drop, S: Drop>(
     ensures entries { IfOk result (λ entries. entries.items ≡ map) }
     ensures rising { IsStrictlySortedBy K.cmp (keys_of map) }
 {
-    let mut entries = Vec::with_capacity(alloc, map.len())?;
-    let mut rest = map.into_btree_map();
-    while let Some(entry) = rest.pop_first() {
-        entries.push(entry)?;
-    }
-    Ok(entries)
+    Ok(map.into_btree_map().into_iter().collect(alloc)?)
 }
 
 /// What an operator makes of its records, from the first to the last, each in the state that the
@@ -151,8 +147,7 @@ fn outcomes_of<O: Operator>(
     alloc: Global,
     operand: &Operand<O, O::Key, O::State, O::Record>,
 ) -> Result<Outcomes<O::Key, O::State, O::Record>, NoMemory>
-    requires { IsOperand O.meaning O.Key.cmp ⟦<O as Rules>⟧.RecordFits ⟦<O as Rules>⟧.IsGood
-        operand.now }
+    requires { IsOperand ⟦<O as Rules>⟧.all operand.now }
     ensures { IfOk result (IsOutcome O.meaning O.Key.cmp operand.now) }
 {
     let mut left = Map::new(alloc);
@@ -169,8 +164,7 @@ fn worked_operand<O: Operator>(
     alloc: Global,
     operand: Operand<O, O::Key, O::State, O::Record>,
 ) -> Worked<O>
-    requires { IsOperand O.meaning O.Key.cmp ⟦<O as Rules>⟧.RecordFits ⟦<O as Rules>⟧.IsGood
-        operand }
+    requires { IsOperand ⟦<O as Rules>⟧.all operand }
     ensures { given_of result ≡ Given.Operator operand }
 {
     match outcomes_of(alloc, &operand) {

@@ -139,8 +139,7 @@ pub(crate) fn operand_channel<O: Operator>(
     input: u32,
     operand: &Operand<O, O::Key, O::State, O::Record>,
 ) -> Option<u32>
-    requires shape { Shape O.Key.cmp ⟦<O as Rules>⟧.RecordFits ⟦<O as Rules>⟧.IsGood graph.now
-        operators.now attempt.now }
+    requires shape { Shape ⟦<O as Rules>⟧.all graph.now operators.now attempt.now }
     ensures some { IfSome result (λ channel. IsOperandDue ⟦<O as Rules>⟧.lang graph.now
         operators.now task input attempt.now channel operand.now) }
     ensures none { IfNone result ((channel : ℕ) → ¬ IsOperandDue ⟦<O as Rules>⟧.lang graph.now
@@ -197,8 +196,7 @@ pub(crate) fn is_due<O: Operator>(
     input: u32,
     given: &Given<O, O::Key, O::State, O::Record>,
 ) -> bool
-    requires shape { Shape O.Key.cmp ⟦<O as Rules>⟧.RecordFits ⟦<O as Rules>⟧.IsGood graph.now
-        operators.now attempt.now }
+    requires shape { Shape ⟦<O as Rules>⟧.all graph.now operators.now attempt.now }
     ensures { IsTrue result
         ↔ IsDue ⟦<O as Rules>⟧.lang graph.now operators.now task input attempt.now given.now }
 {

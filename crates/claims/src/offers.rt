@@ -141,8 +141,7 @@ pub fn offer<O: Operator>(
     requires some { 0 < most }
     requires expanded { IsExpanded graph.now }
     requires given { HaveOperators graph.now operators.now }
-    requires shape { Shape O.Key.cmp ⟦<O as Rules>⟧.RecordFits ⟦<O as Rules>⟧.IsGood graph.now
-        operators.now attempt.now }
+    requires shape { Shape ⟦<O as Rules>⟧.all graph.now operators.now attempt.now }
     ensures { EndsOffer ⟦<O as Rules>⟧.lang graph.now operators.now task input attempt.now most
         result }
 {

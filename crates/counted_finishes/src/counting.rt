@@ -32,8 +32,7 @@ pub fn finish_counted<
     ensures within { Within book.new.total core.new }
     ensures ends { EndsFinish core.old ⟦<O as Rules>⟧.lang core.new done.attempt done.serial
         done.worked result }
-    ensures step { IsStep ⟦<O as Rules>⟧.lang ⟦<O as Rules>⟧.RecordFits core.old.engine
-        core.new.engine }
+    ensures step { IsStep ⟦<O as Rules>⟧.all core.old.engine core.new.engine }
     ensures plain { FinishMoves core.old ⟦<O as Rules>⟧.lang core.new done.attempt
         done.serial done.worked result }
     ensures total { MatchResult result (λ _. book.new.total ≡ book.old.total
@@ -60,8 +59,7 @@ fn finish<O: Operator, S: SnapshotStore, X: Transactions, P: Partitions<Record =
 ) -> Result<(), CoreFault>
     ensures ends { EndsFinish core.old ⟦<O as Rules>⟧.lang core.new done.attempt done.serial
         done.worked result }
-    ensures step { IsStep ⟦<O as Rules>⟧.lang ⟦<O as Rules>⟧.RecordFits core.old.engine
-        core.new.engine }
+    ensures step { IsStep ⟦<O as Rules>⟧.all core.old.engine core.new.engine }
     ensures plain { FinishMoves core.old ⟦<O as Rules>⟧.lang core.new done.attempt
         done.serial done.worked result }
     ensures claims { EndsAClaim core.old core.new result }

@@ -2,7 +2,7 @@
 use Rattle.std.proofs.Common.{◌≡◌, Option, Result, ℕ, List, [], ◌++◌, slice_get, sym, ap, subst, ◌∙◌, append_assoc}
 use Rattle.std.proofs.lemmas.List.{append-nil}
 use Rattle.commit_sink.specs.Ledger.{committed_rows}
-use Rattle.engine_model.specs.Language.{Language}
+use Rattle.engine_model.specs.AllRules.{AllRules}
 use Rattle.engine_model.specs.Sound.{IsSound}
 use Rattle.engine_model.specs.State.{State}
 use Rattle.engine_model.specs.declared.fault.CoreFault.{CoreFault}
@@ -16,24 +16,24 @@ begins_on xs ys zs one two = (one.0 ++ two.0, two.1 ∙ ap (λ l. l ++ two.0) on
 begins_same : {A : Type 0} (xs ys : List A) → ys ≡ xs → Begins xs ys
 begins_same xs ys e = ([], e ∙ sym (append-nil xs))
 
-module _ {R K S O : Type 0} (lang : Language R K S O) (RecordFits : R → Type 0) where
-  pub of_step : (old new : State O R K S) → IsStep lang RecordFits old new → Preserves lang RecordFits old new
+module _ {R K S O : Type 0} (rules : AllRules R K S O) where
+  pub of_step : (old new : State O R K S) → IsStep rules old new → Preserves rules old new
   of_step old new s = record { same = s.same; sound = s.sound; begins = s.begins }
 
-  pub of_restart : (old new : State O R K S) (result : Result (Option ℕ) CoreFault) → IsRestart lang RecordFits old new result → Preserves lang RecordFits old new
+  pub of_restart : (old new : State O R K S) (result : Result (Option ℕ) CoreFault) → IsRestart rules old new result → Preserves rules old new
   of_restart old new result s = record { same = s.same; sound = s.sound; begins = λ task subtask at. s.begins subtask }
 
   -- where nothing changes
-  pub of_none : (old new : State O R K S) → new ≡ old → Preserves lang RecordFits old new
+  pub of_none : (old new : State O R K S) → new ≡ old → Preserves rules old new
   of_none old new e =
       record {
         same = (ap (λ (s : State O R K S). s.graph) e, ap (λ (s : State O R K S). s.operators) e, ap (λ (s : State O R K S). s.is_fresh) e);
-        sound = λ sound. subst (λ (s : State O R K S). IsSound lang RecordFits s) (sym e) sound;
+        sound = λ sound. subst (λ (s : State O R K S). IsSound rules s) (sym e) sound;
         begins = λ task subtask at. begins_same (committed_rows old.ledger subtask) (committed_rows new.ledger subtask) (ap (λ (s : State O R K S). committed_rows s.ledger subtask) e);
       }
 
   -- a record is put last in a partition, and the committed rows stay
-  pub of_append : (old new : State O R K S) → new ≡ record old { partitions = new.partitions; faults = new.faults } → (IsSound lang RecordFits old → IsSound lang RecordFits new) → Preserves lang RecordFits old new
+  pub of_append : (old new : State O R K S) → new ≡ record old { partitions = new.partitions; faults = new.faults } → (IsSound rules old → IsSound rules new) → Preserves rules old new
   of_append old new e sound =
       record {
         same = (ap (λ (s : State O R K S). s.graph) e, ap (λ (s : State O R K S). s.operators) e, ap (λ (s : State O R K S). s.is_fresh) e);
@@ -41,7 +41,7 @@ module _ {R K S O : Type 0} (lang : Language R K S O) (RecordFits : R → Type 0
         begins = λ task subtask at. begins_same (committed_rows old.ledger subtask) (committed_rows new.ledger subtask) (ap (λ (s : State O R K S). committed_rows s.ledger subtask) e);
       }
 
-  pub of_both : (old middle new : State O R K S) → Preserves lang RecordFits old middle → Preserves lang RecordFits middle new → Preserves lang RecordFits old new
+  pub of_both : (old middle new : State O R K S) → Preserves rules old middle → Preserves rules middle new → Preserves rules old new
   of_both old middle new one two =
       record {
         same = (two.same.0 ∙ one.same.0, two.same.1 ∙ one.same.1, two.same.2 ∙ one.same.2);

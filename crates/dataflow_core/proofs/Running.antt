@@ -1,6 +1,7 @@
 -- Lists of calls, one call longer.
 use Rattle.std.proofs.Common.{◌≡◌, ℕ, Option, Some, MatchOption, List, [], ◌∷◌, ◌++◌, refl, sym, subst}
 use Rattle.task_part.specs.declared.part.Part.{Part}
+use Rattle.engine_model.specs.AllRules.{AllRules}
 use Rattle.engine_model.specs.Language.{Language}
 use Rattle.dataflow_core.specs.CoreState.{CoreState}
 use Rattle.dataflow_core.specs.Desks.{ClaimedJob, DeskJobs, job_at}
@@ -14,12 +15,12 @@ pub finishes_job : {R K S O : Type 0} (old : CoreState O R K S) (desk : DeskJobs
 finishes_job {R} {K} {S} {O} old desk new left reply lang number job at ends =
     subst (λ (o : Option (ClaimedJob O K S R)). MatchOption o (EndsNoJob old desk new left reply) (EndsJob old desk new left reply lang number)) (sym at) ends
 
-module _ {R K S O : Type 0} (lang : Language R K S O) (KeyFits : K → Type 0) (RecordFits : R → Type 0) (IsGood : O → S → Type 0) (spelling : Part R K S → List ℕ) where
+module _ {R K S O : Type 0} (rules : AllRules R K S O) (spelling : Part R K S → List ℕ) where
   abbrev Run : CoreState O R K S → DeskJobs O K S R → List (Step R) → List Reply → CoreState O R K S → DeskJobs O K S R → Type 0
-  Run = IsRun lang KeyFits RecordFits IsGood spelling
+  Run = IsRun rules spelling
 
   abbrev Ends : Step R → CoreState O R K S → DeskJobs O K S R → CoreState O R K S → DeskJobs O K S R → Reply → Type 0
-  Ends = EndsStep lang KeyFits RecordFits IsGood spelling
+  Ends = EndsStep rules spelling
 
   pub run_more : (steps : List (Step R)) (replies : List Reply) (old middle new : CoreState O R K S) (desk between left : DeskJobs O K S R) (step : Step R) (reply : Reply)
       → Run old desk steps replies middle between → Ends step middle between new left reply → Run old desk (steps ++ step ∷ []) (replies ++ reply ∷ []) new left

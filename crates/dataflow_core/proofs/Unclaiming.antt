@@ -1,6 +1,6 @@
 -- Calls that make many steps, which want a job that runs, and no claim out.
 use Rattle.std.proofs.Common.{◌≡◌, ◌≢◌, ◌⊎◌, inl, inr, Option, Some, None, Result, Err, MatchOption, List, [], refl, ap, subst, sym}
-use Rattle.engine_model.specs.Language.{Language}
+use Rattle.engine_model.specs.AllRules.{AllRules}
 use Rattle.engine_model.specs.State.{State}
 use Rattle.engine_model.specs.declared.fault.CoreFault.{CoreFault}
 use Rattle.engine_model.specs.declared.fault.CoreFault.TheVariants.{NotRunning, Busy}
@@ -12,9 +12,9 @@ use Rattle.dataflow_core.specs.CoreState.{CoreState}
 use Rattle.dataflow_core.specs.Steps.{IsStep}
 use Rattle.dataflow_core.specs.Unclaimed.{Unclaimed}
 
-module _ {R K S O : Type 0} (lang : Language R K S O) (RecordFits : R → Type 0) where
+module _ {R K S O : Type 0} (rules : AllRules R K S O) where
   -- what works is a step,
-  pub step_works : (old new : State O R K S) → (moves : List Move) × Works lang RecordFits moves old new → IsStep lang RecordFits old new
+  pub step_works : (old new : State O R K S) → (moves : List Move) × Works rules moves old new → IsStep rules old new
   step_works old new works =
       let w = works.1 in
       record {
@@ -25,8 +25,8 @@ module _ {R K S O : Type 0} (lang : Language R K S O) (RecordFits : R → Type 0
       }
 
   -- and so is nothing
-  pub step_none : (old new : State O R K S) → new ≡ old → IsStep lang RecordFits old new
-  step_none old new same = step_works old new ([], works_none lang RecordFits old new same)
+  pub step_none : (old new : State O R K S) → new ≡ old → IsStep rules old new
+  step_none old new same = step_works old new ([], works_none rules old new same)
 
 module _ {R K S O : Type 0} {T : Type 0} (old new : CoreState O R K S) (Ends : Result T CoreFault → Type 0) where
   abbrev Matches : Result T CoreFault → Option (Held R K S) → Type 0

@@ -1,6 +1,7 @@
 -- How each call ends, of the engine before and after.
 use Rattle.std.specs.Prelude.{◌≡◌, ◌≢◌, ℕ, None, Option, Result, Err, OnOk, IfErr, List}
 use Rattle.alignment.specs.declared.input.Effect.{Effect}
+use Rattle.engine_model.specs.AllRules.{AllRules}
 use Rattle.engine_model.specs.Calls.{EndsRead, EndsInject, EndsPersist, EndsPersistSome, EndsTrigger, EndsComplete}
 use Rattle.engine_model.specs.Commits.{EndsCommit}
 use Rattle.engine_model.specs.Language.{Language}
@@ -20,9 +21,9 @@ module _ {R K S O : Type 0} (old new : State O R K S) where
   abbrev pub Fails : Result Unit CoreFault → Type 0
   Fails result = OnOk result ((old.held ≢ None) × (new ≡ record old { held = None })) × IfErr result (λ fault. (fault ≡ NotRunning) × (old.held ≡ None) × (new ≡ old))
 
-  abbrev pub Restarts : Language R K S O → (K → Type 0) → (R → Type 0) → (O → S → Type 0) → Result (Option ℕ) CoreFault → Type 0
-  Restarts lang KeyFits RecordFits IsGood result =
-      OnDown old new (EndsRestart lang KeyFits RecordFits IsGood old.graph old.operators old.partitions old.stored old.ledger new.ledger) result
+  abbrev pub Restarts : AllRules R K S O → Result (Option ℕ) CoreFault → Type 0
+  Restarts rules result =
+      OnDown old new (EndsRestart rules old.graph old.operators old.partitions old.stored old.ledger new.ledger) result
 
   abbrev pub Reads : Language R K S O → ℕ → Result Unit CoreFault → Type 0
   Reads lang task result = OnAttempt old new (λ h k. EndsRead old.graph task h k lang old.partitions) result

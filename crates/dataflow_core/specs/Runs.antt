@@ -2,6 +2,7 @@
 use Rattle.std.specs.Prelude.{◌≡◌, ◌⊎◌, ◌++◌, ℕ, List, [], ◌∷◌, Some, None, Result, MatchOption, length, slice_set}
 use Rattle.claims.specs.Carried.{given_of}
 use Rattle.claims.specs.declared.parts.Made.{Made}
+use Rattle.engine_model.specs.AllRules.{AllRules}
 use Rattle.engine_model.specs.Language.{Language}
 use Rattle.engine_model.specs.declared.fault.CoreFault.{CoreFault}
 use Rattle.engine.specs.Running.{IsCounted}
@@ -56,13 +57,13 @@ module _ {R K S O : Type 0} (old : CoreState O R K S) (desk : DeskJobs O K S R) 
       (((reply ≡ Source Memory) × (new ≡ old)) ⊎ (Tells appended_as reply (Appends old.engine new.engine partition row) × (new ≡ record old { engine = new.engine })))
       × (left ≡ desk)
 
-module _ {R K S O : Type 0} (lang : Language R K S O) (KeyFits : K → Type 0) (RecordFits : R → Type 0) (IsGood : O → S → Type 0) (spelling : Part R K S → List ℕ) where
+module _ {R K S O : Type 0} (rules : AllRules R K S O) (spelling : Part R K S → List ℕ) where
   -- the step may lead from the core and the desk to these, with this reply
   abbrev pub EndsStep : Step R → CoreState O R K S → DeskJobs O K S R → CoreState O R K S → DeskJobs O K S R → Reply → Type 0
-  EndsStep (Read task) old desk new left reply = TellsApart old desk new left reply accepted_as (Reads old.engine new.engine lang task)
-  EndsStep (Claim task input) old desk new left reply = EndsClaim old desk new left reply lang task input 1
-  EndsStep (ClaimSome task input most) old desk new left reply = EndsClaim old desk new left reply lang task input most
-  EndsStep (Finish number) old desk new left reply = EndsFinishing old desk new left reply lang number
+  EndsStep (Read task) old desk new left reply = TellsApart old desk new left reply accepted_as (Reads old.engine new.engine rules.lang task)
+  EndsStep (Claim task input) old desk new left reply = EndsClaim old desk new left reply rules.lang task input 1
+  EndsStep (ClaimSome task input most) old desk new left reply = EndsClaim old desk new left reply rules.lang task input most
+  EndsStep (Finish number) old desk new left reply = EndsFinishing old desk new left reply rules.lang number
   EndsStep (Barrier task input) old desk new left reply = TellsApart old desk new left reply copied_as (TakesBarrierUnclaimed old task input new)
   EndsStep Trigger old desk new left reply = TellsApart old desk new left reply numbered_as (Triggers old.engine new.engine)
   EndsStep (Inject task) old desk new left reply = TellsApart old desk new left reply accepted_as (Injects old.engine new.engine task)
@@ -70,11 +71,11 @@ module _ {R K S O : Type 0} (lang : Language R K S O) (KeyFits : K → Type 0) (
   EndsStep (PersistSome task most) old desk new left reply = TellsApart old desk new left reply persisted_as (PersistsSome old.engine new.engine spelling task)
   EndsStep Complete old desk new left reply = TellsApart old desk new left reply numbered_as (Completes old.engine new.engine)
   EndsStep (Commit sink) old desk new left reply = TellsApart old desk new left reply accepted_as (Commits old.engine new.engine sink)
-  EndsStep Settle old desk new left reply = TellsApart old desk new left reply accepted_as (Settles old new lang RecordFits)
-  EndsStep (Drain turns) old desk new left reply = TellsApart old desk new left reply drained_as (Drains old new lang RecordFits turns)
+  EndsStep Settle old desk new left reply = TellsApart old desk new left reply accepted_as (Settles old new rules)
+  EndsStep (Drain turns) old desk new left reply = TellsApart old desk new left reply drained_as (Drains old new rules turns)
   EndsStep Fail old desk new left reply = TellsApart old desk new left reply accepted_as (Fails old.engine new.engine)
   EndsStep Restart old desk new left reply =
-      TellsCall old desk new left reply restarted_as (λ r. Restarts old.engine new.engine lang KeyFits RecordFits IsGood r × (new ≡ record old { engine = new.engine; claims = claims_after r old.claims }))
+      TellsCall old desk new left reply restarted_as (λ r. Restarts old.engine new.engine rules r × (new ≡ record old { engine = new.engine; claims = claims_after r old.claims }))
   EndsStep (Append partition row) old desk new left reply = EndsAppend old desk new left reply partition row
 
   -- the steps lead from the core and the desk to these, with these replies

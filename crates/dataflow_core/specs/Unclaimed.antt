@@ -1,6 +1,6 @@
 -- How the calls end that make many steps, which want a job that runs, and no claim out.
 use Rattle.std.specs.Prelude.{◌≡◌, ◌≢◌, ◌⊎◌, ℕ, [], Result, Err, MatchOption}
-use Rattle.engine_model.specs.Language.{Language}
+use Rattle.engine_model.specs.AllRules.{AllRules}
 use Rattle.engine_model.specs.declared.fault.CoreFault.{CoreFault}
 use Rattle.engine_model.specs.declared.fault.CoreFault.TheVariants.{NotRunning, Busy}
 use Rattle.engine_rounds.specs.declared.ending.Drained.{Drained}
@@ -13,8 +13,8 @@ module _ {R K S O : Type 0} (old new : CoreState O R K S) where
       MatchOption old.engine.held ((result ≡ Err NotRunning) × (new ≡ old)) (λ h.
       ((old.claims ≢ []) × (result ≡ Err Busy) × (new ≡ old)) ⊎ ((old.claims ≡ []) × Ends result))
 
-  abbrev pub Settles : Language R K S O → (R → Type 0) → Result Unit CoreFault → Type 0
-  Settles lang RecordFits = Unclaimed (EndsSettle lang RecordFits old.engine new.engine)
+  abbrev pub Settles : AllRules R K S O → Result Unit CoreFault → Type 0
+  Settles rules = Unclaimed (EndsSettle rules old.engine new.engine)
 
-  abbrev pub Drains : Language R K S O → (R → Type 0) → (turns : ℕ) → Result Drained CoreFault → Type 0
-  Drains lang RecordFits turns = Unclaimed (EndsDrain lang RecordFits old.engine new.engine turns)
+  abbrev pub Drains : AllRules R K S O → (turns : ℕ) → Result Drained CoreFault → Type 0
+  Drains rules turns = Unclaimed (EndsDrain rules old.engine new.engine turns)

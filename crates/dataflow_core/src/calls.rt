@@ -102,9 +102,9 @@ impl<O: Operator, S: SnapshotStore, X: Transactions, P: Partitions<Record = O::R
         } }
         ensures claims { (result.claims ≡ []) × (result.serials ≡ 0) }
         ensures legal { (former : List (List O.Record)) → HaveGrown former (P.records log)
-            → AreLegal ⟦<O as Rules>⟧.lang ⟦<O as Rules>⟧.RecordFits graph operators.items former
+            → AreLegal ⟦<O as Rules>⟧.all graph operators.items former
             (S.state store) (X.state transactions)
-            → IsSound ⟦<O as Rules>⟧.lang ⟦<O as Rules>⟧.RecordFits result.engine }
+            → IsSound ⟦<O as Rules>⟧.all result.engine }
         ensures fresh { IsTrue result.engine.is_fresh
             ↔ ((S.state store ≡ stores.blank (length graph.tasks))
             × (X.state transactions ≡ ledgers.blank (count_by is_sink graph.tasks))) }
@@ -127,10 +127,8 @@ impl<O: Operator, S: SnapshotStore, X: Transactions, P: Partitions<Record = O::R
     /// checkpoint; on a line, what the operator makes of a beginning of the partition.
     pub fn is_fresh(&self) -> bool
         ensures value { result ≡ self.now.engine.is_fresh }
-        ensures kept { Keeps ⟦<O as Rules>⟧.lang ⟦<O as Rules>⟧.RecordFits ⟦<O as Rules>⟧.IsGood
-            self.now.engine }
-        ensures sound { IsTrue result → IsSound ⟦<O as Rules>⟧.lang ⟦<O as Rules>⟧.RecordFits
-            self.now.engine }
+        ensures kept { Keeps ⟦<O as Rules>⟧.all self.now.engine }
+        ensures sound { IsTrue result → IsSound ⟦<O as Rules>⟧.all self.now.engine }
         ensures exact { IsTrue result → IsExactlyOnce ⟦<O as Rules>⟧.lang self.now.engine }
         ensures line { IsTrue result → (operator : O) → IsLine self.now.engine.graph
             → slice_get self.now.engine.operators 0 ≡ Some operator
@@ -143,8 +141,7 @@ impl<O: Operator, S: SnapshotStore, X: Transactions, P: Partitions<Record = O::R
     /// The job is down, and what it held is lost.
     pub fn fail(&mut self) -> Result<(), CoreFault>
         ensures ends { Fails self.old.engine self.new.engine result }
-        ensures step { IsStep ⟦<O as Rules>⟧.lang ⟦<O as Rules>⟧.RecordFits self.old.engine
-            self.new.engine }
+        ensures step { IsStep ⟦<O as Rules>⟧.all self.old.engine self.new.engine }
         ensures stays { Stays ⟦<O as Rules>⟧.lang self.old.engine self.new.engine }
         ensures counted { IsCounted self.old.engine.faults self.new.engine.faults result }
         ensures claims { self.new ≡ record self.old { engine = self.new.engine } }
@@ -159,10 +156,8 @@ impl<O: Operator, S: SnapshotStore, X: Transactions, P: Partitions<Record = O::R
     /// is open. A refused restart leaves the job down, with its claims; transactions may be settled
     /// in part, and the next one does the rest. Attempts have numbers below 2^63.
     pub fn restart(&mut self) -> Result<Option<u64>, CoreFault>
-        ensures ends { Restarts self.old.engine self.new.engine ⟦<O as Rules>⟧.lang
-            ⟦<O as Rules>⟧.KeyFits ⟦<O as Rules>⟧.RecordFits ⟦<O as Rules>⟧.IsGood result }
-        ensures step { IsRestart ⟦<O as Rules>⟧.lang ⟦<O as Rules>⟧.RecordFits self.old.engine
-            self.new.engine result }
+        ensures ends { Restarts self.old.engine self.new.engine ⟦<O as Rules>⟧.all result }
+        ensures step { IsRestart ⟦<O as Rules>⟧.all self.old.engine self.new.engine result }
         ensures counted { IsCounted self.old.engine.faults self.new.engine.faults result }
         ensures claims { self.new ≡ record self.old {
           engine = self.new.engine;
@@ -178,8 +173,7 @@ impl<O: Operator, S: SnapshotStore, X: Transactions, P: Partitions<Record = O::R
     /// Source `task` sends its next record.
     pub fn read(&mut self, task: u32) -> Result<(), CoreFault>
         ensures ends { Reads self.old.engine self.new.engine ⟦<O as Rules>⟧.lang task result }
-        ensures step { IsStep ⟦<O as Rules>⟧.lang ⟦<O as Rules>⟧.RecordFits self.old.engine
-            self.new.engine }
+        ensures step { IsStep ⟦<O as Rules>⟧.all self.old.engine self.new.engine }
         ensures plain { StepsIfOk result ⟦<O as Rules>⟧.lang (machine.Read task) self.old.engine
             self.new.engine }
         ensures counted { IsCounted self.old.engine.faults self.new.engine.faults result }
@@ -192,8 +186,7 @@ impl<O: Operator, S: SnapshotStore, X: Transactions, P: Partitions<Record = O::R
     /// Source `task` copies its offset for the pending checkpoint, and sends the barrier.
     pub fn inject(&mut self, task: u32) -> Result<(), CoreFault>
         ensures ends { Injects self.old.engine self.new.engine task result }
-        ensures step { IsStep ⟦<O as Rules>⟧.lang ⟦<O as Rules>⟧.RecordFits self.old.engine
-            self.new.engine }
+        ensures step { IsStep ⟦<O as Rules>⟧.all self.old.engine self.new.engine }
         ensures stays { Stays ⟦<O as Rules>⟧.lang self.old.engine self.new.engine }
         ensures counted { IsCounted self.old.engine.faults self.new.engine.faults result }
         ensures claims { self.new ≡ record self.old { engine = self.new.engine } }
@@ -206,8 +199,7 @@ impl<O: Operator, S: SnapshotStore, X: Transactions, P: Partitions<Record = O::R
     /// number are discarded. It takes no memory.
     pub fn trigger(&mut self) -> Result<u64, CoreFault>
         ensures ends { Triggers self.old.engine self.new.engine result }
-        ensures step { IsStep ⟦<O as Rules>⟧.lang ⟦<O as Rules>⟧.RecordFits self.old.engine
-            self.new.engine }
+        ensures step { IsStep ⟦<O as Rules>⟧.all self.old.engine self.new.engine }
         ensures stays { Stays ⟦<O as Rules>⟧.lang self.old.engine self.new.engine }
         ensures counted { IsCounted self.old.engine.faults self.new.engine.faults result }
         ensures claims { self.new ≡ record self.old { engine = self.new.engine } }
@@ -220,8 +212,7 @@ impl<O: Operator, S: SnapshotStore, X: Transactions, P: Partitions<Record = O::R
     pub fn persist(&mut self, task: u32) -> Result<(), CoreFault>
         ensures ends { Persists self.old.engine self.new.engine
             ⟦<O as Rules>⟧.spelling task result }
-        ensures step { IsStep ⟦<O as Rules>⟧.lang ⟦<O as Rules>⟧.RecordFits self.old.engine
-            self.new.engine }
+        ensures step { IsStep ⟦<O as Rules>⟧.all self.old.engine self.new.engine }
         ensures stays { Stays ⟦<O as Rules>⟧.lang self.old.engine self.new.engine }
         ensures counted { IsCounted self.old.engine.faults self.new.engine.faults result }
         ensures claims { self.new ≡ record self.old { engine = self.new.engine } }
@@ -236,8 +227,7 @@ impl<O: Operator, S: SnapshotStore, X: Transactions, P: Partitions<Record = O::R
     pub fn persist_some(&mut self, task: u32, most: u32) -> Result<Persisted, CoreFault>
         ensures ends { PersistsSome self.old.engine self.new.engine
             ⟦<O as Rules>⟧.spelling task result }
-        ensures step { IsStep ⟦<O as Rules>⟧.lang ⟦<O as Rules>⟧.RecordFits self.old.engine
-            self.new.engine }
+        ensures step { IsStep ⟦<O as Rules>⟧.all self.old.engine self.new.engine }
         ensures stays { Stays ⟦<O as Rules>⟧.lang self.old.engine self.new.engine }
         ensures counted { IsCounted self.old.engine.faults self.new.engine.faults result }
         ensures claims { self.new ≡ record self.old { engine = self.new.engine } }
@@ -256,11 +246,10 @@ impl<O: Operator, S: SnapshotStore, X: Transactions, P: Partitions<Record = O::R
             number ≡ true) }
         ensures cut { IfOk result (λ number. MatchOption self.old.engine.held ⊥
             (λ h. HasTheCut ⟦<O as Rules>⟧.lang self.old.engine h self.new.engine.stored number)) }
-        ensures reached { IsSound ⟦<O as Rules>⟧.lang ⟦<O as Rules>⟧.RecordFits self.old.engine
+        ensures reached { IsSound ⟦<O as Rules>⟧.all self.old.engine
             → IfOk result (IsReachedCut (job_of ⟦<O as Rules>⟧.lang self.new.engine)
             O.Record.spelling (devices_of ⟦<O as Rules>⟧.lang self.new.engine)) }
-        ensures step { IsStep ⟦<O as Rules>⟧.lang ⟦<O as Rules>⟧.RecordFits self.old.engine
-            self.new.engine }
+        ensures step { IsStep ⟦<O as Rules>⟧.all self.old.engine self.new.engine }
         ensures stays { Stays ⟦<O as Rules>⟧.lang self.old.engine self.new.engine }
         ensures counted { IsCounted self.old.engine.faults self.new.engine.faults result }
         ensures claims { self.new ≡ record self.old { engine = self.new.engine } }
@@ -273,11 +262,10 @@ impl<O: Operator, S: SnapshotStore, X: Transactions, P: Partitions<Record = O::R
     /// the oldest first. It takes no memory.
     pub fn commit(&mut self, sink: u32) -> Result<(), CoreFault>
         ensures ends { Commits self.old.engine self.new.engine sink result }
-        ensures reaches { IsSound ⟦<O as Rules>⟧.lang ⟦<O as Rules>⟧.RecordFits self.old.engine
+        ensures reaches { IsSound ⟦<O as Rules>⟧.all self.old.engine
             → OnOk result (length (committed_of self.new.engine.ledger sink)
             ≡ length (complete_numbers self.new.engine.stored)) }
-        ensures step { IsStep ⟦<O as Rules>⟧.lang ⟦<O as Rules>⟧.RecordFits self.old.engine
-            self.new.engine }
+        ensures step { IsStep ⟦<O as Rules>⟧.all self.old.engine self.new.engine }
         ensures stays { Stays ⟦<O as Rules>⟧.lang self.old.engine self.new.engine }
         ensures counted { IsCounted self.old.engine.faults self.new.engine.faults result }
         ensures claims { self.new ≡ record self.old { engine = self.new.engine } }
@@ -291,8 +279,8 @@ impl<O: Operator, S: SnapshotStore, X: Transactions, P: Partitions<Record = O::R
     pub fn append(&mut self, partition: u32, row: O::Record) -> Result<(), SourceFault>
         requires { Fits O.Record.HasSpelling O.Record.spelling row }
         ensures ends { Appends self.old.engine self.new.engine partition row result }
-        ensures sound { IsSound ⟦<O as Rules>⟧.lang ⟦<O as Rules>⟧.RecordFits self.old.engine
-            → IsSound ⟦<O as Rules>⟧.lang ⟦<O as Rules>⟧.RecordFits self.new.engine }
+        ensures sound { IsSound ⟦<O as Rules>⟧.all self.old.engine
+            → IsSound ⟦<O as Rules>⟧.all self.new.engine }
         ensures stays { Stays ⟦<O as Rules>⟧.lang self.old.engine self.new.engine }
         ensures claims { self.new ≡ record self.old { engine = self.new.engine } }
     {
@@ -307,8 +295,8 @@ impl<O: Operator, S: SnapshotStore, X: Transactions, P: Partitions<Record = O::R
         ensures partitions { P.records result.0 ≡ self.engine.partitions }
         ensures stored { S.state result.1 ≡ self.engine.stored }
         ensures ledger { X.state result.2 ≡ self.engine.ledger }
-        ensures legal { IsSound ⟦<O as Rules>⟧.lang ⟦<O as Rules>⟧.RecordFits self.engine
-            → AreLegal ⟦<O as Rules>⟧.lang ⟦<O as Rules>⟧.RecordFits self.engine.graph
+        ensures legal { IsSound ⟦<O as Rules>⟧.all self.engine
+            → AreLegal ⟦<O as Rules>⟧.all self.engine.graph
             self.engine.operators (P.records result.0) (S.state result.1) (X.state result.2) }
     {
         let Core { engine, .. } = self;

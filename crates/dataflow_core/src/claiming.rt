@@ -138,8 +138,7 @@ impl<O: Operator, S: SnapshotStore, X: Transactions, P: Partitions<Record = O::R
     pub fn finish(&mut self, done: Done<O>) -> Result<(), CoreFault>
         ensures ends { EndsFinish self.old ⟦<O as Rules>⟧.lang self.new
             done.attempt done.serial done.worked result }
-        ensures step { IsStep ⟦<O as Rules>⟧.lang ⟦<O as Rules>⟧.RecordFits self.old.engine
-            self.new.engine }
+        ensures step { IsStep ⟦<O as Rules>⟧.all self.old.engine self.new.engine }
         ensures plain { FinishMoves self.old ⟦<O as Rules>⟧.lang self.new done.attempt
             done.serial done.worked result }
         ensures counted { IsCounted self.old.engine.faults self.new.engine.faults result }
@@ -168,8 +167,7 @@ impl<O: Operator, S: SnapshotStore, X: Transactions, P: Partitions<Record = O::R
     /// the old one.
     pub fn take_barrier(&mut self, task: u32, input: u32) -> Result<Effect, CoreFault>
         ensures ends { TakesBarrierUnclaimed self.old task input self.new result }
-        ensures step { IsStep ⟦<O as Rules>⟧.lang ⟦<O as Rules>⟧.RecordFits self.old.engine
-            self.new.engine }
+        ensures step { IsStep ⟦<O as Rules>⟧.all self.old.engine self.new.engine }
         ensures stays { Stays ⟦<O as Rules>⟧.lang self.old.engine self.new.engine }
         ensures counted { IsCounted self.old.engine.faults self.new.engine.faults result }
         ensures claims { self.new ≡ record self.old { engine = self.new.engine } }

@@ -64,8 +64,7 @@ impl<O: Operator, S: SnapshotStore, X: Transactions, P: Partitions<Record = O::R
     fn finish_at(&mut self, desk: &mut Desk<O>, number: u32) -> Reply
         ensures ends { EndsFinishing self.old desk.old self.new desk.new result
             ⟦<O as Rules>⟧.lang number }
-        ensures step { Preserves ⟦<O as Rules>⟧.lang ⟦<O as Rules>⟧.RecordFits self.old.engine
-            self.new.engine }
+        ensures step { Preserves ⟦<O as Rules>⟧.all self.old.engine self.new.engine }
     {
         let Some(job) = desk.take(number) else {
             return Reply::NoJob;
@@ -77,8 +76,7 @@ impl<O: Operator, S: SnapshotStore, X: Transactions, P: Partitions<Record = O::R
     fn append_copy(&mut self, partition: u32, row: &O::Record) -> Reply
         requires { ⟦<O as Rules>⟧.RecordFits row.now }
         ensures ends { EndsAppend self.old [] self.new [] result partition row.now }
-        ensures step { Preserves ⟦<O as Rules>⟧.lang ⟦<O as Rules>⟧.RecordFits self.old.engine
-            self.new.engine }
+        ensures step { Preserves ⟦<O as Rules>⟧.all self.old.engine self.new.engine }
     {
         match row.copied() {
             Ok(row) => appended(self.append(partition, row)),
@@ -92,11 +90,9 @@ impl<O: Operator, S: SnapshotStore, X: Transactions, P: Partitions<Record = O::R
     /// changed.
     pub fn step(&mut self, desk: &mut Desk<O>, step: &Step<O::Record>) -> Reply
         requires { StepFits ⟦<O as Rules>⟧.RecordFits step.now }
-        ensures ends { EndsStep ⟦<O as Rules>⟧.lang ⟦<O as Rules>⟧.KeyFits ⟦<O as Rules>⟧.RecordFits
-            ⟦<O as Rules>⟧.IsGood ⟦<O as Rules>⟧.spelling
+        ensures ends { EndsStep ⟦<O as Rules>⟧.all ⟦<O as Rules>⟧.spelling
             step.now self.old desk.old self.new desk.new result }
-        ensures step { Preserves ⟦<O as Rules>⟧.lang ⟦<O as Rules>⟧.RecordFits self.old.engine
-            self.new.engine }
+        ensures step { Preserves ⟦<O as Rules>⟧.all self.old.engine self.new.engine }
     {
         match step {
             Step::Read(task) => accepted(self.read(*task)),
@@ -130,13 +126,11 @@ impl<O: Operator, S: SnapshotStore, X: Transactions, P: Partitions<Record = O::R
         steps: &[Step<O::Record>],
     ) -> Result<Vec<Reply>, CoreFault>
         requires { AllByRecursion (StepFits ⟦<O as Rules>⟧.RecordFits) steps.now }
-        ensures run { IfOk result (λ replies. IsRun ⟦<O as Rules>⟧.lang ⟦<O as Rules>⟧.KeyFits
-            ⟦<O as Rules>⟧.RecordFits ⟦<O as Rules>⟧.IsGood ⟦<O as Rules>⟧.spelling
+        ensures run { IfOk result (λ replies. IsRun ⟦<O as Rules>⟧.all ⟦<O as Rules>⟧.spelling
             self.old desk.old steps.now replies.items self.new desk.new) }
-        ensures exact { IsSound ⟦<O as Rules>⟧.lang ⟦<O as Rules>⟧.RecordFits self.old.engine
+        ensures exact { IsSound ⟦<O as Rules>⟧.all self.old.engine
             → IsExactlyOnce ⟦<O as Rules>⟧.lang self.new.engine }
-        ensures step { Preserves ⟦<O as Rules>⟧.lang ⟦<O as Rules>⟧.RecordFits self.old.engine
-            self.new.engine }
+        ensures step { Preserves ⟦<O as Rules>⟧.all self.old.engine self.new.engine }
         ensures err { IfErr result (λ fault.
             (fault ≡ CoreFault.Memory) × (self.new ≡ self.old) × (desk.new ≡ desk.old)) }
     {

@@ -28,10 +28,8 @@ impl<O: Operator, S: SnapshotStore, X: Transactions, P: Partitions<Record = O::R
     /// else only where memory is refused (`K11`) or a device fails (`K12`, `K13`); what was done
     /// stays.
     pub fn settle(&mut self) -> Result<(), CoreFault>
-        ensures ends { Settles self.old self.new ⟦<O as Rules>⟧.lang ⟦<O as Rules>⟧.RecordFits
-            result }
-        ensures step { IsStep ⟦<O as Rules>⟧.lang ⟦<O as Rules>⟧.RecordFits self.old.engine
-            self.new.engine }
+        ensures ends { Settles self.old self.new ⟦<O as Rules>⟧.all result }
+        ensures step { IsStep ⟦<O as Rules>⟧.all self.old.engine self.new.engine }
         ensures counted { IsCounted self.old.engine.faults self.new.engine.faults result }
         ensures claims { self.new ≡ record self.old { engine = self.new.engine } }
     {
@@ -54,10 +52,8 @@ impl<O: Operator, S: SnapshotStore, X: Transactions, P: Partitions<Record = O::R
     /// Refused as `settle` is where a checkpoint is pending, and by `K14` where no number is left
     /// for the last checkpoint; what was done stays.
     pub fn drain(&mut self, turns: u64) -> Result<Drained, CoreFault>
-        ensures ends { Drains self.old self.new ⟦<O as Rules>⟧.lang ⟦<O as Rules>⟧.RecordFits turns
-            result }
-        ensures step { IsStep ⟦<O as Rules>⟧.lang ⟦<O as Rules>⟧.RecordFits self.old.engine
-            self.new.engine }
+        ensures ends { Drains self.old self.new ⟦<O as Rules>⟧.all turns result }
+        ensures step { IsStep ⟦<O as Rules>⟧.all self.old.engine self.new.engine }
         ensures counted { IsCounted self.old.engine.faults self.new.engine.faults result }
         ensures claims { self.new ≡ record self.old { engine = self.new.engine } }
     {

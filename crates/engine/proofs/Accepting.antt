@@ -4,6 +4,7 @@ use Rattle.commit_sink.specs.Ledger.{Ledger, IsOrdered}
 use Rattle.dataflow_model.specs.Machine.{Work}
 use Rattle.job_graph.specs.Expanded.{Expanded}
 use Rattle.job_state.specs.Held.{Held}
+use Rattle.engine_model.specs.AllRules.{AllRules}
 use Rattle.engine_model.specs.Calls.{input_at, left_by}
 use Rattle.engine_model.specs.Keeps.{Keeps}
 use Rattle.engine_model.specs.Language.{Language}
@@ -79,7 +80,7 @@ module _ {R K S O : Type 0} (lang : Language R K S O) (graph : Expanded) (operat
       by (inr (inr (inl is, e, l))) = subst (IsCounted a b) (sym is) (stays (λ device. absurd (wrong (sym is ∙ device))))
       by (inr (inr (inr is, e, l))) = subst (IsCounted a b) (sym is) (stays (λ device. absurd (memory (sym is ∙ device))))
 
-module _ {R K S O : Type 0} (lang : Language R K S O) (RecordFits : R → Type 0) (IsGood : O → S → Type 0) (s : State O R K S) (keeps : Keeps lang RecordFits IsGood s) (h k : Held R K S) (was : s.held ≡ Some h) (ledger : Ledger) (task input : ℕ) (m : Made O K S R) (result : Result Unit CoreFault) where
+module _ {R K S O : Type 0} (rules : AllRules R K S O) (s : State O R K S) (keeps : Keeps rules s) (h k : Held R K S) (was : s.held ≡ Some h) (ledger : Ledger) (task input : ℕ) (m : Made O K S R) (result : Result Unit CoreFault) where
   -- what the call leaves
   abbrev left : Ledger → ℕ → State O R K S
   left l n = record s { held = left_by result (Some k); ledger = l; faults = n }
@@ -89,48 +90,48 @@ module _ {R K S O : Type 0} (lang : Language R K S O) (RecordFits : R → Type 0
   refused_held (inl is, e, l) = ap (λ (x : Result Unit CoreFault). left_by x (Some k)) is
   refused_held (inr is, e, l) = ap (λ (x : Result Unit CoreFault). left_by x (Some k)) is
 
-  refused_kept : Refuses h k s.ledger ledger result → (n : ℕ) → KeepsAndGoes lang RecordFits IsGood s (left ledger n)
+  refused_kept : Refuses h k s.ledger ledger result → (n : ℕ) → KeepsAndGoes rules s (left ledger n)
   refused_kept e n =
-      subst (λ (o : Option (Held R K S)). KeepsAndGoes lang RecordFits IsGood s (record s { held = o; ledger = ledger; faults = n })) (sym (refused_held e))
-      (subst (λ (l : Ledger). KeepsAndGoes lang RecordFits IsGood s (record s { held = Some k; ledger = l; faults = n })) (sym e.2) (keeps_still lang RecordFits IsGood s keeps h was k n e.1))
+      subst (λ (o : Option (Held R K S)). KeepsAndGoes rules s (record s { held = o; ledger = ledger; faults = n })) (sym (refused_held e))
+      (subst (λ (l : Ledger). KeepsAndGoes rules s (record s { held = Some k; ledger = l; faults = n })) (sym e.2) (keeps_still rules s keeps h was k n e.1))
 
   same_held : Refuses h k s.ledger ledger result → left_by result (Some k) ≡ s.held
   same_held e = refused_held e ∙ ap Some e.1 ∙ sym was
 
-  refused_stays : Refuses h k s.ledger ledger result → (n : ℕ) → Stays lang s (left ledger n)
-  refused_stays e n = stays_same lang s (record s { held = left_by result (Some k); ledger = ledger; faults = s.faults }) (λ i. record s { held = same_held e i; ledger = e.2 i })
+  refused_stays : Refuses h k s.ledger ledger result → (n : ℕ) → Stays rules.lang s (left ledger n)
+  refused_stays e n = stays_same rules.lang s (record s { held = left_by result (Some k); ledger = ledger; faults = s.faults }) (λ i. record s { held = same_held e i; ledger = e.2 i })
 
-  module _ (goes_on : (operator : O) → GoesOn lang RecordFits IsGood operator) (n : ℕ) where
+  module _ (goes_on : (operator : O) → GoesOn rules operator) (n : ℕ) where
     -- what is left of records that were worked
-    works_left : result ≡ Ok tt → ledger ≡ s.ledger → (P : State O R K S → Type 0) → P (after lang s s.ledger (Some k) n) → P (left ledger n)
+    works_left : result ≡ Ok tt → ledger ≡ s.ledger → (P : State O R K S → Type 0) → P (after rules.lang s s.ledger (Some k) n) → P (left ledger n)
     works_left is same P p =
         subst (λ (x : Result Unit CoreFault). P (record s { held = left_by x (Some k); ledger = ledger; faults = n })) (sym is)
         (subst (λ (l : Ledger). P (record s { held = Some k; ledger = l; faults = n })) (sym same) p)
 
-    works_kept : Works lang s.graph s.operators task input h k s.ledger ledger m result → KeepsAndGoes lang RecordFits IsGood s (left ledger n)
+    works_kept : Works rules.lang s.graph s.operators task input h k s.ledger ledger m result → KeepsAndGoes rules s (left ledger n)
     works_kept (operand, of, is, e) =
-        works_left is e.stays (λ (x : State O R K S). KeepsAndGoes lang RecordFits IsGood s x)
-        (keeps_operates_on lang RecordFits IsGood n task e.due.number input e.channel operand.operator (goes_on operand.operator) operand.rows.items s h k keeps was e.due.is_operator e.due.same_operator e.due.leads e.works)
+        works_left is e.stays (λ (x : State O R K S). KeepsAndGoes rules s x)
+        (keeps_operates_on rules n task e.due.number input e.channel operand.operator (goes_on operand.operator) operand.rows.items s h k keeps was e.due.is_operator e.due.same_operator e.due.leads e.works)
 
     -- the plain steps of a call that ends so, by the input's channel
     abbrev Moves : Result Unit CoreFault → Option ℕ → Type 0
-    Moves r c = MatchOption c (Stays lang s (left ledger n)) (λ channel. StepsOftenIfOk r (records_of (given_of m)) lang (Work task channel) s (left ledger n))
+    Moves r c = MatchOption c (Stays rules.lang s (left ledger n)) (λ channel. StepsOftenIfOk r (records_of (given_of m)) rules.lang (Work task channel) s (left ledger n))
 
-    works_move : Works lang s.graph s.operators task input h k s.ledger ledger m result → Moves result (input_at s.graph task input)
+    works_move : Works rules.lang s.graph s.operators task input h k s.ledger ledger m result → Moves result (input_at s.graph task input)
     works_move (operand, of, is, e) =
-        let steps : StepsOften (records_of (given.Operator operand)) lang (Work task e.channel) s (left ledger n) =
-        works_left is e.stays (λ (x : State O R K S). StepsOften (length operand.rows.items) lang (Work task e.channel) s x)
-        (plain_operates_on lang RecordFits IsGood n task e.due.number input e.channel operand.operator (goes_on operand.operator) operand.rows.items s h k keeps was e.due.is_operator e.due.same_operator e.due.leads e.works) in
+        let steps : StepsOften (records_of (given.Operator operand)) rules.lang (Work task e.channel) s (left ledger n) =
+        works_left is e.stays (λ (x : State O R K S). StepsOften (length operand.rows.items) rules.lang (Work task e.channel) s x)
+        (plain_operates_on rules n task e.due.number input e.channel operand.operator (goes_on operand.operator) operand.rows.items s h k keeps was e.due.is_operator e.due.same_operator e.due.leads e.works) in
         subst (λ (c : Option ℕ). Moves result c) (sym e.due.leads)
         (subst (λ (r : Result Unit CoreFault). Moves r (Some e.channel)) (sym is)
-        (subst (λ (g : Given O K S R). StepsOften (records_of g) lang (Work task e.channel) s (left ledger n)) (sym of) steps))
+        (subst (λ (g : Given O K S R). StepsOften (records_of g) rules.lang (Work task e.channel) s (left ledger n)) (sym of) steps))
 
-    put_moves : PutsOne lang s.graph s.operators task input h k s.ledger ledger m result → Moves result (input_at s.graph task input)
-    put_moves (one, e) = of (input_at s.graph task input) (work_is_plain lang RecordFits IsGood s keeps h k was ledger task input result e n)
+    put_moves : PutsOne rules.lang s.graph s.operators task input h k s.ledger ledger m result → Moves result (input_at s.graph task input)
+    put_moves (one, e) = of (input_at s.graph task input) (work_is_plain rules s keeps h k was ledger task input result e n)
       where
-        of : (c : Option ℕ) → MatchOption c (Stays lang s (left ledger n)) (λ channel. StepsIfOk result lang (Work task channel) s (left ledger n)) → Moves result c
+        of : (c : Option ℕ) → MatchOption c (Stays rules.lang s (left ledger n)) (λ channel. StepsIfOk result rules.lang (Work task channel) s (left ledger n)) → Moves result c
         of None stays = stays
-        of (Some channel) steps = subst (λ (count : ℕ). StepsOftenIfOk result count lang (Work task channel) s (left ledger n)) (sym one) (often_once_if_ok lang (Work task channel) s (left ledger n) result steps)
+        of (Some channel) steps = subst (λ (count : ℕ). StepsOftenIfOk result count rules.lang (Work task channel) s (left ledger n)) (sym one) (often_once_if_ok rules.lang (Work task channel) s (left ledger n) result steps)
 
     -- nothing is worked, whether there is an input or not
     refused_moves : Refuses h k s.ledger ledger result → Moves result (input_at s.graph task input)
@@ -143,19 +144,19 @@ module _ {R K S O : Type 0} (lang : Language R K S O) (RecordFits : R → Type 0
         of : (c : Option ℕ) → Moves result c
         of c = elim e.0 [ inl is ↦ none WrongResult c is | inr is ↦ none Memory c is ]
 
-    module _ (ends : EndsAccept lang s.graph s.operators task input h k s.ledger ledger m result) where
-      pub accept_kept : IsOrdered ledger → KeepsAndGoes lang RecordFits IsGood s (left ledger n)
-      accept_kept ordered = by (either lang s.graph s.operators task input h k s.ledger ledger m result ends)
+    module _ (ends : EndsAccept rules.lang s.graph s.operators task input h k s.ledger ledger m result) where
+      pub accept_kept : IsOrdered ledger → KeepsAndGoes rules s (left ledger n)
+      accept_kept ordered = by (either rules.lang s.graph s.operators task input h k s.ledger ledger m result ends)
         where
-          by : Either lang s.graph s.operators task input h k s.ledger ledger m result → KeepsAndGoes lang RecordFits IsGood s (left ledger n)
+          by : Either rules.lang s.graph s.operators task input h k s.ledger ledger m result → KeepsAndGoes rules s (left ledger n)
           by (inl e) = works_kept e
-          by (inr (inl e)) = work_kept lang RecordFits IsGood s keeps h k was ledger task input result e.1 n goes_on ordered
+          by (inr (inl e)) = work_kept rules s keeps h k was ledger task input result e.1 n goes_on ordered
           by (inr (inr e)) = refused_kept e n
 
       pub accept_is_plain : Moves result (input_at s.graph task input)
-      accept_is_plain = by (either lang s.graph s.operators task input h k s.ledger ledger m result ends)
+      accept_is_plain = by (either rules.lang s.graph s.operators task input h k s.ledger ledger m result ends)
         where
-          by : Either lang s.graph s.operators task input h k s.ledger ledger m result → Moves result (input_at s.graph task input)
+          by : Either rules.lang s.graph s.operators task input h k s.ledger ledger m result → Moves result (input_at s.graph task input)
           by (inl e) = works_move e
           by (inr (inl e)) = put_moves e
           by (inr (inr e)) = refused_moves e

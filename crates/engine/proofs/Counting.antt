@@ -8,6 +8,7 @@ use Rattle.job_graph.specs.declared.role.Role.TheVariants as role
 use Rattle.job_state.specs.Held.{Held}
 use Rattle.snapshot_store.specs.Store.{Stored}
 use Rattle.task_part.specs.declared.part.Part.{Part}
+use Rattle.engine_model.specs.AllRules.{AllRules}
 use Rattle.engine_model.specs.Calls.{input_at, EndsRead, EndsInject, EndsTrigger, EndsPersist, EndsPersistSome, EndsComplete}
 use Rattle.engine_model.specs.Commits.{EndsCommit}
 use Rattle.engine_model.specs.Language.{Language}
@@ -105,7 +106,7 @@ module _ {R K S : Type 0} (h k : Held R K S) (old new : Stored) (a b : ℕ) (res
   pub complete_counted : EndsComplete h k old new result → (result ≡ Err Device → a < b) → (result ≢ Err Device → b ≡ a) → IsCounted a b result
   complete_counted ends = device_counted (EndsComplete h k old new) result ends a b (λ e. e)
 
-pub restart_counted : {R K S O : Type 0} (lang : Language R K S O) (KeyFits : K → Type 0) (RecordFits : R → Type 0) (IsGood : O → S → Type 0) (graph : Expanded) (operators : List O) (partitions : List (List R)) (stored : Stored) (old new : Ledger) (a b : ℕ)
-    (made : Result (Option ℕ × Held R K S) CoreFault) → EndsRestart lang KeyFits RecordFits IsGood graph operators partitions stored old new made → (made ≡ Err Device → a < b) → (made ≢ Err Device → b ≡ a) → IsCounted a b (number_of made)
-restart_counted lang KeyFits RecordFits IsGood graph operators partitions stored old new a b made ends rises stays =
-    number_counted made a b (device_counted (EndsRestart lang KeyFits RecordFits IsGood graph operators partitions stored old new) made ends a b (λ e. e) rises stays)
+pub restart_counted : {R K S O : Type 0} (rules : AllRules R K S O) (graph : Expanded) (operators : List O) (partitions : List (List R)) (stored : Stored) (old new : Ledger) (a b : ℕ)
+    (made : Result (Option ℕ × Held R K S) CoreFault) → EndsRestart rules graph operators partitions stored old new made → (made ≡ Err Device → a < b) → (made ≢ Err Device → b ≡ a) → IsCounted a b (number_of made)
+restart_counted rules graph operators partitions stored old new a b made ends rises stays =
+    number_counted made a b (device_counted (EndsRestart rules graph operators partitions stored old new) made ends a b (λ e. e) rises stays)

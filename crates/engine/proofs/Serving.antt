@@ -6,12 +6,12 @@ use Rattle.job_graph.specs.declared.role.Role.TheVariants as role
 use Rattle.job_state.specs.Held.{Held}
 use Rattle.snapshot_store.specs.Store.{Stored, complete_refusal, has_all_parts}
 use Rattle.engine_model.proofs.Numbers.{source_within}
+use Rattle.engine_model.specs.AllRules.{AllRules}
 use Rattle.engine_model.specs.Calls.{EndsComplete}
 use Rattle.engine_model.specs.Commits.{EndsCommit}
 use Rattle.engine_model.specs.Keeps.{Keeps}
 use Rattle.engine_model.specs.LastCommitted.{committed_of, complete_numbers}
 use Rattle.engine_model.specs.declared.fault.CoreFault.{CoreFault}
-use Rattle.engine_model.specs.Language.{Language}
 use Rattle.engine_model.specs.Sound.{IsSound}
 use Rattle.engine_model.specs.State.{State}
 use Rattle.engine_model.proofs.Calls.Lasts.{commits_reach}
@@ -21,14 +21,14 @@ use Rattle.engine_model.proofs.Store.Complete.{may_complete, ready_parts}
 use Rattle.engine_model.proofs.Store.Runs.{runs_pending}
 use Rattle.claims.specs.Tasks.{Serves}
 
-module _ {R K S O : Type 0} (lang : Language R K S O) (RecordFits : R → Type 0) (IsGood : O → S → Type 0) (s : State O R K S) (keeps : Keeps lang RecordFits IsGood s) (h : Held R K S) (is : s.held ≡ Some h) where
-  pub serves : Serves lang.cmp RecordFits IsGood s.graph s.operators s.ledger h
+module _ {R K S O : Type 0} (rules : AllRules R K S O) (s : State O R K S) (keeps : Keeps rules s) (h : Held R K S) (is : s.held ≡ Some h) where
+  pub serves : Serves rules s.graph s.operators s.ledger h
   serves = record {
     expanded = keeps.expanded;
     given = keeps.operators;
     subtasks = keeps.subtasks;
-    shape = shape_of lang RecordFits IsGood s keeps h is;
-    sinks = (runs_of lang RecordFits IsGood s keeps h is).sinks;
+    shape = shape_of rules s keeps h is;
+    sinks = (runs_of rules s keeps h is).sinks;
   }
 
   -- each source has its partition
@@ -38,12 +38,12 @@ module _ {R K S O : Type 0} (lang : Language R K S O) (RecordFits : R → Type 0
   -- a checkpoint of which every part is acknowledged may be completed
   pub completes : (n : ℕ) → h.coordination.pending ≡ Some n → IsReady h.coordination → complete_refusal s.stored n ≡ None
   completes n pending ready =
-      may_complete lang s.graph s.stored h n (runs_pending lang s h (runs_of lang RecordFits IsGood s keeps h is) n pending) ready ((shape_of lang RecordFits IsGood s keeps h is).acked ∙ sym keeps.stored_tasks)
+      may_complete rules.lang s.graph s.stored h n (runs_pending rules.lang s h (runs_of rules s keeps h is) n pending) ready ((shape_of rules s keeps h is).acked ∙ sym keeps.stored_tasks)
 
   -- a commit at Ok leaves as many committed transactions as there are complete checkpoints
-  module _ (sound : IsSound lang RecordFits s) (subtask : ℕ) (k : Held R K S) (ledger : Ledger) where
+  module _ (sound : IsSound rules s) (subtask : ℕ) (k : Held R K S) (ledger : Ledger) where
     pub reaches : (result : Result Unit CoreFault) → EndsCommit s.graph subtask h k s.ledger ledger result → OnOk result (length (committed_of ledger subtask) ≡ length (complete_numbers s.stored))
-    reaches (Ok u) ends = commits_reach lang RecordFits IsGood (as_fresh lang RecordFits IsGood s) (keeps_as_fresh lang RecordFits IsGood s keeps sound) refl h is subtask k ledger u ends
+    reaches (Ok u) ends = commits_reach rules (as_fresh rules s) (keeps_as_fresh rules s keeps sound) refl h is subtask k ledger u ends
     reaches (Err fault) ends = tt
 
   -- a checkpoint that is complete now has every part
@@ -51,5 +51,5 @@ module _ {R K S O : Type 0} (lang : Language R K S O) (RecordFits : R → Type 0
     pub whole : (result : Result ℕ CoreFault) → EndsComplete h k s.stored stored result → IfOk result (λ n. has_all_parts stored n ≡ true)
     whole (Ok n) ends =
         subst (λ (x : Stored). has_all_parts x n ≡ true) (sym ends.2)
-        (ready_parts lang s.graph s.stored h n (runs_pending lang s h (runs_of lang RecordFits IsGood s keeps h is) n ends.0) ends.1 ((shape_of lang RecordFits IsGood s keeps h is).acked ∙ sym keeps.stored_tasks))
+        (ready_parts rules.lang s.graph s.stored h n (runs_pending rules.lang s h (runs_of rules s keeps h is) n ends.0) ends.1 ((shape_of rules s keeps h is).acked ∙ sym keeps.stored_tasks))
     whole (Err fault) ends = tt

@@ -72,8 +72,8 @@ impl<O: Operator, S: SnapshotStore, X: Transactions, P: Partitions<Record = O::R
     ghost use Rattle.std.specs.Prelude.{◌+◌};
     ghost use Rattle.std.specs.Coded.{codes};
     ghost use Rattle.abs_codec.specs.Spelling.{Fits};
-    ghost use Rattle.operators.specs.Operator.{IsGoodState};
     ghost use Rattle.snapshot_store.specs.Store.{stored_code};
+    ghost use Rattle.engine_model.specs.AllRules.{all_rules};
     ghost use Rattle.engine_model.specs.Language.{language};
     ghost use Rattle.engine_model.specs.State.{State};
     ghost use Rattle.engine_model.specs.Keeps.{Keeps};
@@ -94,9 +94,10 @@ impl<O: Operator, S: SnapshotStore, X: Transactions, P: Partitions<Record = O::R
       attempts = c.attempts;
     } };
 
-    ghost invariant = { λ c. Keeps (language O.meaning O.Key.cmp O.Record.spelling O.Record.reading
-        O.Key.reading O.State.reading) (Fits O.Record.HasSpelling O.Record.spelling)
-        (IsGoodState (Fits O.State.HasSpelling O.State.spelling) O.Suits) (record {
+    ghost invariant = { λ c. Keeps (all_rules (language O.meaning O.Key.cmp
+        O.Record.spelling O.Record.reading O.Key.reading O.State.reading)
+        (Fits O.Record.HasSpelling O.Record.spelling) (Fits O.Key.HasSpelling O.Key.spelling)
+        (Fits O.State.HasSpelling O.State.spelling) O.Suits) (record {
           graph = c.graph;
           operators = c.operators.items;
           partitions = P.records c.log;
@@ -191,9 +192,9 @@ impl<O: Operator, S: SnapshotStore, X: Transactions, P: Partitions<Record = O::R
           attempts = 0;
         } }
         ensures legal { (former : List (List O.Record)) → HaveGrown former (P.records log)
-            → AreLegal ⟦<O as Rules>⟧.lang ⟦<O as Rules>⟧.RecordFits graph operators.items former
+            → AreLegal ⟦<O as Rules>⟧.all graph operators.items former
             (S.state store) (X.state transactions)
-            → IsSound ⟦<O as Rules>⟧.lang ⟦<O as Rules>⟧.RecordFits result }
+            → IsSound ⟦<O as Rules>⟧.all result }
         ensures fresh { IsTrue result.is_fresh
             ↔ ((S.state store ≡ stores.blank (length graph.tasks))
             × (X.state transactions ≡ ledgers.blank (count_by is_sink graph.tasks))) }
@@ -222,10 +223,9 @@ impl<O: Operator, S: SnapshotStore, X: Transactions, P: Partitions<Record = O::R
     /// checkpoint; on a line, what the operator makes of a beginning of the partition.
     pub fn is_fresh(&self) -> bool
         ensures value { result ≡ self.now.is_fresh }
-        ensures kept { Keeps ⟦<O as Rules>⟧.lang ⟦<O as Rules>⟧.RecordFits ⟦<O as Rules>⟧.IsGood
-            self.now }
+        ensures kept { Keeps ⟦<O as Rules>⟧.all self.now }
         ensures sound { IsTrue result
-            → IsSound ⟦<O as Rules>⟧.lang ⟦<O as Rules>⟧.RecordFits self.now }
+            → IsSound ⟦<O as Rules>⟧.all self.now }
         ensures exact { IsTrue result → IsExactlyOnce ⟦<O as Rules>⟧.lang self.now }
         ensures line { IsTrue result → (operator : O) → IsLine self.now.graph
             → slice_get self.now.operators 0 ≡ Some operator
@@ -242,8 +242,7 @@ impl<O: Operator, S: SnapshotStore, X: Transactions, P: Partitions<Record = O::R
         ensures err { IfErr result (λ fault. (fault ≡ CoreFault.NotRunning) × (self.old.held ≡ None)
             × (self.new ≡ self.old)) }
         ensures goes { Goes ⟦<O as Rules>⟧.lang self.old self.new }
-        ensures sound { IsSound ⟦<O as Rules>⟧.lang ⟦<O as Rules>⟧.RecordFits self.old
-            → IsSound ⟦<O as Rules>⟧.lang ⟦<O as Rules>⟧.RecordFits self.new }
+        ensures sound { IsSound ⟦<O as Rules>⟧.all self.old → IsSound ⟦<O as Rules>⟧.all self.new }
         ensures stays { Stays ⟦<O as Rules>⟧.lang self.old self.new }
         ensures counted { IsCounted self.old.faults self.new.faults result }
         ensures same { IsSameJob self.old self.new }
@@ -262,21 +261,18 @@ impl<O: Operator, S: SnapshotStore, X: Transactions, P: Partitions<Record = O::R
     /// leaves the job down; transactions may be settled in part, and the next one does the rest.
     /// Attempts have numbers below 2^63.
     pub fn restart(&mut self) -> Result<Option<u64>, CoreFault>
-        ensures ends { OnDown self.old self.new (EndsRestart ⟦<O as Rules>⟧.lang
-            ⟦<O as Rules>⟧.KeyFits ⟦<O as Rules>⟧.RecordFits ⟦<O as Rules>⟧.IsGood self.old.graph
+        ensures ends { OnDown self.old self.new (EndsRestart ⟦<O as Rules>⟧.all self.old.graph
             self.old.operators self.old.partitions self.old.stored self.old.ledger self.new.ledger)
             result }
-        ensures goes { IsSound ⟦<O as Rules>⟧.lang ⟦<O as Rules>⟧.RecordFits self.old
+        ensures goes { IsSound ⟦<O as Rules>⟧.all self.old
             → Goes ⟦<O as Rules>⟧.lang self.old self.new }
-        ensures sound { IsSound ⟦<O as Rules>⟧.lang ⟦<O as Rules>⟧.RecordFits self.old
-            → IsSound ⟦<O as Rules>⟧.lang ⟦<O as Rules>⟧.RecordFits self.new }
+        ensures sound { IsSound ⟦<O as Rules>⟧.all self.old → IsSound ⟦<O as Rules>⟧.all self.new }
         ensures begins { (subtask : ℕ) → Begins (committed_rows self.old.ledger subtask)
             (committed_rows self.new.ledger subtask) }
-        ensures cut { IsSound ⟦<O as Rules>⟧.lang ⟦<O as Rules>⟧.RecordFits self.old
+        ensures cut { IsSound ⟦<O as Rules>⟧.all self.old
             → IfOk result (λ last. MatchOption self.new.held ⊥
             (λ k. GoesOnFromCut ⟦<O as Rules>⟧.lang self.new last k)) }
-        ensures good { IsSound ⟦<O as Rules>⟧.lang ⟦<O as Rules>⟧.RecordFits self.old
-            → result ≢ Err CoreFault.BadSnapshot }
+        ensures good { IsSound ⟦<O as Rules>⟧.all self.old → result ≢ Err CoreFault.BadSnapshot }
         ensures counted { IsCounted self.old.faults self.new.faults result }
         ensures same { IsSameJob self.old self.new }
     {
@@ -304,8 +300,7 @@ impl<O: Operator, S: SnapshotStore, X: Transactions, P: Partitions<Record = O::R
         ensures ends { OnAttempt self.old self.new (λ h k. EndsRead self.old.graph task h k
             ⟦<O as Rules>⟧.lang self.old.partitions) result }
         ensures goes { Goes ⟦<O as Rules>⟧.lang self.old self.new }
-        ensures sound { IsSound ⟦<O as Rules>⟧.lang ⟦<O as Rules>⟧.RecordFits self.old
-            → IsSound ⟦<O as Rules>⟧.lang ⟦<O as Rules>⟧.RecordFits self.new }
+        ensures sound { IsSound ⟦<O as Rules>⟧.all self.old → IsSound ⟦<O as Rules>⟧.all self.new }
         ensures plain { StepsIfOk result ⟦<O as Rules>⟧.lang (machine.Read task) self.old self.new }
         ensures counted { IsCounted self.old.faults self.new.faults result }
         ensures same { IsSameJob self.old self.new }
@@ -325,8 +320,7 @@ impl<O: Operator, S: SnapshotStore, X: Transactions, P: Partitions<Record = O::R
             (λ h k. EndsBarrier self.old.graph task input h k self.old.ledger self.new.ledger)
             result }
         ensures goes { Goes ⟦<O as Rules>⟧.lang self.old self.new }
-        ensures sound { IsSound ⟦<O as Rules>⟧.lang ⟦<O as Rules>⟧.RecordFits self.old
-            → IsSound ⟦<O as Rules>⟧.lang ⟦<O as Rules>⟧.RecordFits self.new }
+        ensures sound { IsSound ⟦<O as Rules>⟧.all self.old → IsSound ⟦<O as Rules>⟧.all self.new }
         ensures begins { (task subtask : ℕ) → slice_get self.old.graph.tasks task
             ≡ Some (Role.Sink subtask) → Begins (committed_rows self.old.ledger subtask)
             (committed_rows self.new.ledger subtask) }
@@ -353,8 +347,7 @@ impl<O: Operator, S: SnapshotStore, X: Transactions, P: Partitions<Record = O::R
         ensures ends { OnAttempt self.old self.new
             (λ h k. EndsInject self.old.graph task h k) result }
         ensures goes { Goes ⟦<O as Rules>⟧.lang self.old self.new }
-        ensures sound { IsSound ⟦<O as Rules>⟧.lang ⟦<O as Rules>⟧.RecordFits self.old
-            → IsSound ⟦<O as Rules>⟧.lang ⟦<O as Rules>⟧.RecordFits self.new }
+        ensures sound { IsSound ⟦<O as Rules>⟧.all self.old → IsSound ⟦<O as Rules>⟧.all self.new }
         ensures stays { Stays ⟦<O as Rules>⟧.lang self.old self.new }
         ensures counted { IsCounted self.old.faults self.new.faults result }
         ensures same { IsSameJob self.old self.new }
@@ -373,8 +366,7 @@ impl<O: Operator, S: SnapshotStore, X: Transactions, P: Partitions<Record = O::R
         ensures ends { OnStore self.old self.new
             (λ h k. EndsTrigger h k self.old.stored self.new.stored) result }
         ensures goes { Goes ⟦<O as Rules>⟧.lang self.old self.new }
-        ensures sound { IsSound ⟦<O as Rules>⟧.lang ⟦<O as Rules>⟧.RecordFits self.old
-            → IsSound ⟦<O as Rules>⟧.lang ⟦<O as Rules>⟧.RecordFits self.new }
+        ensures sound { IsSound ⟦<O as Rules>⟧.all self.old → IsSound ⟦<O as Rules>⟧.all self.new }
         ensures stays { Stays ⟦<O as Rules>⟧.lang self.old self.new }
         ensures counted { IsCounted self.old.faults self.new.faults result }
         ensures same { IsSameJob self.old self.new }
@@ -392,8 +384,7 @@ impl<O: Operator, S: SnapshotStore, X: Transactions, P: Partitions<Record = O::R
         ensures ends { OnStore self.old self.new (λ h k. EndsPersist self.old.graph task h k
             self.old.stored self.new.stored ⟦<O as Rules>⟧.spelling) result }
         ensures goes { Goes ⟦<O as Rules>⟧.lang self.old self.new }
-        ensures sound { IsSound ⟦<O as Rules>⟧.lang ⟦<O as Rules>⟧.RecordFits self.old
-            → IsSound ⟦<O as Rules>⟧.lang ⟦<O as Rules>⟧.RecordFits self.new }
+        ensures sound { IsSound ⟦<O as Rules>⟧.all self.old → IsSound ⟦<O as Rules>⟧.all self.new }
         ensures stays { Stays ⟦<O as Rules>⟧.lang self.old self.new }
         ensures counted { IsCounted self.old.faults self.new.faults result }
         ensures same { IsSameJob self.old self.new }
@@ -413,8 +404,7 @@ impl<O: Operator, S: SnapshotStore, X: Transactions, P: Partitions<Record = O::R
         ensures ends { OnStore self.old self.new (λ h k. EndsPersistSome self.old.graph task h k
             self.old.stored self.new.stored ⟦<O as Rules>⟧.spelling) result }
         ensures goes { Goes ⟦<O as Rules>⟧.lang self.old self.new }
-        ensures sound { IsSound ⟦<O as Rules>⟧.lang ⟦<O as Rules>⟧.RecordFits self.old
-            → IsSound ⟦<O as Rules>⟧.lang ⟦<O as Rules>⟧.RecordFits self.new }
+        ensures sound { IsSound ⟦<O as Rules>⟧.all self.old → IsSound ⟦<O as Rules>⟧.all self.new }
         ensures stays { Stays ⟦<O as Rules>⟧.lang self.old self.new }
         ensures counted { IsCounted self.old.faults self.new.faults result }
         ensures same { IsSameJob self.old self.new }
@@ -437,12 +427,11 @@ impl<O: Operator, S: SnapshotStore, X: Transactions, P: Partitions<Record = O::R
         ensures whole { IfOk result (λ number. stores.has_all_parts self.new.stored number ≡ true) }
         ensures cut { IfOk result (λ number. MatchOption self.old.held ⊥
             (λ h. HasTheCut ⟦<O as Rules>⟧.lang self.old h self.new.stored number)) }
-        ensures reached { IsSound ⟦<O as Rules>⟧.lang ⟦<O as Rules>⟧.RecordFits self.old
+        ensures reached { IsSound ⟦<O as Rules>⟧.all self.old
             → IfOk result (IsReachedCut (job_of ⟦<O as Rules>⟧.lang self.new) O.Record.spelling
             (devices_of ⟦<O as Rules>⟧.lang self.new)) }
         ensures goes { Goes ⟦<O as Rules>⟧.lang self.old self.new }
-        ensures sound { IsSound ⟦<O as Rules>⟧.lang ⟦<O as Rules>⟧.RecordFits self.old
-            → IsSound ⟦<O as Rules>⟧.lang ⟦<O as Rules>⟧.RecordFits self.new }
+        ensures sound { IsSound ⟦<O as Rules>⟧.all self.old → IsSound ⟦<O as Rules>⟧.all self.new }
         ensures stays { Stays ⟦<O as Rules>⟧.lang self.old self.new }
         ensures counted { IsCounted self.old.faults self.new.faults result }
         ensures same { IsSameJob self.old self.new }
@@ -461,14 +450,13 @@ impl<O: Operator, S: SnapshotStore, X: Transactions, P: Partitions<Record = O::R
         ensures ends { OnTransactions self.old self.new
             (λ h k. EndsCommit self.old.graph sink h k self.old.ledger self.new.ledger) result }
         ensures goes { Goes ⟦<O as Rules>⟧.lang self.old self.new }
-        ensures sound { IsSound ⟦<O as Rules>⟧.lang ⟦<O as Rules>⟧.RecordFits self.old
-            → IsSound ⟦<O as Rules>⟧.lang ⟦<O as Rules>⟧.RecordFits self.new }
+        ensures sound { IsSound ⟦<O as Rules>⟧.all self.old → IsSound ⟦<O as Rules>⟧.all self.new }
         ensures begins { (task subtask : ℕ) → slice_get self.old.graph.tasks task
             ≡ Some (Role.Sink subtask) → Begins (committed_rows self.old.ledger subtask)
             (committed_rows self.new.ledger subtask) }
         ensures stays { Stays ⟦<O as Rules>⟧.lang self.old self.new }
         ensures counted { IsCounted self.old.faults self.new.faults result }
-        ensures reaches { IsSound ⟦<O as Rules>⟧.lang ⟦<O as Rules>⟧.RecordFits self.old
+        ensures reaches { IsSound ⟦<O as Rules>⟧.all self.old
             → OnOk result (length (committed_of self.new.ledger sink)
             ≡ length (complete_numbers self.new.stored)) }
         ensures same { IsSameJob self.old self.new }
@@ -495,8 +483,7 @@ impl<O: Operator, S: SnapshotStore, X: Transactions, P: Partitions<Record = O::R
         } }
         ensures stays { Stays ⟦<O as Rules>⟧.lang self.old self.new }
         ensures kept { IsSameJob self.old self.new }
-        ensures sound { IsSound ⟦<O as Rules>⟧.lang ⟦<O as Rules>⟧.RecordFits self.old
-            → IsSound ⟦<O as Rules>⟧.lang ⟦<O as Rules>⟧.RecordFits self.new }
+        ensures sound { IsSound ⟦<O as Rules>⟧.all self.old → IsSound ⟦<O as Rules>⟧.all self.new }
         ensures ledger { self.new.ledger ≡ self.old.ledger }
     {
         self.log.append(partition, row)
@@ -509,8 +496,8 @@ impl<O: Operator, S: SnapshotStore, X: Transactions, P: Partitions<Record = O::R
         ensures partitions { P.records result.0 ≡ self.partitions }
         ensures stored { S.state result.1 ≡ self.stored }
         ensures ledger { X.state result.2 ≡ self.ledger }
-        ensures legal { IsSound ⟦<O as Rules>⟧.lang ⟦<O as Rules>⟧.RecordFits self
-            → AreLegal ⟦<O as Rules>⟧.lang ⟦<O as Rules>⟧.RecordFits self.graph self.operators
+        ensures legal { IsSound ⟦<O as Rules>⟧.all self
+            → AreLegal ⟦<O as Rules>⟧.all self.graph self.operators
             (P.records result.0) (S.state result.1) (X.state result.2) }
     {
         let Engine {

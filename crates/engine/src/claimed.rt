@@ -86,8 +86,7 @@ impl<O: Operator, S: SnapshotStore, X: Transactions, P: Partitions<Record = O::R
             self.old.graph self.old.operators task input h k self.old.ledger self.new.ledger worked)
             result }
         ensures goes { Goes ⟦<O as Rules>⟧.lang self.old self.new }
-        ensures sound { IsSound ⟦<O as Rules>⟧.lang ⟦<O as Rules>⟧.RecordFits self.old
-            → IsSound ⟦<O as Rules>⟧.lang ⟦<O as Rules>⟧.RecordFits self.new }
+        ensures sound { IsSound ⟦<O as Rules>⟧.all self.old → IsSound ⟦<O as Rules>⟧.all self.new }
         ensures begins { (task subtask : ℕ) → slice_get self.old.graph.tasks task
             ≡ Some (Role.Sink subtask) → Begins (committed_rows self.old.ledger subtask)
             (committed_rows self.new.ledger subtask) }

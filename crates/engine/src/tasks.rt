@@ -23,7 +23,7 @@ pub(crate) fn take_barrier<O: Operator, X: Transactions>(
     task: u32,
     input: u32,
 ) -> Result<Effect, CoreFault>
-    requires serves { Serves O.Key.cmp ⟦<O as Rules>⟧.RecordFits ⟦<O as Rules>⟧.IsGood graph.now
+    requires serves { Serves ⟦<O as Rules>⟧.all graph.now
         operators.now (X.state transactions.old) attempt.old }
     ensures ends { EndsBarrier graph.now task input attempt.old attempt.new
         (X.state transactions.old) (X.state transactions.new) result }

@@ -24,9 +24,9 @@ use Rattle.operators.specs.declared.row_op.RowOp.TheVariants.{Add}
 use Rattle.snapshot_store.specs.Store.{part_of}
 use Rattle.source_log.specs.Partitions.{records_at}
 use Rattle.task_part.specs.declared.part.Part.TheVariants as part
+use Rattle.engine_model.specs.AllRules.{AllRules}
 use Rattle.engine_model.specs.Goes.{Goes}
 use Rattle.engine_model.specs.Keeps.{Keeps}
-use Rattle.engine_model.specs.Language.{Language}
 use Rattle.engine_model.specs.LastCommitted.{committed_of, complete_numbers, last_of_first, last_committed}
 use Rattle.engine_model.specs.State.{State}
 use Rattle.engine_model.specs.View.{part_view, part_in, transactions_at, job_of, is_logged_in, devices_of}
@@ -39,9 +39,9 @@ empty_of : {A : Type 0} (xs : List A) → length xs ≡ 0 → xs ≡ []
 empty_of [] e = refl
 empty_of (x ∷ xs) e = absurd (omega (arith, e))
 
-module _ {R K S O : Type 0} (lang : Language R K S O) (RecordFits : R → Type 0) (IsGood : O → S → Type 0) (s : State O R K S) (operator : O) (runs : RunsLine lang RecordFits IsGood operator s) where
+module _ {R K S O : Type 0} (rules : AllRules R K S O) (s : State O R K S) (operator : O) (runs : RunsLine rules operator s) where
   -- the model's job is a line
-  is_line : model.IsLine (job_of lang s) 0 operator
+  is_line : model.IsLine (job_of rules.lang s) 0 operator
   is_line = record {
     tasks = ap (map (task_of s.operators)) runs.line.tasks ∙ ap (λ (o : Option O). SourceTask 0 ∷ operator_task o ∷ SinkTask ∷ []) runs.operator_is;
     first = runs.line.first;
@@ -51,10 +51,10 @@ module _ {R K S O : Type 0} (lang : Language R K S O) (RecordFits : R → Type 0
     second_takes = runs.line.second_takes;
   }
 
-  begins : CommitsBeginning (job_of lang s) lang.spelling 0 operator (devices_of lang s)
+  begins : CommitsBeginning (job_of rules.lang s) rules.lang.spelling 0 operator (devices_of rules.lang s)
   begins =
       let held = runs.keeps.fresh runs.fresh in
-      lines_commit (job_of lang s) lang.spelling (is_logged_in s) 0 operator (devices_of lang s) held.running is_line
+      lines_commit (job_of rules.lang s) rules.lang.spelling (is_logged_in s) 0 operator (devices_of rules.lang s) held.running is_line
       (ap (λ (cs : List Channel). meets is_marked cs 0) runs.line.channels) (ap (λ (cs : List Channel). meets is_marked cs 1) runs.line.channels) held.sound
 
   sink_at : slice_get s.graph.tasks 2 ≡ Some (role.Sink 0)
@@ -70,8 +70,8 @@ module _ {R K S O : Type 0} (lang : Language R K S O) (RecordFits : R → Type 0
   -- there is a complete checkpoint for each
   complete_at : (j : ℕ) → length committed ≡ suc j → j < length (complete_numbers s.stored)
   complete_at j e =
-      let exact = keeps_exact lang RecordFits IsGood s runs.keeps runs.fresh in
-      let at = exact.exactly 2 j (is_sink_of lang s 2 0 sink_at) e in
+      let exact = keeps_exact rules s runs.keeps runs.fresh in
+      let at = exact.exactly 2 j (is_sink_of rules.lang s 2 0 sink_at) e in
       let within = slice_get_within exact.moments j at.0 at.2 in
       omega (arith, within, exact.one_each)
 
@@ -87,50 +87,50 @@ module _ {R K S O : Type 0} (lang : Language R K S O) (RecordFits : R → Type 0
       of zero e = begins.from_none (empty_of committed (same_count ∙ e))
       of (suc j) e = absurd (none_past (complete_numbers s.stored) j (ap (last_of_first s.stored) (sym e) ∙ none) (complete_at j (same_count ∙ e)))
 
-  source_at : slice_get (job_of lang s).graph.tasks 0 ≡ Some (SourceTask 0)
+  source_at : slice_get (job_of rules.lang s).graph.tasks 0 ≡ Some (SourceTask 0)
   source_at = ap (λ ts. slice_get ts 0) is_line.tasks
 
-  from_part : (n start : ℕ) (bytes : List ℕ) → last_committed s.stored s.ledger 0 ≡ Some n → part_of s.stored n 0 ≡ Some bytes → whole_of lang.read_part bytes ≡ Ok (part.Source start) → begins.offset ≡ start
+  from_part : (n start : ℕ) (bytes : List ℕ) → last_committed s.stored s.ledger 0 ≡ Some n → part_of s.stored n 0 ≡ Some bytes → whole_of rules.lang.read_part bytes ≡ Ok (part.Source start) → begins.offset ≡ start
   from_part n start bytes last has reads = of (length (committed_of s.ledger 0)) refl
     where
-      spelled : part_in lang (part_of s.stored n 0) ≡ Some (part_view lang.cmp (part.Source start))
-      spelled = ap (part_in lang) has ∙ ap (λ (r : Result _ _). (let o : Option (durable.Part R K S) = elim r [ Ok p ↦ Some (part_view lang.cmp p) | Err fault ↦ None ] in o)) reads
+      spelled : part_in rules.lang (part_of s.stored n 0) ≡ Some (part_view rules.lang.cmp (part.Source start))
+      spelled = ap (part_in rules.lang) has ∙ ap (λ (r : Result _ _). (let o : Option (durable.Part R K S) = elim r [ Ok p ↦ Some (part_view rules.lang.cmp p) | Err fault ↦ None ] in o)) reads
 
       of : (count : ℕ) → length (committed_of s.ledger 0) ≡ count → begins.offset ≡ start
       of zero e = absurd (none-some n (ap (last_of_first s.stored) (sym e) ∙ last))
       of (suc j) e =
           let there : slice_get (complete_numbers s.stored) j ≡ Some n = ap (last_of_first s.stored) (sym e) ∙ last in
-          let parts : HasParts (job_of lang s) (devices_of lang s).store n =
-          runs.keeps.whole runs.fresh n 0 (SourceTask 0) (part_view lang.cmp (part.Source start)) (on_at (complete_numbers s.stored) j n there) source_at spelled in
-          begins.from_part j n (part_view lang.cmp (part.Source start)) (same_count ∙ e) there parts spelled
+          let parts : HasParts (job_of rules.lang s) (devices_of rules.lang s).store n =
+          runs.keeps.whole runs.fresh n 0 (SourceTask 0) (part_view rules.lang.cmp (part.Source start)) (on_at (complete_numbers s.stored) j n there) source_at spelled in
+          begins.from_part j n (part_view rules.lang.cmp (part.Source start)) (same_count ∙ e) there parts spelled
 
-  pub commits_made : CommitsABeginning lang s (λ rows. applied lang.meaning operator rows)
+  pub commits_made : CommitsABeginning rules.lang s (λ rows. applied rules.lang.meaning operator rows)
   commits_made = record {
     offset = begins.offset;
     within = begins.within;
-    committed = sym (rows_at lang s.graph s.ledger 2 0 sink_at runs.keeps.ordered) ∙ begins.committed;
+    committed = sym (rows_at rules.lang s.graph s.ledger 2 0 sink_at runs.keeps.ordered) ∙ begins.committed;
     from_none = from_none;
     from_part = from_part;
   }
 
   -- what is made is the same
-  commits_so : (made : List R → List R) → ((rows : List R) → applied lang.meaning operator rows ≡ made rows) → CommitsABeginning lang s made
+  commits_so : (made : List R → List R) → ((rows : List R) → applied rules.lang.meaning operator rows ≡ made rows) → CommitsABeginning rules.lang s made
   commits_so made same = record {
     offset = commits_made.offset;
     within = commits_made.within;
-    committed = commits_made.committed ∙ ap (map lang.spelling) (same (take commits_made.offset (records_at s.partitions 0)));
+    committed = commits_made.committed ∙ ap (map rules.lang.spelling) (same (take commits_made.offset (records_at s.partitions 0)));
     from_none = commits_made.from_none;
     from_part = commits_made.from_part;
   }
 
-  pub commits_each : (f : R → R) → ((state : S) (r : R) → on_first_port (lang.meaning.apply operator state r).sent ≡ f r ∷ []) → CommitsABeginning lang s (λ rows. map f rows)
-  commits_each f one = commits_so (λ rows. map f rows) (λ rows. one_for_each lang.meaning operator f no_states rows one)
+  pub commits_each : (f : R → R) → ((state : S) (r : R) → on_first_port (rules.lang.meaning.apply operator state r).sent ≡ f r ∷ []) → CommitsABeginning rules.lang s (λ rows. map f rows)
+  commits_each f one = commits_so (λ rows. map f rows) (λ rows. one_for_each rules.lang.meaning operator f no_states rows one)
 
-module _ (lang : Language Row (List ℕ) RowState RowOp) (RecordFits : Row → Type 0) (IsGood : RowOp → RowState → Type 0) (s : State RowOp Row (List ℕ) RowState) (n : ℤ) (meaning : lang.meaning ≡ row_meaning) where
-  pub commits_sums : RunsLine lang RecordFits IsGood (Add n) s → CommitsABeginning lang s (λ rows. map (added n) rows)
-  commits_sums runs = commits_each lang RecordFits IsGood s (Add n) runs (added n) (λ state r. ap (λ m. on_first_port (m.apply (Add n) state r).sent) meaning)
+module _ (rules : AllRules Row (List ℕ) RowState RowOp) (s : State RowOp Row (List ℕ) RowState) (n : ℤ) (meaning : rules.lang.meaning ≡ row_meaning) where
+  pub commits_sums : RunsLine rules (Add n) s → CommitsABeginning rules.lang s (λ rows. map (added n) rows)
+  commits_sums runs = commits_each rules s (Add n) runs (added n) (λ state r. ap (λ m. on_first_port (m.apply (Add n) state r).sent) meaning)
 
-module _ {R K S O : Type 0} (lang : Language R K S O) (RecordFits : R → Type 0) (IsGood : O → S → Type 0) where
-  pub withdraws_none : (s new : State O R K S) → Keeps lang RecordFits IsGood s → Keeps lang RecordFits IsGood new → IsLine s.graph → new.graph ≡ s.graph → Goes lang s new → Begins (committed_rows s.ledger 0) (committed_rows new.ledger 0)
+module _ {R K S O : Type 0} (rules : AllRules R K S O) where
+  pub withdraws_none : (s new : State O R K S) → Keeps rules s → Keeps rules new → IsLine s.graph → new.graph ≡ s.graph → Goes rules.lang s new → Begins (committed_rows s.ledger 0) (committed_rows new.ledger 0)
   withdraws_none s new old_keeps new_keeps line same goes =
-      goes_withdraws lang s new 2 0 same (ap (λ (ts : List Role). slice_get ts 2) line.tasks) old_keeps.ordered new_keeps.ordered goes
+      goes_withdraws rules.lang s new 2 0 same (ap (λ (ts : List Role). slice_get ts 2) line.tasks) old_keeps.ordered new_keeps.ordered goes

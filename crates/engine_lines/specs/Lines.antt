@@ -12,6 +12,7 @@ use Rattle.engine_lines.specs.Line.{line_channel, TakesAll}
 use Rattle.snapshot_store.specs.Store.{part_of}
 use Rattle.source_log.specs.Partitions.{records_at}
 use Rattle.task_part.specs.declared.part.Part.TheVariants as part
+use Rattle.engine_model.specs.AllRules.{AllRules}
 use Rattle.engine_model.specs.Keeps.{Keeps}
 use Rattle.engine_model.specs.Language.{Language}
 use Rattle.engine_model.specs.LastCommitted.{last_committed}
@@ -47,8 +48,8 @@ pub record IsLineJob (job : Job) : Type 0 where
 
 module _ {R K S O : Type 0} where
   -- An engine that runs a line of this operator, over devices that were new when it was opened.
-  pub record RunsLine (lang : Language R K S O) (RecordFits : R → Type 0) (IsGood : O → S → Type 0) (operator : O) (s : State O R K S) : Type 0 where
-    pub keeps : Keeps lang RecordFits IsGood s
+  pub record RunsLine (rules : AllRules R K S O) (operator : O) (s : State O R K S) : Type 0 where
+    pub keeps : Keeps rules s
     pub fresh : s.is_fresh ≡ true
     pub line : IsLine s.graph
     pub operator_is : slice_get s.operators 0 ≡ Some operator

@@ -13,3 +13,4 @@ pub mod Turns
 pub mod Restart
 pub mod PlainGood
 pub mod Sounds
+pub mod RulesOf

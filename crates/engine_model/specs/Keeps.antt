@@ -1,7 +1,6 @@
 -- What every engine keeps, and when it is sound.
 use Rattle.std.specs.Prelude.{◌≡◌, ◌≢◌, ◌⊎◌, ◌+◌, ◌<◌, ◌≤◌, ℕ, Bool, true, false, List, [], ◌∷◌, ◌++◌, length, map, count_by, slice_get, Option, Some, None, Ok, is_some, All, MatchOption}
 use Rattle.dataflow_model.specs.Graph.{Task, Job, Channel}
-use Rattle.std.specs.declared.cmp.Ordering.{Ordering}
 use Rattle.abs_codec.specs.Entries.{value_at}
 use Rattle.abs_codec.specs.Reading.{whole_of}
 use Rattle.alignment.specs.Inputs as gates
@@ -33,6 +32,7 @@ use Rattle.snapshot_store.specs.Store.{Stored, IsNumbered, is_complete, part_of}
 use Rattle.task_part.specs.Spelling.{Logs}
 use Rattle.task_part.specs.declared.part.Part.{Part}
 use Rattle.task_part.specs.declared.part.Part.TheVariants as part
+use Rattle.engine_model.specs.AllRules.{AllRules, IsGood}
 use Rattle.engine_model.specs.Language.{Language}
 use Rattle.engine_model.specs.State.{State}
 use Rattle.engine_model.specs.View.{store_of, job_of, is_logged_in, devices_of, running_of, book_of}
@@ -145,7 +145,7 @@ abbrev pub CameAfter : {R K S : Type 0} → Expanded → Held R K S → Type 0
 CameAfter graph held = (number : ℕ) (channel : Channel) → slice_get graph.channels number ≡ Some channel → came_at held number ≡ true → copy_at held channel.sender ≢ None
 
 -- What a running job holds, by its graph and its operators, which ask that records fit, and that states are good.
-pub record Shape {R K S O : Type 0} (cmp : K → K → Ordering) (RecordFits : R → Type 0) (IsGood : O → S → Type 0) (graph : Expanded) (operators : List O) (held : Held R K S) : Type 0 where
+pub record Shape {R K S O : Type 0} (rules : AllRules R K S O) (graph : Expanded) (operators : List O) (held : Held R K S) : Type 0 where
   pub tasks : length held.tasks ≡ length graph.tasks
   pub channels : length held.channels ≡ length graph.channels
   pub copies : length held.copies ≡ length graph.tasks
@@ -166,10 +166,10 @@ pub record Shape {R K S O : Type 0} (cmp : K → K → Ordering) (RecordFits : R
   pub forms : AreHeld graph held
   pub copy_forms : (task : ℕ) (r : Role) → slice_get graph.tasks task ≡ Some r → CopyAs r (copy_at held task)
   -- each record in a channel or a log fits, and each operator's states are such as it can go on from
-  pub fit : AllFit RecordFits held
-  pub logs_fit : LogsFit RecordFits held
+  pub fit : AllFit rules.RecordFits held
+  pub logs_fit : LogsFit rules.RecordFits held
   pub good : (task number : ℕ) (operator : O) (entries : List (K × S)) (key : K) (state : S) → slice_get graph.tasks task ≡ Some (role.Operator number) → slice_get operators number ≡ Some operator
-      → slice_get held.tasks task ≡ Some (holds.Operator entries) → value_at cmp entries key ≡ Some state → IsGood operator state
+      → slice_get held.tasks task ≡ Some (holds.Operator entries) → value_at rules.lang.cmp entries key ≡ Some state → IsGood rules operator state
 
 -- Of a sink's pending transactions none comes after one whose checkpoint is this.
 abbrev pub NoneAfter : Option ℕ → List Pending → Type 0
@@ -195,12 +195,12 @@ AllOrNone {R} {K} {S} {O} job store =
     (n task : ℕ) (kind : Task O) (p : durable.Part R K S) → is_on store.line n ≡ true → slice_get job.graph.tasks task ≡ Some kind → store.parts n task ≡ Some p → HasParts job store n
 
 -- Each part in the store is what its task's role asks for: as every part that an engine has put.
-abbrev pub PartsAreFormed : {R K S O : Type 0} → Language R K S O → (R → Type 0) → Expanded → Stored → Type 0
-PartsAreFormed {R} {K} {S} {O} lang RecordFits graph stored =
-    (n task : ℕ) (r : Role) (bytes : List ℕ) → slice_get graph.tasks task ≡ Some r → part_of stored n task ≡ Some bytes → (p : Part R K S) × (whole_of lang.read_part bytes ≡ Ok p) × PartAs RecordFits graph task r p
+abbrev pub PartsAreFormed : {R K S O : Type 0} → AllRules R K S O → Expanded → Stored → Type 0
+PartsAreFormed {R} {K} {S} {O} rules graph stored =
+    (n task : ℕ) (r : Role) (bytes : List ℕ) → slice_get graph.tasks task ≡ Some r → part_of stored n task ≡ Some bytes → (p : Part R K S) × (whole_of rules.lang.read_part bytes ≡ Ok p) × PartAs rules.RecordFits graph task r p
 
 -- What every engine keeps. A fresh one is sound.
-pub record Keeps {R K S O : Type 0} (lang : Language R K S O) (RecordFits : R → Type 0) (IsGood : O → S → Type 0) (s : State O R K S) : Type 0 where
+pub record Keeps {R K S O : Type 0} (rules : AllRules R K S O) (s : State O R K S) : Type 0 where
   pub expanded : IsExpanded s.graph
   pub operators : HaveOperators s.graph s.operators
   pub partitions : length s.partitions ≡ count_by is_source s.graph.tasks
@@ -208,8 +208,8 @@ pub record Keeps {R K S O : Type 0} (lang : Language R K S O) (RecordFits : R �
   pub numbered : IsNumbered s.stored
   pub subtasks : s.ledger.subtasks ≡ count_by is_sink s.graph.tasks
   pub ordered : IsOrdered s.ledger
-  pub shape : MatchOption s.held (Unit {0}) (Shape lang.cmp RecordFits IsGood s.graph s.operators)
-  pub runs : MatchOption s.held (Unit {0}) (RunsIn lang s)
-  pub fresh : s.is_fresh ≡ true → IsPrunedSound (job_of lang s) (is_logged_in s) lang.spelling (devices_of lang s) (pruned_running (running_of lang s))
-  pub whole : s.is_fresh ≡ true → AllOrNone (job_of lang s) (store_of lang s.stored)
-  pub formed : s.is_fresh ≡ true → PartsAreFormed lang RecordFits s.graph s.stored
+  pub shape : MatchOption s.held (Unit {0}) (Shape rules s.graph s.operators)
+  pub runs : MatchOption s.held (Unit {0}) (RunsIn rules.lang s)
+  pub fresh : s.is_fresh ≡ true → IsPrunedSound (job_of rules.lang s) (is_logged_in s) rules.lang.spelling (devices_of rules.lang s) (pruned_running (running_of rules.lang s))
+  pub whole : s.is_fresh ≡ true → AllOrNone (job_of rules.lang s) (store_of rules.lang s.stored)
+  pub formed : s.is_fresh ≡ true → PartsAreFormed rules s.graph s.stored

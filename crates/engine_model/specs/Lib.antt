@@ -1,5 +1,6 @@
 pub mod Batch
 pub mod Language
+pub mod AllRules
 pub mod State
 pub mod View
 pub mod Keeps

@@ -15,8 +15,8 @@ use Rattle.source_log.specs.Partitions.{records_at}
 use Rattle.task_part.specs.Spelling.{Logs}
 use Rattle.task_part.specs.declared.part.Part.{Part}
 use Rattle.task_part.specs.declared.part.Part.TheVariants as part
+use Rattle.engine_model.specs.AllRules.{AllRules, IsGood}
 use Rattle.engine_model.specs.Keeps.{LogsSuit}
-use Rattle.engine_model.specs.Language.{Language}
 use Rattle.engine_model.specs.declared.fault.CoreFault.{CoreFault}
 use Rattle.engine_model.specs.declared.fault.CoreFault.TheVariants.{Memory, Device, BadSnapshot}
 use Rattle.engine_model.specs.declared.start.Start.{Start}
@@ -62,14 +62,14 @@ module _ {R K S : Type 0} where
   abbrev pub openings_of : List (Start R K S) → Logs R
   openings_of starts = flat_map logs_in starts
 
-module _ {R K S O : Type 0} (lang : Language R K S O) (KeyFits : K → Type 0) (RecordFits : R → Type 0) (IsGood : O → S → Type 0) (graph : Expanded) (operators : List O) (partitions : List (List R)) where
+module _ {R K S O : Type 0} (rules : AllRules R K S O) (graph : Expanded) (operators : List O) (partitions : List (List R)) where
   -- The start is one for the task: a source's offset is within its partition, an operator's keys fit and it can go on from its states, and
   -- the logs are those of the task's marked inputs, with records that fit.
   abbrev pub Suits : ℕ → Role → Start R K S → Type 0
   Suits task (role.Source partition) (start.Source offset) = (partition < length partitions) × (offset ≤ length (records_at partitions partition))
   Suits task (role.Operator number) (start.Operator entries logs) =
-      (operator : O) × (slice_get operators number ≡ Some operator) × ((key : K) (state : S) → value_at lang.cmp entries key ≡ Some state → KeyFits key × IsGood operator state) × LogsSuit RecordFits graph task logs
-  Suits task (role.Sink subtask) (start.Sink number names logs) = (number ≡ subtask) × LogsSuit RecordFits graph task logs
+      (operator : O) × (slice_get operators number ≡ Some operator) × ((key : K) (state : S) → value_at rules.lang.cmp entries key ≡ Some state → rules.KeyFits key × IsGood rules operator state) × LogsSuit rules.RecordFits graph task logs
+  Suits task (role.Sink subtask) (start.Sink number names logs) = (number ≡ subtask) × LogsSuit rules.RecordFits graph task logs
   Suits task r st = ⊥
 
   module _ (stored : Stored) where
@@ -77,7 +77,7 @@ module _ {R K S O : Type 0} (lang : Language R K S O) (KeyFits : K → Type 0) (
     pub record IsInPart (number task : ℕ) (r : Role) (st : Start R K S) : Type 0 where
       pub bytes : List ℕ
       pub is_part : part_of stored number task ≡ Some bytes
-      pub reads : whole_of lang.read_part bytes ≡ Ok (part_for st)
+      pub reads : whole_of rules.lang.read_part bytes ≡ Ok (part_for st)
       pub suits : Suits task r st
 
     -- a task's start, by its part of the last complete checkpoint, if there is one
@@ -176,11 +176,11 @@ module _ {R K S : Type 0} where
 
 -- ---- the whole
 
-module _ {R K S O : Type 0} (lang : Language R K S O) (KeyFits : K → Type 0) (RecordFits : R → Type 0) (IsGood : O → S → Type 0) (graph : Expanded) (operators : List O) (partitions : List (List R)) (stored : Stored) (old new : Ledger) where
+module _ {R K S O : Type 0} (rules : AllRules R K S O) (graph : Expanded) (operators : List O) (partitions : List (List R)) (stored : Stored) (old new : Ledger) where
   -- The attempt: each task holds what it starts from, and the back-edges hold the logs.
   pub record Restarts (last : Option ℕ) (k : Held R K S) : Type 0 where
     pub starts : List (Start R K S)
-    pub are : AreStarts lang KeyFits RecordFits IsGood graph operators partitions stored last starts
+    pub are : AreStarts rules graph operators partitions stored last starts
     pub take : InTurn Takes starts (before_tasks old) (record { ledger = new; tasks = k.tasks })
     pub ends : k ≡ held.begun graph k.tasks (openings_of starts) last
 
@@ -188,7 +188,7 @@ module _ {R K S O : Type 0} (lang : Language R K S O) (KeyFits : K → Type 0) (
   pub record RestartsPartly (After : List (Start R K S) → Type 0) : Type 0 where
     pub last : Option ℕ
     pub starts : List (Start R K S)
-    pub are : AreStarts lang KeyFits RecordFits IsGood graph operators partitions stored last starts
+    pub are : AreStarts rules graph operators partitions stored last starts
     pub then_ends : After starts
 
   -- what a restart answers, and what it leaves of the transactions; the store stays
@@ -196,5 +196,5 @@ module _ {R K S O : Type 0} (lang : Language R K S O) (KeyFits : K → Type 0) (
   EndsRestart (Ok x) = Restarts x.0 x.1
   EndsRestart (Err Memory) = (new ≡ old) ⊎ RestartsPartly (λ starts. TakeSome starts old new)
   EndsRestart (Err Device) = (new ≡ old) ⊎ RestartsPartly (λ starts. TakeSome starts old new)
-  EndsRestart (Err BadSnapshot) = (((task : ℕ) × IsBroken lang KeyFits RecordFits IsGood graph operators partitions stored task) × (new ≡ old)) ⊎ RestartsPartly (λ starts. TakeUntilRefused starts old new)
+  EndsRestart (Err BadSnapshot) = (((task : ℕ) × IsBroken rules graph operators partitions stored task) × (new ≡ old)) ⊎ RestartsPartly (λ starts. TakeUntilRefused starts old new)
   EndsRestart (Err other) = ⊥

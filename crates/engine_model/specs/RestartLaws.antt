@@ -1,16 +1,15 @@
 -- What an engine is after a restart, and what it goes on from.
 use Rattle.std.specs.Prelude.{◌≡◌, ℕ, List, length, map, slice_get, Option, Some, None, Result, Ok, Err}
 use Rattle.std.specs.Ordering.{is_eq}
-use Rattle.std.specs.declared.cmp.Ordering.{Ordering}
 use Rattle.checkpoint_model.specs.Headline.{IsRestored}
 use Rattle.checkpoint_model.specs.Pruned.{pruned_run, pruned_start}
 use Rattle.commit_sink.specs.Ledger.{Ledger, committed_rows}
-use Rattle.dataflow_model.specs.Graph.{Meaning}
 use Rattle.dataflow_model.specs.Machine.{Configuration, Move, Reaches, start}
 use Rattle.job_graph.specs.declared.role.Role.TheVariants as role
 use Rattle.job_state.specs.Held.{Held}
 use Rattle.operators.specs.Operator.{OrderIsExact, KeysFit, FreshIsGood, StatesStayGood, SentFits}
 use Rattle.snapshot_store.specs.Store.{IsLatest}
+use Rattle.engine_model.specs.AllRules.{AllRules}
 use Rattle.engine_model.specs.declared.fault.CoreFault.{CoreFault}
 use Rattle.engine_model.specs.Language.{Language}
 use Rattle.engine_model.specs.LastCommitted.{committed_of, complete_numbers}
@@ -43,10 +42,10 @@ module _ {R K S O : Type 0} where
     pub committed : (task subtask : ℕ) → slice_get s.graph.tasks task ≡ Some (role.Sink subtask) → length (committed_of s.ledger subtask) ≡ length (complete_numbers s.stored)
 
 -- what operators promise of records, keys and states that fit
-pub record OperatorsAreLawful {R K S O : Type 0} (meaning : Meaning R K S O) (cmp : K → K → Ordering) (RecordFits : R → Type 0) (KeyFits : K → Type 0) (StateFits : S → Type 0) (Suits : O → S → Type 0) : Type 0 where
-  pub same_key : (a b : K) → meaning.same_key a b ≡ is_eq (cmp a b)
-  pub exact : OrderIsExact cmp
-  pub keys : KeysFit meaning RecordFits KeyFits
-  pub fresh : FreshIsGood meaning StateFits Suits
-  pub states : StatesStayGood meaning RecordFits StateFits Suits
-  pub sent : SentFits meaning RecordFits StateFits Suits
+pub record OperatorsAreLawful {R K S O : Type 0} (rules : AllRules R K S O) : Type 0 where
+  pub same_key : (a b : K) → rules.lang.meaning.same_key a b ≡ is_eq (rules.lang.cmp a b)
+  pub exact : OrderIsExact rules.lang.cmp
+  pub keys : KeysFit rules.lang.meaning rules.RecordFits rules.KeyFits
+  pub fresh : FreshIsGood rules.lang.meaning rules.StateFits rules.Suits
+  pub states : StatesStayGood rules.lang.meaning rules.RecordFits rules.StateFits rules.Suits
+  pub sent : SentFits rules.lang.meaning rules.RecordFits rules.StateFits rules.Suits

@@ -1,5 +1,5 @@
 -- An accepted read or work is one plain step, of the named task and input; no other call, and none that is refused, moves the plain configuration.
-use Rattle.std.specs.Prelude.{◌≡◌, ℕ, Bool, true, List, Some, Result}
+use Rattle.std.specs.Prelude.{◌≡◌, ℕ, true, List, Some, Result}
 use Rattle.alignment.specs.declared.input.Effect.{Effect}
 use Rattle.checkpoint_model.specs.Headline.{SpellsOnce}
 use Rattle.commit_sink.specs.Ledger.{Ledger}
@@ -10,7 +10,7 @@ use Rattle.task_part.specs.declared.part.Part.{Part}
 use Rattle.engine_model.specs.declared.fault.CoreFault.{CoreFault}
 use Rattle.engine_model.specs.declared.persisted.Persisted.{Persisted}
 use Rattle.engine_model.specs.Calls.{left_by, EndsRead, EndsOperate, EndsPutOut, EndsInject, EndsOperatorBarrier, EndsSinkBarrier, EndsPersist, EndsPersistSome, EndsTrigger, EndsComplete}
-use Rattle.engine_model.specs.ByTests.{RunsWith, IsOperatorTask, IsSinkTask}
+use Rattle.engine_model.specs.ByTests.{Tests, rules_by, RunsWith, IsOperatorTask, IsSinkTask}
 use Rattle.engine_model.specs.Commits.{EndsCommit}
 use Rattle.engine_model.specs.Language.{Language}
 use Rattle.engine_model.specs.State.{State}
@@ -48,12 +48,12 @@ module _ {R K S O : Type 0} where
 
   -- each call of an engine that keeps what every engine keeps
   abbrev pub CallsArePlain : Language R K S O → Type 0
-  CallsArePlain lang = (fits : R → Bool) (state_fits : S → Bool) (suits : O → S → Bool) (s : State O R K S) (h : Held R K S) → RunsWith lang fits state_fits suits s h → CallsOf lang s h
+  CallsArePlain lang = (tests : Tests R K S O) (s : State O R K S) (h : Held R K S) → RunsWith (rules_by lang tests) s h → CallsOf lang s h
 
   -- a fresh engine that runs stands for a configuration that the plain machine reaches
   abbrev pub FreshEnginesAreReached : Language R K S O → Type 0
   FreshEnginesAreReached lang =
-      (fits : R → Bool) (state_fits : S → Bool) (suits : O → S → Bool) (s : State O R K S) (h : Held R K S) → RunsWith lang fits state_fits suits s h → s.is_fresh ≡ true →
+      (tests : Tests R K S O) (s : State O R K S) (h : Held R K S) → RunsWith (rules_by lang tests) s h → s.is_fresh ≡ true →
       (moves : List Move) × (at : Configuration R K S) × Reaches (job_of lang s) moves start at × StandsFor lang s at
 
   -- an engine's data stand for one configuration, if different records are spelled differently

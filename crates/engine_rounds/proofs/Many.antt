@@ -7,6 +7,7 @@ use Rattle.dataflow_model.specs.Machine.{Configuration, Move, Reaches}
 use Rattle.dataflow_model.proofs.Runs.{join}
 use Rattle.job_state.specs.Held.{Held}
 use Rattle.snapshot_store.specs.Store.{Stored}
+use Rattle.engine_model.specs.AllRules.{AllRules}
 use Rattle.engine_model.specs.Language.{Language}
 use Rattle.engine_model.specs.State.{State}
 use Rattle.engine_model.specs.View.{job_of}
@@ -80,30 +81,30 @@ module _ {R K S O : Type 0} (lang : Language R K S O) where
       let s = steps at stands in
       match_any new.held (s.0, (s.0, s.1, refl), s.2)
 
-module _ {R K S O : Type 0} (lang : Language R K S O) (RecordFits : R → Type 0) where
+module _ {R K S O : Type 0} (rules : AllRules R K S O) where
   -- nothing is done
-  pub works_none : (old new : State O R K S) → new ≡ old → Works lang RecordFits [] old new
+  pub works_none : (old new : State O R K S) → new ≡ old → Works rules [] old new
   works_none old new same =
-      subst (λ (x : State O R K S). Works lang RecordFits [] old x) (sym same)
+      subst (λ (x : State O R K S). Works rules [] old x) (sym same)
       (record {
         goes = ([], refl);
         sound = λ sound. sound;
         same = refl;
         down = λ down. down;
         begins = λ task subtask at. begins_same (committed_rows old.ledger subtask) (committed_rows old.ledger subtask) refl;
-        moves_by = moves_none lang old old (stays_same lang old old refl);
+        moves_by = moves_none rules.lang old old (stays_same rules.lang old old refl);
       })
 
   -- one call after another
   module _ (one two : List Move) (old new : State O R K S) where
     abbrev Moved : Configuration R K S → List Move → State O R K S → Type 0
-    Moved at moves s = (last : Configuration R K S) × Reaches (job_of lang old) moves at last × StandsFor lang s last
+    Moved at moves s = (last : Configuration R K S) × Reaches (job_of rules.lang old) moves at last × StandsFor rules.lang s last
 
-    both_after : (held : Option (Held R K S)) (stored : Stored) (ledger : Ledger) (n : ℕ) → Works lang RecordFits one old (after old held stored ledger n) → Works lang RecordFits two (after old held stored ledger n) new
-        → Works lang RecordFits (one ++ two) old new
+    both_after : (held : Option (Held R K S)) (stored : Stored) (ledger : Ledger) (n : ℕ) → Works rules one old (after old held stored ledger n) → Works rules two (after old held stored ledger n) new
+        → Works rules (one ++ two) old new
     both_after held stored ledger n first then =
         record {
-          goes = goes_on lang old held stored ledger n new first.goes then.goes;
+          goes = goes_on rules.lang old held stored ledger n new first.goes then.goes;
           sound = λ sound. then.sound (first.sound sound);
           same = then.same;
           down = λ down. then.down (first.down down);
@@ -117,10 +118,10 @@ module _ {R K S O : Type 0} (lang : Language R K S O) (RecordFits : R → Type 0
         of : (o : Option (Held R K S)) → held ≡ o → (at : Configuration R K S) → MatchOption o (Unit {0}) (λ h. Moved at one middle) → MatchOption new.held (Unit {0}) (λ h. Moved at (one ++ two) new)
         of None none at m = subst (λ (o : Option (Held R K S)). MatchOption o (Unit {0}) (λ h. Moved at (one ++ two) new)) (sym (then.down none)) tt
         of (Some h) some at m =
-            match_map new.held (λ (k : Held R K S) (rest : Moved m.0 two new). (rest.0, join (job_of lang old) one two at m.0 rest.0 m.1 rest.1, rest.2)) (then.moves_by m.0 m.2)
+            match_map new.held (λ (k : Held R K S) (rest : Moved m.0 two new). (rest.0, join (job_of rules.lang old) one two at m.0 rest.0 m.1 rest.1, rest.2)) (then.moves_by m.0 m.2)
 
-    pub works_both : (middle : State O R K S) → Works lang RecordFits one old middle → Works lang RecordFits two middle new → Works lang RecordFits (one ++ two) old new
+    pub works_both : (middle : State O R K S) → Works rules one old middle → Works rules two middle new → Works rules (one ++ two) old new
     works_both middle first then =
         both_after middle.held middle.stored middle.ledger middle.faults
-        (subst (λ (x : State O R K S). Works lang RecordFits one old x) first.same first)
-        (subst (λ (x : State O R K S). Works lang RecordFits two x new) first.same then)
+        (subst (λ (x : State O R K S). Works rules one old x) first.same first)
+        (subst (λ (x : State O R K S). Works rules two x new) first.same then)

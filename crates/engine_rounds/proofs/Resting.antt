@@ -24,9 +24,9 @@ use Rattle.job_state.specs.Held.{Held, gate_at}
 use Rattle.job_state.specs.Sending.{items_at}
 use Rattle.job_state.specs.declared.holding.Holding.{Holding}
 use Rattle.source_log.specs.Partitions.{records_at}
+use Rattle.engine_model.specs.AllRules.{AllRules}
 use Rattle.engine_model.specs.Calls.{IsBlocked}
 use Rattle.engine_model.specs.Keeps.{Keeps, Shape, StandsAs}
-use Rattle.engine_model.specs.Language.{Language}
 use Rattle.engine_model.specs.Sound.{IsSound}
 use Rattle.engine_model.specs.State.{State}
 use Rattle.engine_model.specs.View.{job_of, is_logged_in, devices_of, run_of, running_of, held_state, plain_item}
@@ -62,10 +62,10 @@ empty_of [] first none r e = none-some r e
 empty_of (Record s ∷ items) first none r e = first s refl
 empty_of (Barrier n ∷ items) first none r e = omega (arith, none)
 
-module _ {R K S O : Type 0} (lang : Language R K S O) (RecordFits : R → Type 0) (IsGood : O → S → Type 0) (s : State O R K S) (keeps : Keeps lang RecordFits IsGood s) (sound : IsSound lang RecordFits s)
+module _ {R K S O : Type 0} (rules : AllRules R K S O) (s : State O R K S) (keeps : Keeps rules s) (sound : IsSound rules s)
     (h : Held R K S) (was : s.held ≡ Some h) (quiet : h.coordination.pending ≡ None) where
-  shape : Shape lang.cmp RecordFits IsGood s.graph s.operators h
-  shape = shape_of lang RecordFits IsGood s keeps h was
+  shape : Shape rules s.graph s.operators h
+  shape = shape_of rules s keeps h was
 
   -- no gate waits
   free_as : (task : ℕ) (phase : Phase) (inputs : List Input) → StandsAs s.graph h task phase inputs → (input : ℕ) → is_blocked (record { phase = phase; inputs = inputs }) input ≡ false
@@ -80,30 +80,30 @@ module _ {R K S O : Type 0} (lang : Language R K S O) (RecordFits : R → Type 0
   none_stands : (channel : ℕ) → count_barriers (map plain_item (items_at h.channels channel)) ≡ 0
   none_stands channel = of _ sound.tells.running sound.tells.is_pruned sound.tells.sound.runs
     where
-      same_run : (run : Running R K S) → pruned_running (Some run) ≡ pruned_running (running_of lang s) → pruned_run run ≡ pruned_run (run_of lang.cmp s.graph h)
-      same_run run e = same_Some (pruned_run run) (pruned_run (run_of lang.cmp s.graph h)) (e ∙ ap (λ (o : Option (Held R K S)). pruned_running (option_map (run_of lang.cmp s.graph) o)) was)
+      same_run : (run : Running R K S) → pruned_running (Some run) ≡ pruned_running (running_of rules.lang s) → pruned_run run ≡ pruned_run (run_of rules.lang.cmp s.graph h)
+      same_run run e = same_Some (pruned_run run) (pruned_run (run_of rules.lang.cmp s.graph h)) (e ∙ ap (λ (o : Option (Held R K S)). pruned_running (option_map (run_of rules.lang.cmp s.graph) o)) was)
 
-      of : (base : Configuration R K S) (o : Option (Running R K S)) → pruned_running o ≡ pruned_running (running_of lang s) → MayRun (job_of lang s) (is_logged_in s) lang.spelling base (devices_of lang s) o → count_barriers (map plain_item (items_at h.channels channel)) ≡ 0
-      of base None e runs = absurd (none-some (pruned_run (run_of lang.cmp s.graph h)) (e ∙ ap (λ (o : Option (Held R K S)). pruned_running (option_map (run_of lang.cmp s.graph) o)) was))
+      of : (base : Configuration R K S) (o : Option (Running R K S)) → pruned_running o ≡ pruned_running (running_of rules.lang s) → MayRun (job_of rules.lang s) (is_logged_in s) rules.lang.spelling base (devices_of rules.lang s) o → count_barriers (map plain_item (items_at h.channels channel)) ≡ 0
+      of base None e runs = absurd (none-some (pruned_run (run_of rules.lang.cmp s.graph h)) (e ∙ ap (λ (o : Option (Held R K S)). pruned_running (option_map (run_of rules.lang.cmp s.graph) o)) was))
       of base (Some run) e runs =
           let same = same_run run e in
           let none : run.attempt.pending ≡ false = ap (λ (x : Running R K S). x.attempt.pending) same ∙ ap (λ (o : Option ℕ). is_some o) quiet in
           ap (λ (x : Running R K S). count_barriers (x.attempt.channels channel)) (sym same) ∙ (runs.consistent.0 none).no_barrier channel
 
-  module _ (idle : AreIdle s) (at : Configuration R K S) (stands : StandsFor lang s at) where
-    bare : HoldsFor lang s h at
-    bare = stands_at lang s h was at stands
+  module _ (idle : AreIdle s) (at : Configuration R K S) (stands : StandsFor rules.lang s at) where
+    bare : HoldsFor rules.lang s h at
+    bare = stands_at rules.lang s h was at stands
 
     idle_at : (task : ℕ) → task < length s.graph.tasks → IsIdle s.graph s.partitions h task
     idle_at task within = MatchOption-at_some ⊥ (λ x. IsIdle s.graph s.partitions x task) h was (idle task within)
 
-    none_possible : (move : Move) → IsPossible (job_of lang s) move at → ⊥
+    none_possible : (move : Move) → IsPossible (job_of rules.lang s) move at → ⊥
     none_possible (Read task) possible =
         let step = possible.1 in
         let partition = step.takes.0 in
         let is = source_role s.operators (slice_get s.graph.tasks task) partition (sym (tasks-graph_of s.graph s.operators task) ∙ step.is_task ∙ ap Some step.takes.1) in
         let held = shape.forms task (role.Source partition) is in
-        let offset_is : (at.tasks task).offset ≡ held.0 = bare.offsets task ∙ ap (λ (o : Option (Holding K S)). (held_state {R = R} lang.cmp o).offset) held.1 in
+        let offset_is : (at.tasks task).offset ≡ held.0 = bare.offsets task ∙ ap (λ (o : Option (Holding K S)). (held_state {R = R} rules.lang.cmp o).offset) held.1 in
         let end : length (records_at s.partitions partition) ≤ held.0 = (idle_at task (slice_get_within s.graph.tasks task (role.Source partition) is)).source partition held.0 is held.1 in
         let next : (at.tasks task).offset < length (records_at s.partitions partition) = slice_get_within (records_at s.partitions partition) (at.tasks task).offset step.taken step.takes.2 in
         omega (arith, offset_is, end, next)
@@ -123,9 +123,9 @@ module _ {R K S O : Type 0} (lang : Language R K S O) (RecordFits : R → Type 0
         within_of None e w = absurd w
         within_of (Some r) e w = slice_get_within s.graph.tasks task r e
 
-pub rests : {R K S O : Type 0} (lang : Language R K S O) (RecordFits : R → Type 0) (IsGood : O → S → Type 0) (s : State O R K S) → Keeps lang RecordFits IsGood s → IsSound lang RecordFits s → pending_in s.held ≡ None → AreIdle s → IsResting lang s
-rests {R} {K} {S} lang RecordFits IsGood s keeps sound quiet idle at stands move possible = of s.held refl
+pub rests : {R K S O : Type 0} (rules : AllRules R K S O) (s : State O R K S) → Keeps rules s → IsSound rules s → pending_in s.held ≡ None → AreIdle s → IsResting rules.lang s
+rests {R} {K} {S} rules s keeps sound quiet idle at stands move possible = of s.held refl
   where
     of : (o : Option (Held R K S)) → s.held ≡ o → ⊥
-    of None none = subst (λ (o : Option (Held R K S)). MatchOption o ⊥ (λ h. HoldsFor lang s h at)) none stands
-    of (Some h) some = none_possible lang RecordFits IsGood s keeps sound h some (ap pending_in (sym some) ∙ quiet) idle at stands move possible
+    of None none = subst (λ (o : Option (Held R K S)). MatchOption o ⊥ (λ h. HoldsFor rules.lang s h at)) none stands
+    of (Some h) some = none_possible rules s keeps sound h some (ap pending_in (sym some) ∙ quiet) idle at stands move possible

@@ -17,9 +17,9 @@ use Rattle.snapshot_store.specs.Store.{Stored}
 use Rattle.job_state.specs.declared.holding.Holding.{Holding}
 use Rattle.job_state.specs.declared.holding.Holding.TheVariants as holds
 use Rattle.source_log.specs.Partitions.{records_at}
+use Rattle.engine_model.specs.AllRules.{AllRules}
 use Rattle.engine_model.specs.Calls.{EndsRead, IsSource, input_at, left_by}
 use Rattle.engine_model.specs.Goes.{Goes}
-use Rattle.engine_model.specs.Language.{Language}
 use Rattle.engine_model.specs.Sound.{IsSound}
 use Rattle.engine_model.specs.State.{State}
 use Rattle.engine_model.specs.declared.fault.CoreFault.{CoreFault}
@@ -43,14 +43,14 @@ same_offset e = cc
 no_none : {A : Type 0} (a : A) → ◌≡◌ {A = Option A} (Some a) None → ⊥
 no_none a e = none-some a (sym e)
 
-module _ {R K S O : Type 0} (lang : Language R K S O) (RecordFits : R → Type 0) (old new : State O R K S) where
+module _ {R K S O : Type 0} (rules : AllRules R K S O) (old new : State O R K S) where
   -- what calls on a running job have in common
   pub record Calls : Type 0 where
-    pub goes : Goes lang old new
-    pub sound : IsSound lang RecordFits old → IsSound lang RecordFits new
+    pub goes : Goes rules.lang old new
+    pub sound : IsSound rules old → IsSound rules new
     pub begins : (task subtask : ℕ) → slice_get old.graph.tasks task ≡ Some (role.Sink subtask) → Begins (committed_rows old.ledger subtask) (committed_rows new.ledger subtask)
 
-  pub works_of : Calls → (moves : List Move) → IsLike old new → (old.held ≡ None → new.held ≡ None) → MovesBy lang moves old new → Works lang RecordFits moves old new
+  pub works_of : Calls → (moves : List Move) → IsLike old new → (old.held ≡ None → new.held ≡ None) → MovesBy rules.lang moves old new → Works rules moves old new
   works_of c moves like down by = record { goes = c.goes; sound = c.sound; same = like; down = down; begins = c.begins; moves_by = by }
 
   pub still_held : (k : Held R K S) → new.held ≡ Some k → new.held ≢ None
@@ -62,7 +62,7 @@ module _ {R K S O : Type 0} (lang : Language R K S O) (RecordFits : R → Type 0
   -- a source's turn
   module _ (task : ℕ) (calls : Calls) (running : old.held ≢ None) (source : IsSource old.graph task) where
     abbrev EndsReading : Held R K S → Held R K S → Result Unit CoreFault → Type 0
-    EndsReading h k r = EndsRead old.graph task h k lang old.partitions r
+    EndsReading h k r = EndsRead old.graph task h k rules.lang old.partitions r
 
     abbrev left : Result Unit CoreFault → Held R K S → State O R K S
     left r k = record old { held = left_by r (Some k); faults = new.faults }
@@ -76,13 +76,13 @@ module _ {R K S O : Type 0} (lang : Language R K S O) (RecordFits : R → Type 0
           inputs = λ input channel works. absurd (subst IsWorker source.1 works.0);
         }
 
-    pub read_turns : (r : Result Unit CoreFault) → OnAttempt old new EndsReading r → StepsIfOk r lang (Read task) old new → IsCounted old.faults new.faults r → EndsTurn lang RecordFits old new task (turned_as r)
+    pub read_turns : (r : Result Unit CoreFault) → OnAttempt old new EndsReading r → StepsIfOk r rules.lang (Read task) old new → IsCounted old.faults new.faults r → EndsTurn rules old new task (turned_as r)
     read_turns (Ok u) e s c =
         let a = ran old new EndsReading (Ok u) (left (Ok u)) e running in (
           Read task,
           refl,
           (
-            works_of calls (Read task ∷ []) (like old new EndsReading (Ok u) (left (Ok u)) e (λ k. refl)) (stays_down old new EndsReading (Ok u) (left (Ok u)) e) (moves_one lang (Read task) old new s),
+            works_of calls (Read task ∷ []) (like old new EndsReading (Ok u) (left (Ok u)) e (λ k. refl)) (stays_down old new EndsReading (Ok u) (left (Ok u)) e) (moves_one rules.lang (Read task) old new s),
             still_held a.k (ap (λ (x : State O R K S). x.held) a.is),
           ),
         )
@@ -94,12 +94,12 @@ module _ {R K S O : Type 0} (lang : Language R K S O) (RecordFits : R → Type 0
     read_turns (Err NoSuchTask) e s c = absurd ((ran old new EndsReading (Err NoSuchTask) (left (Err NoSuchTask)) e running).ended.0 source)
     read_turns (Err Memory) e s c =
         let a = ran old new EndsReading (Err Memory) (left (Err Memory)) e running in (
-          works_of calls [] (like old new EndsReading (Err Memory) (left (Err Memory)) e (λ k. refl)) (stays_down old new EndsReading (Err Memory) (left (Err Memory)) e) (moves_none lang old new s),
+          works_of calls [] (like old new EndsReading (Err Memory) (left (Err Memory)) e (λ k. refl)) (stays_down old new EndsReading (Err Memory) (left (Err Memory)) e) (moves_none rules.lang old new s),
           still_held a.k (ap (λ (x : State O R K S). x.held) a.is),
         )
     read_turns (Err Device) e s c =
         let a = ran old new EndsReading (Err Device) (left (Err Device)) e running in (
-          works_of calls [] (like old new EndsReading (Err Device) (left (Err Device)) e (λ k. refl)) (stays_down old new EndsReading (Err Device) (left (Err Device)) e) (moves_none lang old new s),
+          works_of calls [] (like old new EndsReading (Err Device) (left (Err Device)) e (λ k. refl)) (stays_down old new EndsReading (Err Device) (left (Err Device)) e) (moves_none rules.lang old new s),
           ap (λ (x : State O R K S). x.held) a.is,
         )
     read_turns (Err other) e s c = absurd (ran old new EndsReading (Err other) (left (Err other)) e running).ended
@@ -107,7 +107,7 @@ module _ {R K S O : Type 0} (lang : Language R K S O) (RecordFits : R → Type 0
   -- what is offered is worked
   module _ (task input : ℕ) (calls : Calls) (running : old.held ≢ None) (worked : Made O K S R) where
     abbrev EndsTaken : Held R K S → Held R K S → Result Unit CoreFault → Type 0
-    EndsTaken h k r = EndsAccept lang old.graph old.operators task input h k old.ledger new.ledger worked r
+    EndsTaken h k r = EndsAccept rules.lang old.graph old.operators task input h k old.ledger new.ledger worked r
 
     abbrev kept : Result Unit CoreFault → Held R K S → State O R K S
     kept r k = record old { held = left_by r (Some k); ledger = new.ledger; faults = new.faults }
@@ -116,28 +116,28 @@ module _ {R K S O : Type 0} (lang : Language R K S O) (RecordFits : R → Type 0
     fails f = Err f
 
     abbrev Moves : Result Unit CoreFault → Type 0
-    Moves r = MatchOption (input_at old.graph task input) (Stays lang old new) (λ channel. StepsOftenIfOk r (records_of (given_of worked)) lang (Work task channel) old new)
+    Moves r = MatchOption (input_at old.graph task input) (Stays rules.lang old new) (λ channel. StepsOftenIfOk r (records_of (given_of worked)) rules.lang (Work task channel) old new)
 
     -- no step was made
-    stays_of : (f : CoreFault) → Moves (Err f) → Stays lang old new
+    stays_of : (f : CoreFault) → Moves (Err f) → Stays rules.lang old new
     stays_of f = of (input_at old.graph task input)
       where
-        of : (o : Option ℕ) → MatchOption o (Stays lang old new) (λ channel. StepsOftenIfOk (fails f) (records_of (given_of worked)) lang (Work task channel) old new) → Stays lang old new
+        of : (o : Option ℕ) → MatchOption o (Stays rules.lang old new) (λ channel. StepsOftenIfOk (fails f) (records_of (given_of worked)) rules.lang (Work task channel) old new) → Stays rules.lang old new
         of None s = s
         of (Some channel) s = s
 
-    leads_of : (h : Held R K S) (g : Given O K S R) → IsDue lang old.graph old.operators task input h g → (channel : ℕ) × (input_at old.graph task input ≡ Some channel)
+    leads_of : (h : Held R K S) (g : Given O K S R) → IsDue rules.lang old.graph old.operators task input h g → (channel : ℕ) × (input_at old.graph task input ≡ Some channel)
     leads_of h (given.Operator operand) due = (due.0, due.1.leads)
     leads_of h (given.Sink row) due = (due.0, due.1.leads)
 
-    step_of : records_of (given_of worked) ≡ 1 → (channel : ℕ) → input_at old.graph task input ≡ Some channel → Moves (Ok tt) → StepsBy lang (Work task channel) old new
+    step_of : records_of (given_of worked) ≡ 1 → (channel : ℕ) → input_at old.graph task input ≡ Some channel → Moves (Ok tt) → StepsBy rules.lang (Work task channel) old new
     step_of one channel leads m =
-        once_often lang (Work task channel) old new
-        (subst (λ (count : ℕ). StepsOften count lang (Work task channel) old new) one
-        (MatchOption-at_some (Stays lang old new) (λ c. StepsOften (records_of (given_of worked)) lang (Work task c) old new) channel leads m))
+        once_often rules.lang (Work task channel) old new
+        (subst (λ (count : ℕ). StepsOften count rules.lang (Work task channel) old new) one
+        (MatchOption-at_some (Stays rules.lang old new) (λ c. StepsOften (records_of (given_of worked)) rules.lang (Work task c) old new) channel leads m))
 
     -- a result of work that is due is refused for want of memory, or where a device failed
-    due_only : (h k : Held R K S) (w : Made O K S R) (f : CoreFault) → IsDue lang old.graph old.operators task input h (given_of w) → EndsAccept lang old.graph old.operators task input h k old.ledger new.ledger w (Err f) → (f ≡ Memory) ⊎ (f ≡ Device)
+    due_only : (h k : Held R K S) (w : Made O K S R) (f : CoreFault) → IsDue rules.lang old.graph old.operators task input h (given_of w) → EndsAccept rules.lang old.graph old.operators task input h k old.ledger new.ledger w (Err f) → (f ≡ Memory) ⊎ (f ≡ Device)
     due_only h k (made.Operator operand outcome) WrongResult due e = absurd (e.0 due)
     due_only h k (made.Operator operand outcome) Memory due e = inl refl
     due_only h k (made.Operator operand outcome) Device due e = inr refl
@@ -150,30 +150,30 @@ module _ {R K S O : Type 0} (lang : Language R K S O) (RecordFits : R → Type 0
     due_only h k (made.Refused work) Memory due e = inl refl
     due_only h k (made.Refused work) other due e = absurd e
 
-    module _ (due : MatchOption old.held ⊥ (λ h. IsDue lang old.graph old.operators task input h (given_of worked))) (one : records_of (given_of worked) ≡ 1) where
-      due_at : (h : Held R K S) → old.held ≡ Some h → IsDue lang old.graph old.operators task input h (given_of worked)
-      due_at h was = MatchOption-at_some ⊥ (λ x. IsDue lang old.graph old.operators task input x (given_of worked)) h was due
+    module _ (due : MatchOption old.held ⊥ (λ h. IsDue rules.lang old.graph old.operators task input h (given_of worked))) (one : records_of (given_of worked) ≡ 1) where
+      due_at : (h : Held R K S) → old.held ≡ Some h → IsDue rules.lang old.graph old.operators task input h (given_of worked)
+      due_at h was = MatchOption-at_some ⊥ (λ x. IsDue rules.lang old.graph old.operators task input x (given_of worked)) h was due
 
-      refused : (f : CoreFault) → (f ≡ Memory) ⊎ (f ≡ Device) → OnTransactions old new EndsTaken (Err f) → Moves (Err f) → EndsWorkAt lang RecordFits old new task input (turned_as (Err f))
-      refused f (inl is) = subst (λ (x : CoreFault). OnTransactions old new EndsTaken (Err x) → Moves (Err x) → EndsWorkAt lang RecordFits old new task input (turned_as (Err x))) (sym is) (λ e m.
+      refused : (f : CoreFault) → (f ≡ Memory) ⊎ (f ≡ Device) → OnTransactions old new EndsTaken (Err f) → Moves (Err f) → EndsWorkAt rules old new task input (turned_as (Err f))
+      refused f (inl is) = subst (λ (x : CoreFault). OnTransactions old new EndsTaken (Err x) → Moves (Err x) → EndsWorkAt rules old new task input (turned_as (Err x))) (sym is) (λ e m.
           let a = ran old new EndsTaken (Err Memory) (kept (Err Memory)) e running in (
-            works_of calls [] (like old new EndsTaken (Err Memory) (kept (Err Memory)) e (λ k. refl)) (stays_down old new EndsTaken (Err Memory) (kept (Err Memory)) e) (moves_none lang old new (stays_of Memory m)),
+            works_of calls [] (like old new EndsTaken (Err Memory) (kept (Err Memory)) e (λ k. refl)) (stays_down old new EndsTaken (Err Memory) (kept (Err Memory)) e) (moves_none rules.lang old new (stays_of Memory m)),
             still_held a.k (ap (λ (x : State O R K S). x.held) a.is),
           ))
-      refused f (inr is) = subst (λ (x : CoreFault). OnTransactions old new EndsTaken (Err x) → Moves (Err x) → EndsWorkAt lang RecordFits old new task input (turned_as (Err x))) (sym is) (λ e m.
+      refused f (inr is) = subst (λ (x : CoreFault). OnTransactions old new EndsTaken (Err x) → Moves (Err x) → EndsWorkAt rules old new task input (turned_as (Err x))) (sym is) (λ e m.
           let a = ran old new EndsTaken (Err Device) (kept (Err Device)) e running in (
-            works_of calls [] (like old new EndsTaken (Err Device) (kept (Err Device)) e (λ k. refl)) (stays_down old new EndsTaken (Err Device) (kept (Err Device)) e) (moves_none lang old new (stays_of Device m)),
+            works_of calls [] (like old new EndsTaken (Err Device) (kept (Err Device)) e (λ k. refl)) (stays_down old new EndsTaken (Err Device) (kept (Err Device)) e) (moves_none rules.lang old new (stays_of Device m)),
             ap (λ (x : State O R K S). x.held) a.is,
           ))
 
-      pub accept_turns : (r : Result Unit CoreFault) → OnTransactions old new EndsTaken r → Moves r → EndsWorkAt lang RecordFits old new task input (turned_as r)
+      pub accept_turns : (r : Result Unit CoreFault) → OnTransactions old new EndsTaken r → Moves r → EndsWorkAt rules old new task input (turned_as r)
       accept_turns (Ok u) e m =
           let a = ran old new EndsTaken (Ok u) (kept (Ok u)) e running in
           let l = leads_of a.h (given_of worked) (due_at a.h a.was) in (
             Work task l.0,
             refl,
             (
-              works_of calls (Work task l.0 ∷ []) (like old new EndsTaken (Ok u) (kept (Ok u)) e (λ k. refl)) (stays_down old new EndsTaken (Ok u) (kept (Ok u)) e) (moves_one lang (Work task l.0) old new (step_of one l.0 l.1 m)),
+              works_of calls (Work task l.0 ∷ []) (like old new EndsTaken (Ok u) (kept (Ok u)) e (λ k. refl)) (stays_down old new EndsTaken (Ok u) (kept (Ok u)) e) (moves_one rules.lang (Work task l.0) old new (step_of one l.0 l.1 m)),
               still_held a.k (ap (λ (x : State O R K S). x.held) a.is),
             ),
           )
@@ -182,33 +182,33 @@ module _ {R K S O : Type 0} (lang : Language R K S O) (RecordFits : R → Type 0
           refused f (due_only a.h a.k worked f (due_at a.h a.was) a.ended) e m
 
 -- where nothing is offered
-module _ {R K S O : Type 0} (lang : Language R K S O) (RecordFits : R → Type 0) (old : State O R K S) (task input : ℕ) (running : old.held ≢ None) (asked : (channel : ℕ) × WorksFrom old.graph task input channel) where
+module _ {R K S O : Type 0} (rules : AllRules R K S O) (old : State O R K S) (task input : ℕ) (running : old.held ≢ None) (asked : (channel : ℕ) × WorksFrom old.graph task input channel) where
   nothing_at : (h : Held R K S) → old.held ≡ Some h → HasNothing old.graph h task input → HasNothingIn old task input
   nothing_at h was n = subst (λ (o : Option (Held R K S)). MatchOption o ⊥ (λ h. HasNothing old.graph h task input)) (sym was) n
 
-  offer_at : (h : Held R K S) → old.held ≡ Some h → (f : CoreFault) → EndsOffer lang old.graph old.operators task input h 1 (Err f) → EndsWorkAt lang RecordFits old old task input (turned_as (Err f))
+  offer_at : (h : Held R K S) → old.held ≡ Some h → (f : CoreFault) → EndsOffer rules.lang old.graph old.operators task input h 1 (Err f) → EndsWorkAt rules old old task input (turned_as (Err f))
   offer_at h was NoSuchTask e = absurd (e asked.0 asked.1)
   offer_at h was ChannelBlocked e = (nothing_at h was (e.0, e.1, inl e.2), refl)
   offer_at h was NotReady e = (nothing_at h was (e.0, e.1, inr e.3), refl)
-  offer_at h was Memory e = (works_none lang RecordFits old old refl, running)
+  offer_at h was Memory e = (works_none rules old old refl, running)
   offer_at h was other e = absurd e
 
-  pub offer_turns : (f : CoreFault) → MatchOption old.held (◌≡◌ {A = Result (Given O K S R) CoreFault} (Err f) (Err NotRunning)) (λ h. EndsOffer lang old.graph old.operators task input h 1 (Err f)) → EndsWorkAt lang RecordFits old old task input (turned_as (Err f))
+  pub offer_turns : (f : CoreFault) → MatchOption old.held (◌≡◌ {A = Result (Given O K S R) CoreFault} (Err f) (Err NotRunning)) (λ h. EndsOffer rules.lang old.graph old.operators task input h 1 (Err f)) → EndsWorkAt rules old old task input (turned_as (Err f))
   offer_turns f e = of old.held refl e
     where
-      of : (o : Option (Held R K S)) → old.held ≡ o → MatchOption o (◌≡◌ {A = Result (Given O K S R) CoreFault} (Err f) (Err NotRunning)) (λ h. EndsOffer lang old.graph old.operators task input h 1 (Err f)) → EndsWorkAt lang RecordFits old old task input (turned_as (Err f))
+      of : (o : Option (Held R K S)) → old.held ≡ o → MatchOption o (◌≡◌ {A = Result (Given O K S R) CoreFault} (Err f) (Err NotRunning)) (λ h. EndsOffer rules.lang old.graph old.operators task input h 1 (Err f)) → EndsWorkAt rules old old task input (turned_as (Err f))
       of None none e = absurd (running none)
       of (Some h) some e = offer_at h some f e
 
   -- what is offered
   abbrev Offers : Given O K S R → Option (Held R K S) → Type 0
-  Offers work o = MatchOption o (◌≡◌ {A = Result (Given O K S R) CoreFault} (Ok work) (Err NotRunning)) (λ h. EndsOffer lang old.graph old.operators task input h 1 (Ok work))
+  Offers work o = MatchOption o (◌≡◌ {A = Result (Given O K S R) CoreFault} (Ok work) (Err NotRunning)) (λ h. EndsOffer rules.lang old.graph old.operators task input h 1 (Ok work))
 
   -- work that is offered is due,
-  pub offered_due : (work : Given O K S R) → Offers work old.held → MatchOption old.held ⊥ (λ h. IsDue lang old.graph old.operators task input h work)
+  pub offered_due : (work : Given O K S R) → Offers work old.held → MatchOption old.held ⊥ (λ h. IsDue rules.lang old.graph old.operators task input h work)
   offered_due work e = of old.held refl e
     where
-      of : (o : Option (Held R K S)) → old.held ≡ o → Offers work o → MatchOption o ⊥ (λ h. IsDue lang old.graph old.operators task input h work)
+      of : (o : Option (Held R K S)) → old.held ≡ o → Offers work o → MatchOption o ⊥ (λ h. IsDue rules.lang old.graph old.operators task input h work)
       of None none e = absurd (running none)
       of (Some h) some e = e.0
 
@@ -218,4 +218,4 @@ module _ {R K S O : Type 0} (lang : Language R K S O) (RecordFits : R → Type 0
     where
       of : (o : Option (Held R K S)) → old.held ≡ o → Offers work o → records_of work ≡ 1
       of None none e = absurd (running none)
-      of (Some h) some e = offered_one lang old.graph old.operators task input h work e
+      of (Some h) some e = offered_one rules.lang old.graph old.operators task input h work e

@@ -27,7 +27,7 @@ fn take_turn<O: Operator, S: SnapshotStore, X: Transactions, P: Partitions<Recor
 ) -> Result<(), CoreFault>
     requires running { engine.old.held ≢ None }
     requires some { 0 < left.old }
-    ensures ends { EndsCounted ⟦<O as Rules>⟧.lang ⟦<O as Rules>⟧.RecordFits engine.old engine.new
+    ensures ends { EndsCounted ⟦<O as Rules>⟧.all engine.old engine.new
         task left.old left.new result }
     ensures counted { IsCounted engine.old.faults engine.new.faults result }
     ensures pending { OnOk result (pending_in engine.new.held ≡ pending_in engine.old.held) }
@@ -51,8 +51,7 @@ fn round<O: Operator, S: SnapshotStore, X: Transactions, P: Partitions<Record = 
 ) -> Result<bool, CoreFault>
     requires running { engine.old.held ≢ None }
     requires some { 0 < left.old }
-    ensures ends { EndsRound ⟦<O as Rules>⟧.lang ⟦<O as Rules>⟧.RecordFits engine.old engine.new
-        left.old left.new result }
+    ensures ends { EndsRound ⟦<O as Rules>⟧.all engine.old engine.new left.old left.new result }
     ensures counted { IsCounted engine.old.faults engine.new.faults result }
     ensures pending { OnOk result (pending_in engine.new.held ≡ pending_in engine.old.held) }
 {
@@ -97,8 +96,7 @@ pub fn idle_engines_rest<
     X: Transactions,
     P: Partitions<Record = O::Record>,
 >(engine: &Engine<O, S, X, P>)
-    ensures { IsSound ⟦<O as Rules>⟧.lang ⟦<O as Rules>⟧.RecordFits engine.now
-        → pending_in engine.now.held ≡ None
+    ensures { IsSound ⟦<O as Rules>⟧.all engine.now → pending_in engine.now.held ≡ None
         → AreIdle engine.now → IsResting ⟦<O as Rules>⟧.lang engine.now }
 {
     engine.is_fresh();
@@ -112,8 +110,7 @@ pub fn rounds<O: Operator, S: SnapshotStore, X: Transactions, P: Partitions<Reco
     turns: u64,
 ) -> Result<Drained, CoreFault>
     requires running { engine.old.held ≢ None }
-    ensures ends { EndsRounds ⟦<O as Rules>⟧.lang ⟦<O as Rules>⟧.RecordFits engine.old engine.new
-        turns result }
+    ensures ends { EndsRounds ⟦<O as Rules>⟧.all engine.old engine.new turns result }
     ensures counted { IsCounted engine.old.faults engine.new.faults result }
     ensures pending { OnOk result (pending_in engine.new.held ≡ pending_in engine.old.held) }
 {

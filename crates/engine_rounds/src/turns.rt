@@ -36,8 +36,7 @@ fn read_turn<O: Operator, S: SnapshotStore, X: Transactions, P: Partitions<Recor
 ) -> Result<bool, CoreFault>
     requires source { IsSource engine.old.graph task }
     requires running { engine.old.held ≢ None }
-    ensures ends { EndsTurn ⟦<O as Rules>⟧.lang ⟦<O as Rules>⟧.RecordFits engine.old engine.new task
-        result }
+    ensures ends { EndsTurn ⟦<O as Rules>⟧.all engine.old engine.new task result }
     ensures counted { IsCounted engine.old.faults engine.new.faults result }
     ensures pending { OnOk result (pending_in engine.new.held ≡ pending_in engine.old.held) }
 {
@@ -53,8 +52,7 @@ pub(crate) fn work_at<
 >(engine: &mut Engine<O, S, X, P>, alloc: Global, task: u32, input: u32) -> Result<bool, CoreFault>
     requires input { (channel : ℕ) × WorksFrom engine.old.graph task input channel }
     requires running { engine.old.held ≢ None }
-    ensures ends { EndsWorkAt ⟦<O as Rules>⟧.lang ⟦<O as Rules>⟧.RecordFits engine.old engine.new
-        task input result }
+    ensures ends { EndsWorkAt ⟦<O as Rules>⟧.all engine.old engine.new task input result }
     ensures counted { IsCounted engine.old.faults engine.new.faults result }
     ensures pending { OnOk result (pending_in engine.new.held ≡ pending_in engine.old.held) }
 {
@@ -72,8 +70,7 @@ fn work_turn<O: Operator, S: SnapshotStore, X: Transactions, P: Partitions<Recor
 ) -> Result<bool, CoreFault>
     requires worker { IsWorker (slice_get engine.old.graph.tasks task) }
     requires running { engine.old.held ≢ None }
-    ensures ends { EndsTurn ⟦<O as Rules>⟧.lang ⟦<O as Rules>⟧.RecordFits engine.old engine.new task
-        result }
+    ensures ends { EndsTurn ⟦<O as Rules>⟧.all engine.old engine.new task result }
     ensures counted { IsCounted engine.old.faults engine.new.faults result }
     ensures pending { OnOk result (pending_in engine.new.held ≡ pending_in engine.old.held) }
 {
@@ -97,8 +94,7 @@ pub(crate) fn turn<
     P: Partitions<Record = O::Record>,
 >(engine: &mut Engine<O, S, X, P>, alloc: Global, task: u32) -> Result<bool, CoreFault>
     requires running { engine.old.held ≢ None }
-    ensures ends { EndsTurn ⟦<O as Rules>⟧.lang ⟦<O as Rules>⟧.RecordFits engine.old engine.new task
-        result }
+    ensures ends { EndsTurn ⟦<O as Rules>⟧.all engine.old engine.new task result }
     ensures counted { IsCounted engine.old.faults engine.new.faults result }
     ensures pending { OnOk result (pending_in engine.new.held ≡ pending_in engine.old.held) }
 {

@@ -4,8 +4,8 @@ use Rattle.std.proofs.lemmas.Option.{none-some, same_Some, MatchOption-at_some}
 use Rattle.dataflow_model.specs.Machine.{Move}
 use Rattle.job_graph.specs.Expanded.{Expanded}
 use Rattle.job_state.specs.Held.{Held}
+use Rattle.engine_model.specs.AllRules.{AllRules}
 use Rattle.engine_model.specs.Keeps.{Keeps, Shape, RunsIn}
-use Rattle.engine_model.specs.Language.{Language}
 use Rattle.engine_model.specs.State.{State}
 use Rattle.engine_model.specs.declared.fault.CoreFault.{CoreFault}
 use Rattle.engine_model.specs.declared.fault.CoreFault.TheVariants.{NotReady, Memory, Device}
@@ -62,41 +62,41 @@ module _ {R K S O : Type 0} where
   same_held : (s : State O R K S) (h k : Held R K S) → s.held ≡ Some h → s.held ≡ Some k → h ≡ k
   same_held s h k one two = same_Some h k (sym one ∙ two)
 
-module _ {R K S O : Type 0} (lang : Language R K S O) (RecordFits : R → Type 0) where
+module _ {R K S O : Type 0} (rules : AllRules R K S O) where
   -- what every running engine keeps
-  pub shape_at : (IsGood : O → S → Type 0) (s : State O R K S) (h : Held R K S) → s.held ≡ Some h → Keeps lang RecordFits IsGood s → Shape lang.cmp RecordFits IsGood s.graph s.operators h
-  shape_at IsGood s h is keeps = MatchOption-at_some (Unit {0}) (Shape lang.cmp RecordFits IsGood s.graph s.operators) h is keeps.shape
+  pub shape_at : (s : State O R K S) (h : Held R K S) → s.held ≡ Some h → Keeps rules s → Shape rules s.graph s.operators h
+  shape_at s h is keeps = MatchOption-at_some (Unit {0}) (Shape rules s.graph s.operators) h is keeps.shape
 
-  pub runs_at : (IsGood : O → S → Type 0) (s : State O R K S) (h : Held R K S) → s.held ≡ Some h → Keeps lang RecordFits IsGood s → RunsIn lang s h
-  runs_at IsGood s h is keeps = MatchOption-at_some (Unit {0}) (RunsIn lang s) h is keeps.runs
+  pub runs_at : (s : State O R K S) (h : Held R K S) → s.held ≡ Some h → Keeps rules s → RunsIn rules.lang s h
+  runs_at s h is keeps = MatchOption-at_some (Unit {0}) (RunsIn rules.lang s) h is keeps.runs
 
   -- ---- one call
 
   -- a call that makes no plain step
   pub works_stays : {T : Type 0} (old new : State O R K S) (Ends : Held R K S → Held R K S → Result T CoreFault → Type 0) (result : Result T CoreFault) (leaves : Held R K S → State O R K S)
-      → WhileRunning old new Ends result leaves → ((k : Held R K S) → IsLike old (leaves k)) → Calls lang RecordFits old new → Stays lang old new → Works lang RecordFits [] old new
+      → WhileRunning old new Ends result leaves → ((k : Held R K S) → IsLike old (leaves k)) → Calls rules old new → Stays rules.lang old new → Works rules [] old new
   works_stays old new Ends result leaves ends each calls stays =
-      works_of lang RecordFits old new calls [] (like old new Ends result leaves ends each) (stays_down old new Ends result leaves ends) (moves_none lang old new stays)
+      works_of rules old new calls [] (like old new Ends result leaves ends each) (stays_down old new Ends result leaves ends) (moves_none rules.lang old new stays)
 
   -- ---- one after another
 
-  pub graph_same : (moves : List Move) (old new : State O R K S) → Works lang RecordFits moves old new → new.graph ≡ old.graph
+  pub graph_same : (moves : List Move) (old new : State O R K S) → Works rules moves old new → new.graph ≡ old.graph
   graph_same moves old new works = ap (λ (s : State O R K S). s.graph) works.same
 
-  pub partitions_same : (moves : List Move) (old new : State O R K S) → Works lang RecordFits moves old new → new.partitions ≡ old.partitions
+  pub partitions_same : (moves : List Move) (old new : State O R K S) → Works rules moves old new → new.partitions ≡ old.partitions
   partitions_same moves old new works = ap (λ (s : State O R K S). s.partitions) works.same
 
-  pub brings_same : (s : State O R K S) (h : Held R K S) → s.held ≡ Some h → Brings lang RecordFits s s
-  brings_same s h is = record { before = h; after = h; was = is; is = is; moves = []; works = works_none lang RecordFits s s refl; advances = advances_none h; still = λ still. still }
+  pub brings_same : (s : State O R K S) (h : Held R K S) → s.held ≡ Some h → Brings rules s s
+  brings_same s h is = record { before = h; after = h; was = is; is = is; moves = []; works = works_none rules s s refl; advances = advances_none h; still = λ still. still }
 
-  pub brings_none : (s : State O R K S) → s.held ≢ None → Brings lang RecordFits s s
+  pub brings_none : (s : State O R K S) → s.held ≢ None → Brings rules s s
   brings_none s running = of s.held refl
     where
-      of : (o : Option (Held R K S)) → s.held ≡ o → Brings lang RecordFits s s
+      of : (o : Option (Held R K S)) → s.held ≡ o → Brings rules s s
       of None none = absurd (running none)
       of (Some h) is = brings_same s h is
 
-  pub brings_both : (old middle new : State O R K S) → Brings lang RecordFits old middle → Brings lang RecordFits middle new → Brings lang RecordFits old new
+  pub brings_both : (old middle new : State O R K S) → Brings rules old middle → Brings rules middle new → Brings rules old new
   brings_both old middle new one two =
       let meets : two.before ≡ one.after = same_held middle two.before one.after two.was one.is in
       let graphs = graph_same one.moves old middle one.works in
@@ -107,7 +107,7 @@ module _ {R K S O : Type 0} (lang : Language R K S O) (RecordFits : R → Type 0
         was = one.was;
         is = two.is;
         moves = one.moves ++ two.moves;
-        works = works_both lang RecordFits one.moves two.moves old new middle one.works two.works;
+        works = works_both rules one.moves two.moves old new middle one.works two.works;
         advances = advances_both one.before one.after two.after one.advances (subst (λ (h : Held R K S). Advances h two.after) meets two.advances);
         still = λ still.
             subst (λ (g : Expanded). IsStill g old.partitions two.after) graphs
@@ -118,23 +118,23 @@ module _ {R K S O : Type 0} (lang : Language R K S O) (RecordFits : R → Type 0
             (subst (λ (p : List (List R)). IsStill old.graph p one.after) (sym parts) (one.still still))))));
       }
 
-  pub down_both : (old middle new : State O R K S) → Brings lang RecordFits old middle → WentDown lang RecordFits middle new → WentDown lang RecordFits old new
-  down_both old middle new one two = (one.moves ++ two.0, works_both lang RecordFits one.moves two.0 old new middle one.works two.1, two.2)
+  pub down_both : (old middle new : State O R K S) → Brings rules old middle → WentDown rules middle new → WentDown rules old new
+  down_both old middle new one two = (one.moves ++ two.0, works_both rules one.moves two.0 old new middle one.works two.1, two.2)
 
   -- a part that ends early, after others
-  pub part_early : (old middle new : State O R K S) (P Q : Expanded → Held R K S → Type 0) (f : CoreFault) → Brings lang RecordFits old middle → EndsPart lang RecordFits middle new {T = Unit {0}} P (Err f) → EndsPart lang RecordFits old new {T = Unit {0}} Q (Err f)
+  pub part_early : (old middle new : State O R K S) (P Q : Expanded → Held R K S → Type 0) (f : CoreFault) → Brings rules old middle → EndsPart rules middle new {T = Unit {0}} P (Err f) → EndsPart rules old new {T = Unit {0}} Q (Err f)
   part_early old middle new P Q Memory one two = brings_both old middle new one two
   part_early old middle new P Q Device one two = down_both old middle new one two
   part_early old middle new P Q other one two = absurd two
 
   -- a part, after others
-  pub part_on : (old middle new : State O R K S) (P Q : Expanded → Held R K S → Type 0) (r : Result Unit CoreFault) → Brings lang RecordFits old middle
-      → (Brings lang RecordFits middle new → Holds new P → Holds new Q) → EndsPart lang RecordFits middle new P r → EndsPart lang RecordFits old new Q r
+  pub part_on : (old middle new : State O R K S) (P Q : Expanded → Held R K S → Type 0) (r : Result Unit CoreFault) → Brings rules old middle
+      → (Brings rules middle new → Holds new P → Holds new Q) → EndsPart rules middle new P r → EndsPart rules old new Q r
   part_on old middle new P Q (Ok u) one then two = (brings_both old middle new one two.0, then two.0 two.1)
   part_on old middle new P Q (Err f) one then two = part_early old middle new P Q f one two
 
   -- what is kept while the checkpoint goes on
-  pub holds_kept : (old new : State O R K S) (P : Expanded → Held R K S → Type 0) → Brings lang RecordFits old new → Holds old P → ((h k : Held R K S) → Advances h k → P old.graph h → P old.graph k) → Holds new P
+  pub holds_kept : (old new : State O R K S) (P : Expanded → Held R K S → Type 0) → Brings rules old new → Holds old P → ((h k : Held R K S) → Advances h k → P old.graph h → P old.graph k) → Holds new P
   holds_kept old new P b p keep =
       let was = holds_at old P b.before b.was p in
       holds_one new P b.after b.is (subst (λ (g : Expanded). P g b.after) (sym (graph_same b.moves old new b.works)) (keep b.before b.after b.advances was))

@@ -12,10 +12,10 @@ use Rattle.job_state.specs.Held.{Held}
 use Rattle.job_state.specs.declared.holding.Holding.TheVariants as holds
 use Rattle.snapshot_store.specs.Store.{Stored, IsNumbered, is_complete}
 use Rattle.source_log.specs.Partitions.{records_at}
+use Rattle.engine_model.specs.AllRules.{AllRules}
 use Rattle.engine_model.specs.Calls.{EndsTrigger, IsBlocked, NoRecord, left_by, tidied}
 use Rattle.engine_model.specs.Commits.{EndsCommit}
 use Rattle.engine_model.specs.Keeps.{Keeps}
-use Rattle.engine_model.specs.Language.{Language}
 use Rattle.engine_model.specs.LastCommitted.{committed_of, complete_numbers}
 use Rattle.engine_model.specs.Sound.{IsSound}
 use Rattle.engine_model.specs.State.{State}
@@ -45,28 +45,28 @@ use Rattle.engine_settling.proofs.Whole.{is_whole}
 same_sink : {a b : ℕ} → ◌≡◌ {A = Role} (role.Sink a) (role.Sink b) → a ≡ b
 same_sink e = cc
 
-module _ {R K S O : Type 0} (lang : Language R K S O) (RecordFits : R → Type 0) where
+module _ {R K S O : Type 0} (rules : AllRules R K S O) where
   abbrev Some_made : State O R K S → State O R K S → Type 0
-  Some_made old new = MadeSome lang RecordFits old new
+  Some_made old new = MadeSome rules old new
 
   -- ---- what is made
 
   pub made_none : (s : State O R K S) → s.held ≢ None → Some_made s s
-  made_none s running = ([], (works_none lang RecordFits s s refl, running))
+  made_none s running = ([], (works_none rules s s refl, running))
 
   pub made_both : (old middle new : State O R K S) → Some_made old middle → Some_made middle new → Some_made old new
-  made_both old middle new one two = (one.0 ++ two.0, (works_both lang RecordFits one.0 two.0 old new middle one.1.0 two.1.0, two.1.1))
+  made_both old middle new one two = (one.0 ++ two.0, (works_both rules one.0 two.0 old new middle one.1.0 two.1.0, two.1.1))
 
-  pub made_down : (old middle new : State O R K S) → Some_made old middle → WentDown lang RecordFits middle new → WentDown lang RecordFits old new
-  made_down old middle new one two = (one.0 ++ two.0, works_both lang RecordFits one.0 two.0 old new middle one.1.0 two.1, two.2)
+  pub made_down : (old middle new : State O R K S) → Some_made old middle → WentDown rules middle new → WentDown rules old new
+  made_down old middle new one two = (one.0 ++ two.0, works_both rules one.0 two.0 old new middle one.1.0 two.1, two.2)
 
-  pub made_of : (old new : State O R K S) → Brings lang RecordFits old new → Some_made old new
+  pub made_of : (old new : State O R K S) → Brings rules old new → Some_made old new
   made_of old new b = (b.moves, (b.works, is_held new b.after b.is))
 
-  pub brings_pending : (old new : State O R K S) → Brings lang RecordFits old new → pending_in new.held ≡ pending_in old.held
+  pub brings_pending : (old new : State O R K S) → Brings rules old new → pending_in new.held ≡ pending_in old.held
   brings_pending old new b = ap pending_in b.is ∙ b.advances.pending ∙ sym (ap pending_in b.was)
 
-  brings_still : (old new : State O R K S) → Brings lang RecordFits old new → IsStillIn old → IsStillIn new
+  brings_still : (old new : State O R K S) → Brings rules old new → IsStillIn old → IsStillIn new
   brings_still old new b still =
       let was = MatchOption-at_some ⊥ (λ h. IsStill old.graph old.partitions h) b.before b.was still in
       let graphs = ap (λ (s : State O R K S). s.graph) b.works.same in
@@ -76,18 +76,18 @@ module _ {R K S O : Type 0} (lang : Language R K S O) (RecordFits : R → Type 0
 
   -- ---- commits
 
-  pub commits_none : (s : State O R K S) → s.held ≢ None → Commits lang RecordFits s s
+  pub commits_none : (s : State O R K S) → s.held ≢ None → Commits rules s s
   commits_none s running = record { made = made_none s running; stored = refl; pending = refl }
 
-  pub commits_both : (old middle new : State O R K S) → Commits lang RecordFits old middle → Commits lang RecordFits middle new → Commits lang RecordFits old new
+  pub commits_both : (old middle new : State O R K S) → Commits rules old middle → Commits rules middle new → Commits rules old new
   commits_both old middle new one two = record { made = made_both old middle new one.made two.made; stored = two.stored ∙ one.stored; pending = two.pending ∙ one.pending }
 
-  pub commits_early : (old middle new : State O R K S) (task : ℕ) (f : CoreFault) → Commits lang RecordFits old middle → EndsCommitAt lang RecordFits middle new task (Err f) → EndsCommits lang RecordFits old new (Err f)
+  pub commits_early : (old middle new : State O R K S) (task : ℕ) (f : CoreFault) → Commits rules old middle → EndsCommitAt rules middle new task (Err f) → EndsCommits rules old new (Err f)
   commits_early old middle new task CommitFault one two = commits_both old middle new one two
   commits_early old middle new task other one two = absurd two
 
   -- one more sink has committed
-  pub committed_more : (middle new : State O R K S) (task sink : ℕ) → Commits lang RecordFits middle new → slice_get middle.graph.tasks task ≡ Some (role.Sink sink) → HaveCommittedBefore middle task
+  pub committed_more : (middle new : State O R K S) (task sink : ℕ) → Commits rules middle new → slice_get middle.graph.tasks task ≡ Some (role.Sink sink) → HaveCommittedBefore middle task
       → length (committed_of new.ledger sink) ≡ length (complete_numbers new.stored) → ((other : ℕ) → other ≢ sink → committed_of new.ledger other ≡ committed_of middle.ledger other) → HaveCommittedBefore new (task + 1)
   committed_more middle new task sink commits is before reached apart t other below at =
       elim (eqb_tells other sink) [
@@ -110,8 +110,8 @@ module _ {R K S O : Type 0} (lang : Language R K S O) (RecordFits : R → Type 0
       ]
 
   -- so for one task after another
-  pub commit_next : (old middle new : State O R K S) (task : ℕ) → (IsSound lang RecordFits old → HaveCommittedBefore middle task) → Commits lang RecordFits old middle → EndsCommitAt lang RecordFits middle new task (Ok tt)
-      → IsSound lang RecordFits old → HaveCommittedBefore new (task + 1)
+  pub commit_next : (old middle new : State O R K S) (task : ℕ) → (IsSound rules old → HaveCommittedBefore middle task) → Commits rules old middle → EndsCommitAt rules middle new task (Ok tt)
+      → IsSound rules old → HaveCommittedBefore new (task + 1)
   commit_next old middle new task before commits one sound = one.1 (commits.made.1.0.sound sound) (before sound)
 
   pub committed_none : (s : State O R K S) → HaveCommittedBefore s 0
@@ -121,7 +121,7 @@ module _ {R K S O : Type 0} (lang : Language R K S O) (RecordFits : R → Type 0
   committed_all s n all before t subtask below at = before t subtask (omega (arith, all, below)) at
 
   -- what is complete stays so
-  completed_on : (old new : State O R K S) (n : ℕ) → Commits lang RecordFits old new → IsCompleted old n → IsCompleted new n
+  completed_on : (old new : State O R K S) (n : ℕ) → Commits rules old new → IsCompleted old n → IsCompleted new n
   completed_on old new n c completed = record {
     complete = ap (λ (x : Stored). is_complete x n) c.stored ∙ completed.complete;
     last = λ other e. completed.last other (sym (ap (λ (x : Stored). is_complete x other) c.stored) ∙ e);
@@ -130,9 +130,9 @@ module _ {R K S O : Type 0} (lang : Language R K S O) (RecordFits : R → Type 0
 
   -- ---- settling
 
-  pub settle_done : (old middle between new : State O R K S) (IsGood : O → S → Type 0) → Brings lang RecordFits old middle → EndsCompletion lang RecordFits middle between (Ok tt) → Keeps lang RecordFits IsGood between
-      → EndsCommits lang RecordFits between new (Ok tt) → EndsSettle lang RecordFits old new (Ok tt) × RestsIfStill lang RecordFits old new (Ok tt)
-  settle_done old middle between new IsGood brings completes keeps commits =
+  pub settle_done : (old middle between new : State O R K S) → Brings rules old middle → EndsCompletion rules middle between (Ok tt) → Keeps rules between
+      → EndsCommits rules between new (Ok tt) → EndsSettle rules old new (Ok tt) × RestsIfStill rules old new (Ok tt)
+  settle_done old middle between new brings completes keeps commits =
       let n = completes.0 in
       let made = made_both old middle between (made_of old middle brings) completes.2 in
       let c = commits.0 in
@@ -151,41 +151,41 @@ module _ {R K S O : Type 0} (lang : Language R K S O) (RecordFits : R → Type 0
         λ still m is.
             let same : n ≡ m = same_Some n m (sym was ∙ is) in
             let after = c.made.1.0.same in
-            subst (λ (x : ℕ). CutRests lang new x) same
-            (cut_rests_in lang between new n (ap (λ (s : State O R K S). s.graph) after) (ap (λ (s : State O R K S). s.operators) after) (ap (λ (s : State O R K S). s.partitions) after) c.stored (completes.4 (brings_still old middle brings still))),
+            subst (λ (x : ℕ). CutRests rules.lang new x) same
+            (cut_rests_in rules.lang between new n (ap (λ (s : State O R K S). s.graph) after) (ap (λ (s : State O R K S). s.operators) after) (ap (λ (s : State O R K S). s.partitions) after) c.stored (completes.4 (brings_still old middle brings still))),
       )
 
-  pub settle_early : (old new : State O R K S) (P : Expanded → Held R K S → Type 0) (f : CoreFault) → EndsPart lang RecordFits old new {T = Unit {0}} P (Err f) → EndsSettle lang RecordFits old new (Err f)
+  pub settle_early : (old new : State O R K S) (P : Expanded → Held R K S → Type 0) (f : CoreFault) → EndsPart rules old new {T = Unit {0}} P (Err f) → EndsSettle rules old new (Err f)
   settle_early old new P Memory e = made_of old new e
   settle_early old new P Device e = e
   settle_early old new P other e = absurd e
 
-  pub settle_uncompleted : (old middle new : State O R K S) (f : CoreFault) → Brings lang RecordFits old middle → EndsCompletion lang RecordFits middle new (Err f) → EndsSettle lang RecordFits old new (Err f)
+  pub settle_uncompleted : (old middle new : State O R K S) (f : CoreFault) → Brings rules old middle → EndsCompletion rules middle new (Err f) → EndsSettle rules old new (Err f)
   settle_uncompleted old middle new Device b e = made_down old middle new (made_of old middle b) e
   settle_uncompleted old middle new other b e = absurd e
 
-  pub settle_uncommitted : (old middle between new : State O R K S) (f : CoreFault) → Brings lang RecordFits old middle → EndsCompletion lang RecordFits middle between (Ok tt) → EndsCommits lang RecordFits between new (Err f) → EndsSettle lang RecordFits old new (Err f)
+  pub settle_uncommitted : (old middle between new : State O R K S) (f : CoreFault) → Brings rules old middle → EndsCompletion rules middle between (Ok tt) → EndsCommits rules between new (Err f) → EndsSettle rules old new (Err f)
   settle_uncommitted old middle between new CommitFault b c e =
       (c.0, sym (brings_pending old middle b) ∙ c.1, made_both old between new (made_both old middle between (made_of old middle b) c.2) e.made, completed_on between new c.0 e c.3)
   settle_uncommitted old middle between new other b c e = absurd e
 
-  module _ (IsGood : O → S → Type 0) (old middle between new : State O R K S) (brings : Brings lang RecordFits old middle) (completes : EndsCompletion lang RecordFits middle between (Ok tt)) (keeps : Keeps lang RecordFits IsGood between) where
-    pub settle_by : (r : Result Unit CoreFault) → EndsCommits lang RecordFits between new r → EndsSettle lang RecordFits old new r
-    settle_by (Ok u) e = (settle_done old middle between new IsGood brings completes keeps e).0
+  module _ (old middle between new : State O R K S) (brings : Brings rules old middle) (completes : EndsCompletion rules middle between (Ok tt)) (keeps : Keeps rules between) where
+    pub settle_by : (r : Result Unit CoreFault) → EndsCommits rules between new r → EndsSettle rules old new r
+    settle_by (Ok u) e = (settle_done old middle between new brings completes keeps e).0
     settle_by (Err f) e = settle_uncommitted old middle between new f brings completes e
 
-    pub rests_by : (r : Result Unit CoreFault) → EndsCommits lang RecordFits between new r → RestsIfStill lang RecordFits old new r
-    rests_by (Ok u) e = (settle_done old middle between new IsGood brings completes keeps e).1
+    pub rests_by : (r : Result Unit CoreFault) → EndsCommits rules between new r → RestsIfStill rules old new r
+    rests_by (Ok u) e = (settle_done old middle between new brings completes keeps e).1
     rests_by (Err f) e = tt
 
   -- ---- draining
 
-  pub start_commits : (old new : State O R K S) (r : Result Unit CoreFault) → pending_in old.held ≡ None → EndsCommits lang RecordFits old new r → EndsStart lang RecordFits old new r
+  pub start_commits : (old new : State O R K S) (r : Result Unit CoreFault) → pending_in old.held ≡ None → EndsCommits rules old new r → EndsStart rules old new r
   start_commits old new (Ok u) none e = (e.0.made, e.0.pending ∙ none)
   start_commits old new (Err CommitFault) none e = (e.made, e.pending ∙ none)
   start_commits old new (Err other) none e = absurd e
 
-  pub start_settles : (old new : State O R K S) (r : Result Unit CoreFault) → pending_in old.held ≢ None → EndsSettle lang RecordFits old new r → EndsStart lang RecordFits old new r
+  pub start_settles : (old new : State O R K S) (r : Result Unit CoreFault) → pending_in old.held ≢ None → EndsSettle rules old new r → EndsStart rules old new r
   start_settles old new (Ok u) some e = (e.2, e.3.none_pending)
   start_settles old new (Err NoCheckpoint) some e = absurd (some e.0)
   start_settles old new (Err Memory) some e = e
@@ -194,8 +194,8 @@ module _ {R K S O : Type 0} (lang : Language R K S O) (RecordFits : R → Type 0
   start_settles old new (Err other) some e = absurd e
 
   -- after a checkpoint has begun in a job that is still
-  pub rest_settles : (old middle new : State O R K S) (n : ℕ) (r : Result Unit CoreFault) → Some_made old middle → IsStillIn middle → pending_in middle.held ≡ Some n → EndsSettle lang RecordFits middle new r → RestsIfStill lang RecordFits middle new r
-      → EndsAtRest lang RecordFits old new r
+  pub rest_settles : (old middle new : State O R K S) (n : ℕ) (r : Result Unit CoreFault) → Some_made old middle → IsStillIn middle → pending_in middle.held ≡ Some n → EndsSettle rules middle new r → RestsIfStill rules middle new r
+      → EndsAtRest rules old new r
   rest_settles old middle new n (Ok u) made still is e rests =
       (made_both old middle new made e.2, (e.0, e.3, rests still e.0 e.1, λ sound. e.4 (made.1.0.sound sound)))
   rest_settles old middle new n (Err NoCheckpoint) made still is e rests = absurd (none-some n (sym e.0 ∙ is))
@@ -204,25 +204,25 @@ module _ {R K S O : Type 0} (lang : Language R K S O) (RecordFits : R → Type 0
   rest_settles old middle new n (Err Device) made still is e rests = made_down old middle new made e
   rest_settles old middle new n (Err other) made still is e rests = absurd e
 
-  pub drain_start : (old new : State O R K S) (turns : ℕ) (f : CoreFault) → EndsStart lang RecordFits old new (Err f) → EndsDrain lang RecordFits old new turns (Err f)
+  pub drain_start : (old new : State O R K S) (turns : ℕ) (f : CoreFault) → EndsStart rules old new (Err f) → EndsDrain rules old new turns (Err f)
   drain_start old new turns Memory e = e
   drain_start old new turns CommitFault e = e
   drain_start old new turns Device e = e
   drain_start old new turns other e = absurd e
 
-  pub drain_spent : (old middle new : State O R K S) (turns : ℕ) → Some_made old middle → pending_in middle.held ≡ None → EndsRounds lang RecordFits middle new turns (Ok TurnsSpent) → EndsDrain lang RecordFits old new turns (Ok TurnsSpent)
+  pub drain_spent : (old middle new : State O R K S) (turns : ℕ) → Some_made old middle → pending_in middle.held ≡ None → EndsRounds rules middle new turns (Ok TurnsSpent) → EndsDrain rules old new turns (Ok TurnsSpent)
   drain_spent old middle new turns made none e =
       (made_both old middle new made (e.0, e.2), (middle, e.0, e.1, made, none, e.2), e.3)
 
-  pub drain_rounds : (old middle new : State O R K S) (turns : ℕ) (f : CoreFault) → Some_made old middle → EndsRounds lang RecordFits middle new turns (Err f) → EndsDrain lang RecordFits old new turns (Err f)
+  pub drain_rounds : (old middle new : State O R K S) (turns : ℕ) (f : CoreFault) → Some_made old middle → EndsRounds rules middle new turns (Err f) → EndsDrain rules old new turns (Err f)
   drain_rounds old middle new turns NotRunning made e = absurd (made.1.1 e.3.0)
   drain_rounds old middle new turns Memory made e = made_both old middle new made (e.0, (e.2, e.3))
   drain_rounds old middle new turns Device made e = made_down old middle new made (e.0, e.2, e.3)
   drain_rounds old middle new turns other made e = absurd e.3
 
-  pub drain_rests : (old middle between new : State O R K S) (IsGood : O → S → Type 0) → Keeps lang RecordFits IsGood new → (turns : ℕ) → Some_made old middle → EndsRounds lang RecordFits middle between turns (Ok AtRest)
-      → EndsAtRest lang RecordFits between new (Ok tt) → EndsDrain lang RecordFits old new turns (Ok AtRest)
-  drain_rests old middle between new IsGood keeps turns made rounds e =
+  pub drain_rests : (old middle between new : State O R K S) → Keeps rules new → (turns : ℕ) → Some_made old middle → EndsRounds rules middle between turns (Ok AtRest)
+      → EndsAtRest rules between new (Ok tt) → EndsDrain rules old new turns (Ok AtRest)
+  drain_rests old middle between new keeps turns made rounds e =
       let before = made_both old middle between made (rounds.0, rounds.2) in
       let all = made_both old between new before e.0 in (
         all,
@@ -232,17 +232,17 @@ module _ {R K S O : Type 0} (lang : Language R K S O) (RecordFits : R → Type 0
           e.1.2,
           λ sound.
               let committed = e.1.3 (before.1.0.sound sound) in
-              (committed, is_whole lang new e.1.0 keeps.numbered (sound_exact lang RecordFits IsGood new keeps (all.1.0.sound sound)) e.1.1 e.1.2 committed),
+              (committed, is_whole rules.lang new e.1.0 keeps.numbered (sound_exact rules new keeps (all.1.0.sound sound)) e.1.1 e.1.2 committed),
         ),
       )
 
-  pub drain_ends : (old middle between new : State O R K S) (turns : ℕ) (f : CoreFault) → Some_made old middle → EndsRounds lang RecordFits middle between turns (Ok AtRest) → EndsAtRest lang RecordFits between new (Err f) → EndsDrain lang RecordFits old new turns (Err f)
+  pub drain_ends : (old middle between new : State O R K S) (turns : ℕ) (f : CoreFault) → Some_made old middle → EndsRounds rules middle between turns (Ok AtRest) → EndsAtRest rules between new (Err f) → EndsDrain rules old new turns (Err f)
   drain_ends old middle between new turns f made rounds e = of f e
     where
       before : Some_made old between
       before = made_both old middle between made (rounds.0, rounds.2)
 
-      of : (f : CoreFault) → EndsAtRest lang RecordFits between new (Err f) → EndsDrain lang RecordFits old new turns (Err f)
+      of : (f : CoreFault) → EndsAtRest rules between new (Err f) → EndsDrain rules old new turns (Err f)
       of Memory e = made_both old between new before e
       of CommitFault e = (made_both old between new before e.0, e.1)
       of NumbersSpent e = (made_both old between new before e.0, e.1)
@@ -251,15 +251,15 @@ module _ {R K S O : Type 0} (lang : Language R K S O) (RecordFits : R → Type 0
 
   -- ---- what is made, however they end
 
-  pub settle_works : (old new : State O R K S) (r : Result Unit CoreFault) → EndsSettle lang RecordFits old new r → (moves : List Move) × Works lang RecordFits moves old new
+  pub settle_works : (old new : State O R K S) (r : Result Unit CoreFault) → EndsSettle rules old new r → (moves : List Move) × Works rules moves old new
   settle_works old new (Ok u) e = (e.2.0, e.2.1.0)
-  settle_works old new (Err NoCheckpoint) e = ([], works_none lang RecordFits old new e.1)
+  settle_works old new (Err NoCheckpoint) e = ([], works_none rules old new e.1)
   settle_works old new (Err Memory) e = (e.0, e.1.0)
   settle_works old new (Err CommitFault) e = (e.2.0, e.2.1.0)
   settle_works old new (Err Device) e = (e.0, e.1)
   settle_works old new (Err other) e = absurd e
 
-  pub drain_works : (old new : State O R K S) (turns : ℕ) (r : Result Drained CoreFault) → EndsDrain lang RecordFits old new turns r → (moves : List Move) × Works lang RecordFits moves old new
+  pub drain_works : (old new : State O R K S) (turns : ℕ) (r : Result Drained CoreFault) → EndsDrain rules old new turns r → (moves : List Move) × Works rules moves old new
   drain_works old new turns (Ok AtRest) e = (e.0.0, e.0.1.0)
   drain_works old new turns (Ok TurnsSpent) e = (e.0.0, e.0.1.0)
   drain_works old new turns (Err Memory) e = (e.0, e.1.0)
@@ -270,23 +270,23 @@ module _ {R K S O : Type 0} (lang : Language R K S O) (RecordFits : R → Type 0
 
   -- ---- a task that is no sink commits nothing
 
-  pub commits_nothing : (s : State O R K S) (task : ℕ) → s.held ≢ None → (o : Option Role) → slice_get s.graph.tasks task ≡ o → ((subtask : ℕ) → o ≢ Some (role.Sink subtask)) → EndsCommitAt lang RecordFits s s task (Ok tt)
+  pub commits_nothing : (s : State O R K S) (task : ℕ) → s.held ≢ None → (o : Option Role) → slice_get s.graph.tasks task ≡ o → ((subtask : ℕ) → o ≢ Some (role.Sink subtask)) → EndsCommitAt rules s s task (Ok tt)
   commits_nothing s task running o is none = (commits_none s running, λ sound before. committed_same s task (λ subtask at. none subtask (sym is ∙ at)) before)
 
 -- ---- a sink commits
 
-module _ {R K S O : Type 0} (lang : Language R K S O) (RecordFits : R → Type 0) (IsGood : O → S → Type 0) (old new : State O R K S) (keeps : Keeps lang RecordFits IsGood old) (calls : Calls lang RecordFits old new) (stays : Stays lang old new) (running : old.held ≢ None) (task sink : ℕ) (is : slice_get old.graph.tasks task ≡ Some (role.Sink sink)) where
-  pub commit_at : (r : Result Unit CoreFault) → OnTransactions old new (λ h k. EndsCommit old.graph sink h k old.ledger new.ledger) r → EndsCommitAt lang RecordFits old new task r
+module _ {R K S O : Type 0} (rules : AllRules R K S O) (old new : State O R K S) (keeps : Keeps rules old) (calls : Calls rules old new) (stays : Stays rules.lang old new) (running : old.held ≢ None) (task sink : ℕ) (is : slice_get old.graph.tasks task ≡ Some (role.Sink sink)) where
+  pub commit_at : (r : Result Unit CoreFault) → OnTransactions old new (λ h k. EndsCommit old.graph sink h k old.ledger new.ledger) r → EndsCommitAt rules old new task r
   commit_at (Ok u) e =
-      let commits = commit_done lang RecordFits IsGood old new keeps calls stays sink running u e in (
+      let commits = commit_done rules old new keeps calls stays sink running u e in (
         commits,
         λ sound before.
-            committed_more lang RecordFits old new task sink commits is before
-            (commit_reaches lang RecordFits IsGood old new keeps calls stays sink running u e sound)
-            (commit_leaves lang RecordFits IsGood old new keeps calls stays sink running u e),
+            committed_more rules old new task sink commits is before
+            (commit_reaches rules old new keeps calls stays sink running u e sound)
+            (commit_leaves rules old new keeps calls stays sink running u e),
       )
-  commit_at (Err CommitFault) e = commit_fails lang RecordFits IsGood old new keeps calls stays sink running task is CommitFault e
-  commit_at (Err other) e = absurd (commit_fails lang RecordFits IsGood old new keeps calls stays sink running task is other e)
+  commit_at (Err CommitFault) e = commit_fails rules old new keeps calls stays sink running task is CommitFault e
+  commit_at (Err other) e = absurd (commit_fails rules old new keeps calls stays sink running task is other e)
 
 -- the next number stays where parts are discarded
 next_tidied : (last : Option ℕ) (stored : Stored) → (tidied last stored).next ≡ stored.next
@@ -295,20 +295,20 @@ next_tidied (Some n) stored = refl
 
 -- ---- a checkpoint begins at rest
 
-module _ {R K S O : Type 0} (lang : Language R K S O) (RecordFits : R → Type 0) (IsGood : O → S → Type 0) (old new : State O R K S) (keeps : Keeps lang RecordFits IsGood old) (calls : Calls lang RecordFits old new) (stays : Stays lang old new) (running : old.held ≢ None) (none : pending_in old.held ≡ None) where
+module _ {R K S O : Type 0} (rules : AllRules R K S O) (old new : State O R K S) (keeps : Keeps rules old) (calls : Calls rules old new) (stays : Stays rules.lang old new) (running : old.held ≢ None) (none : pending_in old.held ≡ None) where
   abbrev Triggering : Held R K S → Held R K S → Result ℕ CoreFault → Type 0
   Triggering h k r = EndsTrigger h k old.stored new.stored r
 
   abbrev left : Result ℕ CoreFault → Held R K S → State O R K S
   left r k = record old { held = left_by r (Some k); stored = new.stored; faults = new.faults }
 
-  triggers : (r : Result ℕ CoreFault) → OnStore old new Triggering r → Works lang RecordFits [] old new
-  triggers r e = works_stays lang RecordFits old new Triggering r (left r) e (λ k. refl) calls stays
+  triggers : (r : Result ℕ CoreFault) → OnStore old new Triggering r → Works rules [] old new
+  triggers r e = works_stays rules old new Triggering r (left r) e (λ k. refl) calls stays
 
   quiet : (h : Held R K S) → old.held ≡ Some h → h.coordination.pending ≡ None
   quiet h was = sym (ap pending_in was) ∙ none
 
-  pub trigger_made : (n : ℕ) → OnStore old new Triggering (Ok n) → MadeSome lang RecordFits old new
+  pub trigger_made : (n : ℕ) → OnStore old new Triggering (Ok n) → MadeSome rules old new
   trigger_made n e =
       let a = ran old new Triggering (Ok n) (left (Ok n)) e running in
       ([], (triggers (Ok n) e, is_held new a.k (ap (λ (s : State O R K S). s.held) a.is)))
@@ -334,15 +334,15 @@ module _ {R K S O : Type 0} (lang : Language R K S O) (RecordFits : R → Type 0
     pub trigger_still : (n : ℕ) → OnStore old new Triggering (Ok n) → IsStillIn new
     trigger_still n e =
         let a = ran old new Triggering (Ok n) (left (Ok n)) e running in
-        let shape = shape_at lang RecordFits IsGood old a.h a.was keeps in
-        let still = still_started old.graph old.partitions a.h (idle_queues lang RecordFits IsGood old a.h keeps.expanded shape (quiet a.h a.was) (inputs_idle a.h a.was)) (sources_idle a.h a.was) old.stored.next in
+        let shape = shape_at rules old a.h a.was keeps in
+        let still = still_started old.graph old.partitions a.h (idle_queues rules old a.h keeps.expanded shape (quiet a.h a.was) (inputs_idle a.h a.was)) (sources_idle a.h a.was) old.stored.next in
         let same = triggers (Ok n) e in
         holds_one new (λ g h. IsStill g new.partitions h) a.k (ap (λ (s : State O R K S). s.held) a.is)
         (subst (λ (g : Expanded). IsStill g new.partitions a.k) (sym (ap (λ (s : State O R K S). s.graph) a.is))
         (subst (λ (p : List (List R)). IsStill old.graph p a.k) (sym (ap (λ (s : State O R K S). s.partitions) a.is))
         (subst (λ (h : Held R K S). IsStill old.graph old.partitions h) (sym a.ended.3) still)))
 
-  pub trigger_fails : (f : CoreFault) → OnStore old new Triggering (Err f) → EndsAtRest lang RecordFits old new (Err f)
+  pub trigger_fails : (f : CoreFault) → OnStore old new Triggering (Err f) → EndsAtRest rules old new (Err f)
   trigger_fails CheckpointPending e =
       let a = ran old new Triggering (Err CheckpointPending) (left (Err CheckpointPending)) e running in
       absurd (a.ended.0 (quiet a.h a.was))

@@ -7,6 +7,7 @@ use Rattle.job_graph.specs.Expanded.{Expanded}
 use Rattle.job_graph.specs.declared.role.Role.TheVariants as role
 use Rattle.job_state.specs.Held.{Held}
 use Rattle.snapshot_store.specs.Store.{Stored, IsNumbered, is_complete}
+use Rattle.engine_model.specs.AllRules.{AllRules}
 use Rattle.engine_model.specs.Calls.{EndsComplete}
 use Rattle.engine_model.specs.Commits.{CommitsOne, CommitsEach, EndsCommit}
 use Rattle.engine_model.specs.Keeps.{Keeps, PendingIn, RunsIn, SinkIn}
@@ -93,11 +94,11 @@ module _ (old : Ledger) (n : ℕ) (u : Transaction) (at : transaction_at old n �
       filter_same (is_of now other) (is_of old other) (old.committed ++ n ∷ []) (same_owner other) ∙ filter-append (is_of old other) old.committed (n ∷ [])
       ∙ ap (λ (xs : List ℕ). committed_of old other ++ xs) dropped ∙ append-nil (committed_of old other)
 
-module _ {R K S O : Type 0} (lang : Language R K S O) (RecordFits : R → Type 0) (IsGood : O → S → Type 0) (task sink other : ℕ) (apart : other ≢ sink) where
-  apart_one : (s : State O R K S) (h : Held R K S) → Keeps lang RecordFits IsGood s → s.held ≡ Some h → slice_get s.graph.tasks task ≡ Some (role.Sink sink)
+module _ {R K S O : Type 0} (rules : AllRules R K S O) (task sink other : ℕ) (apart : other ≢ sink) where
+  apart_one : (s : State O R K S) (h : Held R K S) → Keeps rules s → s.held ≡ Some h → slice_get s.graph.tasks task ≡ Some (role.Sink sink)
       → (k : Held R K S) (ledger : Ledger) → CommitsOne task h s.ledger k ledger → committed_of ledger other ≡ committed_of s.ledger other
   apart_one s h keeps was is k ledger c =
-      let sink_in : SinkIn s.ledger sink c.sink = (runs_of lang RecordFits IsGood s keeps h was).sinks task sink c.sink is c.is_next.was in
+      let sink_in : SinkIn s.ledger sink c.sink = (runs_of rules s keeps h was).sinks task sink c.sink is c.is_next.was in
       let p = c.next in
       let i = first_pending s.ledger sink c.sink p sink_in c.is_next.oldest in
       elim i.3 [
@@ -107,26 +108,26 @@ module _ {R K S O : Type 0} (lang : Language R K S O) (RecordFits : R → Type 0
         | inr already ↦ ap (λ (l : Ledger). committed_of l other) (c.commits ∙ commit_stays s.ledger p.transaction i.0 i.1 already)
       ]
 
-  apart_each : (rounds : List (Held R K S × Ledger)) (s : State O R K S) (h : Held R K S) → Keeps lang RecordFits IsGood s → s.held ≡ Some h → slice_get s.graph.tasks task ≡ Some (role.Sink sink)
+  apart_each : (rounds : List (Held R K S × Ledger)) (s : State O R K S) (h : Held R K S) → Keeps rules s → s.held ≡ Some h → slice_get s.graph.tasks task ≡ Some (role.Sink sink)
       → (k : Held R K S) (ledger : Ledger) → CommitsEach task h s.ledger rounds k ledger → committed_of ledger other ≡ committed_of s.ledger other
   apart_each [] s h keeps was is k ledger c = ap (λ (l : Ledger). committed_of l other) c.1
   apart_each (next ∷ rest) s h keeps was is k ledger c =
-      apart_each rest (after s (Some next.0) s.stored next.1 0) next.0 (keeps_round lang RecordFits IsGood task sink 0 s keeps h was is next.0 next.1 c.0).0 refl is k ledger c.1
+      apart_each rest (after s (Some next.0) s.stored next.1 0) next.0 (keeps_round rules task sink 0 s keeps h was is next.0 next.1 c.0).0 refl is k ledger c.1
       ∙ apart_one s h keeps was is next.0 next.1 c.0
 
-module _ {R K S O : Type 0} (lang : Language R K S O) (RecordFits : R → Type 0) (IsGood : O → S → Type 0) (s : State O R K S) (keeps : Keeps lang RecordFits IsGood s) (h : Held R K S) (was : s.held ≡ Some h) where
+module _ {R K S O : Type 0} (rules : AllRules R K S O) (s : State O R K S) (keeps : Keeps rules s) (h : Held R K S) (was : s.held ≡ Some h) where
   -- A commit at one sink subtask leaves what another has committed.
   pub commits_apart : (sink : ℕ) (k : Held R K S) (ledger : Ledger) (u : Unit {0}) → EndsCommit s.graph sink h k s.ledger ledger (Ok u) → (other : ℕ) → other ≢ sink → committed_of ledger other ≡ committed_of s.ledger other
-  commits_apart sink k ledger u ends other apart = apart_each lang RecordFits IsGood ends.0 sink other apart (ends.2).rounds s h keeps was ends.1 k ledger (ends.2).each
+  commits_apart sink k ledger u ends other apart = apart_each rules ends.0 sink other apart (ends.2).rounds s h keeps was ends.1 k ledger (ends.2).each
 
   -- A commit that is answered Ok at a sound engine leaves its subtask with as many committed transactions as there are complete checkpoints.
-  pub commits_reach_sound : IsSound lang RecordFits s → (sink : ℕ) (k : Held R K S) (ledger : Ledger) (u : Unit {0}) → EndsCommit s.graph sink h k s.ledger ledger (Ok u)
+  pub commits_reach_sound : IsSound rules s → (sink : ℕ) (k : Held R K S) (ledger : Ledger) (u : Unit {0}) → EndsCommit s.graph sink h k s.ledger ledger (Ok u)
       → length (committed_of ledger sink) ≡ length (complete_numbers s.stored)
   commits_reach_sound sound sink k ledger u ends =
-      commits_reach lang RecordFits IsGood (record s { is_fresh = true }) (keeps_as_fresh lang RecordFits IsGood s keeps sound) refl h was sink k ledger u ends
+      commits_reach rules (record s { is_fresh = true }) (keeps_as_fresh rules s keeps sound) refl h was sink k ledger u ends
 
   -- So commits at one sink subtask after another, in their order, leave each with as many.
-  pub commits_through : IsSound lang RecordFits s → (sink : ℕ) (k : Held R K S) (ledger : Ledger) (u : Unit {0}) → EndsCommit s.graph sink h k s.ledger ledger (Ok u)
+  pub commits_through : IsSound rules s → (sink : ℕ) (k : Held R K S) (ledger : Ledger) (u : Unit {0}) → EndsCommit s.graph sink h k s.ledger ledger (Ok u)
       → ((done : ℕ) → done < sink → length (committed_of s.ledger done) ≡ length (complete_numbers s.stored))
       → (done : ℕ) → done < suc sink → length (committed_of ledger done) ≡ length (complete_numbers s.stored)
   commits_through sound sink k ledger u ends before done within =

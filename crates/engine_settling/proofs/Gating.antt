@@ -1,5 +1,5 @@
 -- What a gate and its channels say of the barriers that came and that are due.
-use Rattle.std.proofs.Common.{◌≡◌, ◌≢◌, ◌<◌, ◌+◌, ◌&&◌, not, cond, inl, inr, Option, Some, None, slice_get, slice_index_or, is_some, length, count_by, ℕ, zero, suc, Bool, true, false, List, [], ◌∷◌, refl, sym, ap, subst, ◌∙◌, arith, Ordering}
+use Rattle.std.proofs.Common.{◌≡◌, ◌≢◌, ◌<◌, ◌+◌, ◌&&◌, not, cond, inl, inr, Option, Some, None, slice_get, slice_index_or, is_some, length, count_by, ℕ, zero, suc, Bool, true, false, List, [], ◌∷◌, refl, sym, ap, subst, ◌∙◌, arith}
 use Rattle.std.specs.Option.{option_map_or}
 use Rattle.std.proofs.lemmas.Bool.{true≢false, false≢true, cases_Bool}
 use Rattle.std.proofs.lemmas.List.Sums.{sum_by-cons}
@@ -19,6 +19,7 @@ use Rattle.job_graph.specs.declared.role.Role.{Role}
 use Rattle.job_graph.specs.declared.role.Role.TheVariants.{Source, Operator, Sink}
 use Rattle.job_state.specs.Held.{Held, copy_at, came_at, gate_at}
 use Rattle.job_state.specs.Sending.{items_at}
+use Rattle.engine_model.specs.AllRules.{AllRules}
 use Rattle.engine_model.specs.Calls.{IsBlocked, NoRecord, IsBarrierDue}
 use Rattle.engine_model.specs.Keeps.{Shape, GateFits, StandsAs, NotesBarriers, barriers_in, barriers_due}
 use Rattle.engine_model.proofs.Calls.Tasks.{LeadsTo, input_leads}
@@ -192,7 +193,7 @@ module _ {R K S : Type 0} (graph : Expanded) (h : Held R K S) (task : ℕ) where
     rests_as (Aligning n) kept stands copied come = absurd (copied stands.1)
     rests_as (Copied n) kept stands copied come = let missing : 0 < missing_marked inputs = kept.1 in absurd (omega (arith, missing, none_marked stands.2 come))
 
-module _ {R K S O : Type 0} (cmp : K → K → Ordering) (RecordFits : R → Type 0) (IsGood : O → S → Type 0) (graph : Expanded) (operators : List O) (h : Held R K S) (expanded : IsExpanded graph) (shape : Shape cmp RecordFits IsGood graph operators h) where
+module _ {R K S O : Type 0} (rules : AllRules R K S O) (graph : Expanded) (operators : List O) (h : Held R K S) (expanded : IsExpanded graph) (shape : Shape rules graph operators h) where
   -- where the sender of a channel has copied and the barrier was not taken, the barrier of the pending checkpoint stands in the channel
   pub barrier_sent : (number n : ℕ) (channel : Channel) → slice_get graph.channels number ≡ Some channel → h.coordination.pending ≡ Some n → copy_at h channel.sender ≢ None → came_at h number ≡ false
       → barriers_in (items_at h.channels number) ≡ n ∷ []

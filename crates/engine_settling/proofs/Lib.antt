@@ -12,4 +12,3 @@ pub mod Looping
 pub mod Works
 pub mod Ending
 pub mod Chained
-pub mod Rules

@@ -12,8 +12,8 @@ use Rattle.job_graph.specs.Expanded.{Expanded, IsExpanded, inputs_of, meets, is_
 use Rattle.job_graph.specs.declared.role.Role.{Role}
 use Rattle.job_graph.specs.declared.role.Role.TheVariants as role
 use Rattle.job_state.specs.Held.{Held, copy_at, came_at}
+use Rattle.engine_model.specs.AllRules.{AllRules}
 use Rattle.engine_model.specs.Keeps.{Keeps}
-use Rattle.engine_model.specs.Language.{Language}
 use Rattle.engine_model.specs.State.{State}
 use Rattle.engine_settling.specs.Advancing.{Advances, IsPending, HaveSourcesCopied, HaveCopiedBefore, HaveCopied, HaveSendersCopied, HaveCome, HaveComeBefore, HaveAllCome, HaveAckedBefore, HaveAcked, HaveEnded}
 use Rattle.engine_settling.specs.Awaiting.{IsAwaited, HasCome}
@@ -84,9 +84,9 @@ last_or {P} n last before i below =
       | inr less ↦ before i less
     ]
 
-module _ {R K S O : Type 0} (lang : Language R K S O) (RecordFits : R → Type 0) where
+module _ {R K S O : Type 0} (rules : AllRules R K S O) where
   abbrev Bring : State O R K S → State O R K S → Type 0
-  Bring old new = Brings lang RecordFits old new
+  Bring old new = Brings rules old new
 
   -- ---- the sources
 
@@ -95,7 +95,7 @@ module _ {R K S O : Type 0} (lang : Language R K S O) (RecordFits : R → Type 0
 
   sources_kept_to : (old new : State O R K S) (n : ℕ) → Bring old new → Holds old (λ g h. SourcesBefore g h n) → Holds new (λ g h. SourcesBefore g h n)
   sources_kept_to old new n b p =
-      holds_kept lang RecordFits old new (λ g h. SourcesBefore g h n) b p (λ h k goes s. record { pending = pending_kept h k goes s.pending; copied = λ task partition below is. goes.copied task (s.copied task partition below is) })
+      holds_kept rules old new (λ g h. SourcesBefore g h n) b p (λ h k goes s. record { pending = pending_kept h k goes s.pending; copied = λ task partition below is. goes.copied task (s.copied task partition below is) })
 
   pub sources_more : (old new : State O R K S) (n : ℕ) → Bring old new → Holds old (λ g h. SourcesBefore g h n) → Holds new (λ g h. copy_at h n ≢ None) → Holds new (λ g h. SourcesBefore g h (n + 1))
   sources_more old new n b p copied =
@@ -144,7 +144,7 @@ module _ {R K S O : Type 0} (lang : Language R K S O) (RecordFits : R → Type 0
     pub inputs_more : (old new : State O R K S) (n : ℕ) → Bring old new → Holds old (λ g h. InputsBefore g h marked task n) → Holds new (λ g h. HasCome g h task n marked) → Holds new (λ g h. InputsBefore g h marked task (n + 1))
     inputs_more old new n b p come =
         holds_two new (Inputs n) (λ g h. HasCome g h task n marked) (Inputs (n + 1))
-        (holds_kept lang RecordFits old new (Inputs n) b p (λ h k goes a. record {
+        (holds_kept rules old new (Inputs n) b p (λ h k goes a. record {
           pending = pending_kept h k goes a.pending;
           senders = λ number channel is to mark. goes.copied channel.sender (a.senders number channel is to mark);
           come = λ input below number leads mark. goes.came number (a.come input below number leads mark);
@@ -195,98 +195,97 @@ module _ {R K S O : Type 0} (lang : Language R K S O) (RecordFits : R → Type 0
 
   -- ---- the tasks, in order
 
-  module _ (IsGood : O → S → Type 0) where
-    abbrev Copies : ℕ → Expanded → Held R K S → Type 0
-    Copies n g h = CopiesBefore g h n
+  abbrev Copies : ℕ → Expanded → Held R K S → Type 0
+  Copies n g h = CopiesBefore g h n
 
-    pub copies_start : (s : State O R K S) → Holds s (λ g h. IsPending h × HaveSourcesCopied g h) → Holds s (λ g h. CopiesBefore g h 0)
-    copies_start s p = holds_map s (λ g h. IsPending h × HaveSourcesCopied g h) (Copies 0) p (λ h is a. record { pending = a.0; sources = a.1; copied = λ before task below. absurd (omega (arith, below)) })
+  pub copies_start : (s : State O R K S) → Holds s (λ g h. IsPending h × HaveSourcesCopied g h) → Holds s (λ g h. CopiesBefore g h 0)
+  copies_start s p = holds_map s (λ g h. IsPending h × HaveSourcesCopied g h) (Copies 0) p (λ h is a. record { pending = a.0; sources = a.1; copied = λ before task below. absurd (omega (arith, below)) })
 
-    pub copies_sent : (s : State O R K S) (place task : ℕ) → IsExpanded s.graph → slice_get s.graph.order place ≡ Some task → Holds s (λ g h. CopiesBefore g h place) → Holds s (λ g h. IsPending h × HaveSendersCopied g h false task)
-    copies_sent s place task expanded at p = holds_map s (Copies place) (λ g h. IsPending h × HaveSendersCopied g h false task) p (λ h is a. (a.pending, senders_copied s.graph h expanded place task at a.copied))
+  pub copies_sent : (s : State O R K S) (place task : ℕ) → IsExpanded s.graph → slice_get s.graph.order place ≡ Some task → Holds s (λ g h. CopiesBefore g h place) → Holds s (λ g h. IsPending h × HaveSendersCopied g h false task)
+  copies_sent s place task expanded at p = holds_map s (Copies place) (λ g h. IsPending h × HaveSendersCopied g h false task) p (λ h is a. (a.pending, senders_copied s.graph h expanded place task at a.copied))
 
-    -- a task whose unmarked inputs have had their barriers taken has copied
-    task_copied : (s : State O R K S) (h : Held R K S) → s.held ≡ Some h → Keeps lang RecordFits IsGood s → IsPending h → HaveSourcesCopied s.graph h → (task : ℕ) → task < length s.graph.tasks → HaveCome s.graph h false task → copy_at h task ≢ None
-    task_copied s h is keeps pending sources task within come = of (slice_get s.graph.tasks task) refl
-      where
-        copied : (r : Role) → slice_get s.graph.tasks task ≡ Some r → is_source r ≡ false → copy_at h task ≢ None
-        copied r at takes = copied_by lang.cmp RecordFits IsGood s.graph s.operators h keeps.expanded (shape_at lang RecordFits IsGood s h is keeps) task (record { role = r; is = at; takes = takes }) pending come
+  -- a task whose unmarked inputs have had their barriers taken has copied
+  task_copied : (s : State O R K S) (h : Held R K S) → s.held ≡ Some h → Keeps rules s → IsPending h → HaveSourcesCopied s.graph h → (task : ℕ) → task < length s.graph.tasks → HaveCome s.graph h false task → copy_at h task ≢ None
+  task_copied s h is keeps pending sources task within come = of (slice_get s.graph.tasks task) refl
+    where
+      copied : (r : Role) → slice_get s.graph.tasks task ≡ Some r → is_source r ≡ false → copy_at h task ≢ None
+      copied r at takes = copied_by rules s.graph s.operators h keeps.expanded (shape_at rules s h is keeps) task (record { role = r; is = at; takes = takes }) pending come
 
-        of : (o : Option Role) → slice_get s.graph.tasks task ≡ o → copy_at h task ≢ None
-        of None at = absurd (no_task s.graph.tasks task within at)
-        of (Some (role.Source partition)) at = sources task partition at
-        of (Some (role.Operator number)) at = copied (role.Operator number) at refl
-        of (Some (role.Sink subtask)) at = copied (role.Sink subtask) at refl
+      of : (o : Option Role) → slice_get s.graph.tasks task ≡ o → copy_at h task ≢ None
+      of None at = absurd (no_task s.graph.tasks task within at)
+      of (Some (role.Source partition)) at = sources task partition at
+      of (Some (role.Operator number)) at = copied (role.Operator number) at refl
+      of (Some (role.Sink subtask)) at = copied (role.Sink subtask) at refl
 
-    pub copies_more : (old new : State O R K S) (place task : ℕ) → Bring old new → Keeps lang RecordFits IsGood new → slice_get new.graph.order place ≡ Some task → Holds old (λ g h. CopiesBefore g h place) → Holds new (λ g h. HaveCome g h false task)
-        → Holds new (λ g h. CopiesBefore g h (place + 1))
-    copies_more old new place task b keeps at p come =
-        holds_two new (Copies place) (λ g h. HaveCome g h false task) (Copies (place + 1))
-        (holds_kept lang RecordFits old new (Copies place) b p (λ h k goes a. record {
-          pending = pending_kept h k goes a.pending;
-          sources = λ t partition is. goes.copied t (a.sources t partition is);
-          copied = λ before t below is. goes.copied t (a.copied before t below is);
-        }))
-        come
-        (λ h is a here. record {
-          pending = a.pending;
-          sources = a.sources;
-          copied = copied_more new.graph h place task at a.copied (task_copied new h is keeps a.pending a.sources task (order_within new.graph keeps.expanded place task at) here);
-        })
+  pub copies_more : (old new : State O R K S) (place task : ℕ) → Bring old new → Keeps rules new → slice_get new.graph.order place ≡ Some task → Holds old (λ g h. CopiesBefore g h place) → Holds new (λ g h. HaveCome g h false task)
+      → Holds new (λ g h. CopiesBefore g h (place + 1))
+  copies_more old new place task b keeps at p come =
+      holds_two new (Copies place) (λ g h. HaveCome g h false task) (Copies (place + 1))
+      (holds_kept rules old new (Copies place) b p (λ h k goes a. record {
+        pending = pending_kept h k goes a.pending;
+        sources = λ t partition is. goes.copied t (a.sources t partition is);
+        copied = λ before t below is. goes.copied t (a.copied before t below is);
+      }))
+      come
+      (λ h is a here. record {
+        pending = a.pending;
+        sources = a.sources;
+        copied = copied_more new.graph h place task at a.copied (task_copied new h is keeps a.pending a.sources task (order_within new.graph keeps.expanded place task at) here);
+      })
 
-    pub copies_skip : (s : State O R K S) (place : ℕ) → slice_get s.graph.order place ≡ None → Holds s (λ g h. CopiesBefore g h place) → Holds s (λ g h. CopiesBefore g h (place + 1))
-    copies_skip s place none p =
-        holds_map s (Copies place) (Copies (place + 1)) p
-        (λ h is a. record {
-          pending = a.pending;
-          sources = a.sources;
-          copied = λ before task below at. elim (eq-or-lt_of_le (omega (arith, below))) [
-            | inl same ↦ absurd (none-some task (sym none ∙ sym (ap (slice_get s.graph.order) same) ∙ at))
-            | inr less ↦ a.copied before task less at
-          ];
-        })
+  pub copies_skip : (s : State O R K S) (place : ℕ) → slice_get s.graph.order place ≡ None → Holds s (λ g h. CopiesBefore g h place) → Holds s (λ g h. CopiesBefore g h (place + 1))
+  copies_skip s place none p =
+      holds_map s (Copies place) (Copies (place + 1)) p
+      (λ h is a. record {
+        pending = a.pending;
+        sources = a.sources;
+        copied = λ before task below at. elim (eq-or-lt_of_le (omega (arith, below))) [
+          | inl same ↦ absurd (none-some task (sym none ∙ sym (ap (slice_get s.graph.order) same) ∙ at))
+          | inr less ↦ a.copied before task less at
+        ];
+      })
 
-    pub copies_all : (s : State O R K S) (place : ℕ) → IsExpanded s.graph → length s.graph.tasks ≤ place → Holds s (λ g h. CopiesBefore g h place) → Holds s HaveCopied
-    copies_all s place expanded all p =
-        holds_map s (Copies place) HaveCopied p (λ h is a. copied_all s.graph h expanded (λ before task below at. a.copied before task (omega (arith, below, all, order_length s.graph expanded)) at))
+  pub copies_all : (s : State O R K S) (place : ℕ) → IsExpanded s.graph → length s.graph.tasks ≤ place → Holds s (λ g h. CopiesBefore g h place) → Holds s HaveCopied
+  copies_all s place expanded all p =
+      holds_map s (Copies place) HaveCopied p (λ h is a. copied_all s.graph h expanded (λ before task below at. a.copied before task (omega (arith, below, all, order_length s.graph expanded)) at))
 
-    abbrev Logs : ℕ → Expanded → Held R K S → Type 0
-    Logs n g h = LogsBefore g h n
+  abbrev Logs : ℕ → Expanded → Held R K S → Type 0
+  Logs n g h = LogsBefore g h n
 
-    pub logs_start : (s : State O R K S) → Holds s (λ g h. IsPending h × HaveCopied g h) → Holds s (λ g h. LogsBefore g h 0)
-    logs_start s p = holds_map s (λ g h. IsPending h × HaveCopied g h) (Logs 0) p (λ h is a. record { pending = a.0; copied = a.1; come = λ before task below. absurd (omega (arith, below)) })
+  pub logs_start : (s : State O R K S) → Holds s (λ g h. IsPending h × HaveCopied g h) → Holds s (λ g h. LogsBefore g h 0)
+  logs_start s p = holds_map s (λ g h. IsPending h × HaveCopied g h) (Logs 0) p (λ h is a. record { pending = a.0; copied = a.1; come = λ before task below. absurd (omega (arith, below)) })
 
-    pub logs_sent : (s : State O R K S) (place task : ℕ) → IsExpanded s.graph → Holds s (λ g h. LogsBefore g h place) → Holds s (λ g h. IsPending h × HaveSendersCopied g h true task)
-    logs_sent s place task expanded p = holds_map s (Logs place) (λ g h. IsPending h × HaveSendersCopied g h true task) p (λ h is a. (a.pending, senders_of_all s.graph h expanded a.copied task))
+  pub logs_sent : (s : State O R K S) (place task : ℕ) → IsExpanded s.graph → Holds s (λ g h. LogsBefore g h place) → Holds s (λ g h. IsPending h × HaveSendersCopied g h true task)
+  logs_sent s place task expanded p = holds_map s (Logs place) (λ g h. IsPending h × HaveSendersCopied g h true task) p (λ h is a. (a.pending, senders_of_all s.graph h expanded a.copied task))
 
-    pub logs_more : (old new : State O R K S) (place task : ℕ) → Bring old new → slice_get new.graph.order place ≡ Some task → Holds old (λ g h. LogsBefore g h place) → Holds new (λ g h. HaveCome g h true task) → Holds new (λ g h. LogsBefore g h (place + 1))
-    logs_more old new place task b at p come =
-        holds_two new (Logs place) (λ g h. HaveCome g h true task) (Logs (place + 1))
-        (holds_kept lang RecordFits old new (Logs place) b p (λ h k goes a. record {
-          pending = pending_kept h k goes a.pending;
-          copied = copied_kept old.graph h k a.copied goes;
-          come = come_before_kept old.graph h k place a.come goes;
-        }))
-        come
-        (λ h is a here. record { pending = a.pending; copied = a.copied; come = come_more new.graph h place task at a.come here })
+  pub logs_more : (old new : State O R K S) (place task : ℕ) → Bring old new → slice_get new.graph.order place ≡ Some task → Holds old (λ g h. LogsBefore g h place) → Holds new (λ g h. HaveCome g h true task) → Holds new (λ g h. LogsBefore g h (place + 1))
+  logs_more old new place task b at p come =
+      holds_two new (Logs place) (λ g h. HaveCome g h true task) (Logs (place + 1))
+      (holds_kept rules old new (Logs place) b p (λ h k goes a. record {
+        pending = pending_kept h k goes a.pending;
+        copied = copied_kept old.graph h k a.copied goes;
+        come = come_before_kept old.graph h k place a.come goes;
+      }))
+      come
+      (λ h is a here. record { pending = a.pending; copied = a.copied; come = come_more new.graph h place task at a.come here })
 
-    pub logs_skip : (s : State O R K S) (place : ℕ) → slice_get s.graph.order place ≡ None → Holds s (λ g h. LogsBefore g h place) → Holds s (λ g h. LogsBefore g h (place + 1))
-    logs_skip s place none p =
-        holds_map s (Logs place) (Logs (place + 1)) p
-        (λ h is a. record {
-          pending = a.pending;
-          copied = a.copied;
-          come = λ before task below at. elim (eq-or-lt_of_le (omega (arith, below))) [
-            | inl same ↦ absurd (none-some task (sym none ∙ sym (ap (slice_get s.graph.order) same) ∙ at))
-            | inr less ↦ a.come before task less at
-          ];
-        })
+  pub logs_skip : (s : State O R K S) (place : ℕ) → slice_get s.graph.order place ≡ None → Holds s (λ g h. LogsBefore g h place) → Holds s (λ g h. LogsBefore g h (place + 1))
+  logs_skip s place none p =
+      holds_map s (Logs place) (Logs (place + 1)) p
+      (λ h is a. record {
+        pending = a.pending;
+        copied = a.copied;
+        come = λ before task below at. elim (eq-or-lt_of_le (omega (arith, below))) [
+          | inl same ↦ absurd (none-some task (sym none ∙ sym (ap (slice_get s.graph.order) same) ∙ at))
+          | inr less ↦ a.come before task less at
+        ];
+      })
 
-    pub logs_all : (s : State O R K S) (place : ℕ) → Keeps lang RecordFits IsGood s → length s.graph.tasks ≤ place → Holds s (λ g h. LogsBefore g h place) → Holds s HaveAllCome
-    logs_all s place keeps all p =
-        holds_map s (Logs place) HaveAllCome p
-        (λ h is a. come_all lang.cmp RecordFits IsGood s.graph s.operators h keeps.expanded (shape_at lang RecordFits IsGood s h is keeps) a.copied
-        (λ before task below at. a.come before task (omega (arith, below, all, order_length s.graph keeps.expanded)) at))
+  pub logs_all : (s : State O R K S) (place : ℕ) → Keeps rules s → length s.graph.tasks ≤ place → Holds s (λ g h. LogsBefore g h place) → Holds s HaveAllCome
+  logs_all s place keeps all p =
+      holds_map s (Logs place) HaveAllCome p
+      (λ h is a. come_all rules s.graph s.operators h keeps.expanded (shape_at rules s h is keeps) a.copied
+      (λ before task below at. a.come before task (omega (arith, below, all, order_length s.graph keeps.expanded)) at))
 
   -- ---- the parts
 
@@ -297,7 +296,7 @@ module _ {R K S O : Type 0} (lang : Language R K S O) (RecordFits : R → Type 0
   ended_kept graph h k goes a = record { pending = pending_kept h k goes a.pending; copied = λ task within. goes.copied task (a.copied task within); come = λ number channel is. goes.came number (a.come number channel is) }
 
   pub ended_all : (old new : State O R K S) → Bring old new → Holds old HaveEnded → Holds new HaveEnded
-  ended_all old new b p = holds_kept lang RecordFits old new HaveEnded b p (λ h k goes a. ended_kept old.graph h k goes a)
+  ended_all old new b p = holds_kept rules old new HaveEnded b p (λ h k goes a. ended_kept old.graph h k goes a)
 
   pub acks_start : (s : State O R K S) → Holds s HaveEnded → Holds s (λ g h. AcksBefore g h 0)
   acks_start s p = holds_map s HaveEnded (Acks 0) p (λ h is a. record { ended = a; acked = λ task below. absurd (omega (arith, below)) })
@@ -308,7 +307,7 @@ module _ {R K S O : Type 0} (lang : Language R K S O) (RecordFits : R → Type 0
   pub acks_more : (old new : State O R K S) (n : ℕ) → Bring old new → Holds old (λ g h. AcksBefore g h n) → Holds new (λ g h. has_acked h.coordination n ≡ true) → Holds new (λ g h. AcksBefore g h (n + 1))
   acks_more old new n b p acked =
       holds_two new (Acks n) (λ g h. has_acked h.coordination n ≡ true) (Acks (n + 1))
-      (holds_kept lang RecordFits old new (Acks n) b p (λ h k goes a. record { ended = ended_kept old.graph h k goes a.ended; acked = λ task below. goes.acked task (a.acked task below) }))
+      (holds_kept rules old new (Acks n) b p (λ h k goes a. record { ended = ended_kept old.graph h k goes a.ended; acked = λ task below. goes.acked task (a.acked task below) }))
       acked
       (λ h is a here. record { ended = a.ended; acked = last_or {P = λ task. has_acked h.coordination task ≡ true} n here a.acked })
 
@@ -319,10 +318,10 @@ module _ {R K S O : Type 0} (lang : Language R K S O) (RecordFits : R → Type 0
 
   -- where a checkpoint is pending, nothing done brings nothing
   pub pending_all : (s : State O R K S) → Holds s (λ g h. IsPending h) → Bring s s
-  pending_all s p = brings_none lang RecordFits s (holds_running s (λ g h. IsPending h) p)
+  pending_all s p = brings_none rules s (holds_running s (λ g h. IsPending h) p)
 
   pub pending_on : (old new : State O R K S) → Bring old new → Holds old (λ g h. IsPending h) → Holds new (λ g h. IsPending h)
-  pending_on old new b p = holds_kept lang RecordFits old new (λ g h. IsPending h) b p (λ h k goes pending. pending_kept h k goes pending)
+  pending_on old new b p = holds_kept rules old new (λ g h. IsPending h) b p (λ h k goes pending. pending_kept h k goes pending)
 
   pub sources_ready : (old new : State O R K S) → Bring old new → Holds old (λ g h. IsPending h) → Holds new HaveSourcesCopied → Holds new (λ g h. IsPending h × HaveSourcesCopied g h)
   sources_ready old new b p copied = holds_two new (λ g h. IsPending h) HaveSourcesCopied (λ g h. IsPending h × HaveSourcesCopied g h) (pending_on old new b p) copied (λ h is one two. (one, two))
@@ -333,6 +332,6 @@ module _ {R K S O : Type 0} (lang : Language R K S O) (RecordFits : R → Type 0
   pub ended_of : (old middle new : State O R K S) → Bring old middle → Bring middle new → Holds old (λ g h. IsPending h) → Holds middle HaveCopied → Holds new HaveAllCome → Holds new HaveEnded
   ended_of old middle new one two p copied come =
       holds_two new (λ g h. IsPending h × HaveCopied g h) HaveAllCome HaveEnded
-      (copies_ready old new (brings_both lang RecordFits old middle new one two) p (holds_kept lang RecordFits middle new HaveCopied two copied (λ h k goes a. copied_kept middle.graph h k a goes)))
+      (copies_ready old new (brings_both rules old middle new one two) p (holds_kept rules middle new HaveCopied two copied (λ h k goes a. copied_kept middle.graph h k a goes)))
       come
       (λ h is a here. record { pending = a.0; copied = a.1; come = here })

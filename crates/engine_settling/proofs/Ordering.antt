@@ -1,5 +1,5 @@
 -- The order of the tasks, and what goes along it while a checkpoint is pending.
-use Rattle.std.proofs.Common.{◌≡◌, ◌≢◌, ◌<◌, ◌+◌, inl, inr, Some, None, slice_get, length, All, ℕ, Bool, true, false, List, refl, sym, ap, subst, ◌∙◌, arith, Ordering}
+use Rattle.std.proofs.Common.{◌≡◌, ◌≢◌, ◌<◌, ◌+◌, inl, inr, Some, None, slice_get, length, All, ℕ, Bool, true, false, List, refl, sym, ap, subst, ◌∙◌, arith}
 use Rattle.std.specs.List.{range_with_len, Contains}
 use Rattle.std.proofs.lemmas.Bool.{cases_Bool, cases_lt}
 use Rattle.std.proofs.lemmas.List.Elements.{All-get_or, All-from_get_or}
@@ -8,6 +8,7 @@ use Rattle.std.proofs.lemmas.List.Sorted.{length_permutation, All-permutation, C
 use Rattle.std.proofs.lemmas.Option.{same_Some, slice_get_within, slice_get-get_or, get_or_from_slice_get}
 use Rattle.job_graph.specs.Expanded.{Expanded, IsExpanded, StandsBefore}
 use Rattle.job_state.specs.Held.{Held, copy_at}
+use Rattle.engine_model.specs.AllRules.{AllRules}
 use Rattle.engine_model.specs.Keeps.{Shape}
 use Rattle.engine_settling.specs.Advancing.{Advances, HaveSourcesCopied, HaveCopiedBefore, HaveCopied, HaveSendersCopied, HaveCome, HaveComeBefore, HaveAllCome, HaveAckedBefore}
 use Rattle.engine_settling.proofs.Gating.{unmarked_came}
@@ -83,7 +84,7 @@ module _ {R K S : Type 0} (graph : Expanded) (h : Held R K S) where
       let sender = (expanded.joined number channel is).sender in
       copied channel.sender (slice_get_within graph.tasks channel.sender sender.role sender.is)
 
-module _ {R K S O : Type 0} (cmp : K → K → Ordering) (RecordFits : R → Type 0) (IsGood : O → S → Type 0) (graph : Expanded) (operators : List O) (h : Held R K S) (expanded : IsExpanded graph) (shape : Shape cmp RecordFits IsGood graph operators h) where
+module _ {R K S O : Type 0} (rules : AllRules R K S O) (graph : Expanded) (operators : List O) (h : Held R K S) (expanded : IsExpanded graph) (shape : Shape rules graph operators h) where
   -- where all tasks have copied and those before the end of the order have taken the barriers of their marked inputs, each barrier was taken
   pub come_all : HaveCopied graph h → HaveComeBefore graph h (length graph.order) → HaveAllCome graph h
   come_all copied before number channel is =
@@ -93,7 +94,7 @@ module _ {R K S O : Type 0} (cmp : K → K → Ordering) (RecordFits : R → Typ
         | inl marked ↦
             let p = in_order graph expanded channel.receiver within in
             before p.0 channel.receiver p.1 p.2 number channel is refl marked
-        | inr unmarked ↦ unmarked_came cmp RecordFits IsGood graph operators h expanded shape channel.receiver within (copied channel.receiver within) number channel is refl unmarked
+        | inr unmarked ↦ unmarked_came rules graph operators h expanded shape channel.receiver within (copied channel.receiver within) number channel is refl unmarked
       ]
 
 -- ---- a checkpoint that goes on

@@ -15,6 +15,7 @@ use Rattle.job_graph.specs.declared.role.Role.{Role}
 use Rattle.job_graph.specs.declared.role.Role.TheVariants as role
 use Rattle.job_state.specs.Held.{Held, copy_at, came_at}
 use Rattle.task_part.specs.declared.part.Part.{Part}
+use Rattle.engine_model.specs.AllRules.{AllRules}
 use Rattle.engine_model.specs.Calls.{EndsInject, EndsPersist, EndsOperatorBarrier, EndsSinkBarrier, IsSource, IsBarrierDue, NoRecord, input_at, left_by}
 use Rattle.engine_model.specs.Keeps.{Keeps}
 use Rattle.engine_model.specs.Language.{Language}
@@ -87,12 +88,12 @@ module _ {R K S O : Type 0} (lang : Language R K S O) (graph : Expanded) (operat
   accept_refused (made.Refused work) Memory due e = inl (refl, e.1)
   accept_refused (made.Refused work) other due e = absurd e
 
-module _ {R K S O : Type 0} (lang : Language R K S O) (RecordFits : R → Type 0) (IsGood : O → S → Type 0) (old new : State O R K S) (keeps : Keeps lang RecordFits IsGood old) (calls : Calls lang RecordFits old new) where
+module _ {R K S O : Type 0} (rules : AllRules R K S O) (old new : State O R K S) (keeps : Keeps rules old) (calls : Calls rules old new) where
   abbrev Ends : (Expanded → Held R K S → Type 0) → Result Unit CoreFault → Type 0
-  Ends Done r = EndsPart lang RecordFits old new Done r
+  Ends Done r = EndsPart rules old new Done r
 
   -- where nothing that is held has changed
-  unchanged : (h k : Held R K S) → old.held ≡ Some h → new.held ≡ Some k → Works lang RecordFits [] old new → k ≡ h → Brings lang RecordFits old new
+  unchanged : (h k : Held R K S) → old.held ≡ Some h → new.held ≡ Some k → Works rules [] old new → k ≡ h → Brings rules old new
   unchanged h k was is works same =
       record {
         before = h;
@@ -105,15 +106,15 @@ module _ {R K S O : Type 0} (lang : Language R K S O) (RecordFits : R → Type 0
         still = λ still. subst (λ (x : Held R K S). IsStill old.graph old.partitions x) (sym same) still;
       }
 
-  brings : (h k : Held R K S) → old.held ≡ Some h → new.held ≡ Some k → (moves : List Move) → Works lang RecordFits moves old new → Advances h k → (IsStill old.graph old.partitions h → IsStill old.graph old.partitions k) → Brings lang RecordFits old new
+  brings : (h k : Held R K S) → old.held ≡ Some h → new.held ≡ Some k → (moves : List Move) → Works rules moves old new → Advances h k → (IsStill old.graph old.partitions h → IsStill old.graph old.partitions k) → Brings rules old new
   brings h k was is moves works advances still = record { before = h; after = k; was = was; is = is; moves = moves; works = works; advances = advances; still = still }
 
-  graph_held : (P : Expanded → Held R K S → Type 0) (moves : List Move) (k : Held R K S) → Works lang RecordFits moves old new → new.held ≡ Some k → P old.graph k → Holds new P
+  graph_held : (P : Expanded → Held R K S → Type 0) (moves : List Move) (k : Held R K S) → Works rules moves old new → new.held ≡ Some k → P old.graph k → Holds new P
   graph_held P moves k works is p = holds_one new P k is (subst (λ (g : Expanded). P g k) (sym (ap (λ (s : State O R K S). s.graph) works.same)) p)
 
   -- ---- a source copies
 
-  module _ (stays : Stays lang old new) (task : ℕ) (source : IsSource old.graph task) (pending : Holds old (λ g h. IsPending h)) where
+  module _ (stays : Stays rules.lang old new) (task : ℕ) (source : IsSource old.graph task) (pending : Holds old (λ g h. IsPending h)) where
     abbrev Injecting : Held R K S → Held R K S → Result Unit CoreFault → Type 0
     Injecting h k r = EndsInject old.graph task h k r
 
@@ -123,8 +124,8 @@ module _ {R K S O : Type 0} (lang : Language R K S O) (RecordFits : R → Type 0
     abbrev Copied : Expanded → Held R K S → Type 0
     Copied g h = copy_at h task ≢ None
 
-    injects : (r : Result Unit CoreFault) → OnAttempt old new Injecting r → Works lang RecordFits [] old new
-    injects r e = works_stays lang RecordFits old new Injecting r (injected r) e (λ k. refl) calls stays
+    injects : (r : Result Unit CoreFault) → OnAttempt old new Injecting r → Works rules [] old new
+    injects r e = works_stays rules old new Injecting r (injected r) e (λ k. refl) calls stays
 
     running : old.held ≢ None
     running none = absurd (subst (λ (o : Option (Held R K S)). MatchOption o ⊥ (λ h. IsPending h)) none pending)
@@ -136,10 +137,10 @@ module _ {R K S O : Type 0} (lang : Language R K S O) (RecordFits : R → Type 0
     inject_part (Ok u) e =
         let a = ran old new Injecting (Ok u) (injected (Ok u)) e running in
         let is = ap (λ (s : State O R K S). s.held) a.is in
-        let shape = shape_at lang RecordFits IsGood old a.h a.was keeps in (
-          brings a.h a.k a.was is [] (injects (Ok u) e) (inject_advances lang RecordFits IsGood old.graph old.operators old.partitions a.h a.k keeps.expanded shape task a.ended)
-              (inject_stays_still lang RecordFits IsGood old.graph old.operators old.partitions a.h a.k keeps.expanded shape task a.ended),
-          graph_held Copied [] a.k (injects (Ok u) e) is (inject_copies lang RecordFits IsGood old.graph old.operators old.partitions a.h a.k keeps.expanded shape task a.ended),
+        let shape = shape_at rules old a.h a.was keeps in (
+          brings a.h a.k a.was is [] (injects (Ok u) e) (inject_advances rules old.graph old.operators old.partitions a.h a.k keeps.expanded shape task a.ended)
+              (inject_stays_still rules old.graph old.operators old.partitions a.h a.k keeps.expanded shape task a.ended),
+          graph_held Copied [] a.k (injects (Ok u) e) is (inject_copies rules old.graph old.operators old.partitions a.h a.k keeps.expanded shape task a.ended),
         )
     inject_part (Err NotReady) e =
         let a = ran old new Injecting (Err NotReady) (injected (Err NotReady)) e running in
@@ -158,7 +159,7 @@ module _ {R K S O : Type 0} (lang : Language R K S O) (RecordFits : R → Type 0
 
   -- ---- a part is put
 
-  module _ (stays : Stays lang old new) (task : ℕ) (within : task < length old.graph.tasks) (spelling : Part R K S → List ℕ) (ended : Holds old HaveEnded) where
+  module _ (stays : Stays rules.lang old new) (task : ℕ) (within : task < length old.graph.tasks) (spelling : Part R K S → List ℕ) (ended : Holds old HaveEnded) where
     abbrev Persisting : Held R K S → Held R K S → Result Unit CoreFault → Type 0
     Persisting h k r = EndsPersist old.graph task h k old.stored new.stored spelling r
 
@@ -168,8 +169,8 @@ module _ {R K S O : Type 0} (lang : Language R K S O) (RecordFits : R → Type 0
     abbrev Acked : Expanded → Held R K S → Type 0
     Acked g h = has_acked h.coordination task ≡ true
 
-    persists : (r : Result Unit CoreFault) → OnStore old new Persisting r → Works lang RecordFits [] old new
-    persists r e = works_stays lang RecordFits old new Persisting r (persisted r) e (λ k. refl) calls stays
+    persists : (r : Result Unit CoreFault) → OnStore old new Persisting r → Works rules [] old new
+    persists r e = works_stays rules old new Persisting r (persisted r) e (λ k. refl) calls stays
 
     runs : old.held ≢ None
     runs none = absurd (subst (λ (o : Option (Held R K S)). MatchOption o ⊥ (λ h. HaveEnded old.graph h)) none ended)
@@ -181,18 +182,18 @@ module _ {R K S O : Type 0} (lang : Language R K S O) (RecordFits : R → Type 0
     persist_part (Ok u) e =
         let a = ran old new Persisting (Ok u) (persisted (Ok u)) e runs in
         let is = ap (λ (s : State O R K S). s.held) a.is in
-        let shape = shape_at lang RecordFits IsGood old a.h a.was keeps in (
-          brings a.h a.k a.was is [] (persists (Ok u) e) (persist_advances lang RecordFits IsGood old.graph old.operators old.partitions a.h a.k keeps.expanded shape task old.stored new.stored spelling a.ended)
-              (persist_stays_still lang RecordFits IsGood old.graph old.operators old.partitions a.h a.k keeps.expanded shape task old.stored new.stored spelling a.ended),
-          graph_held Acked [] a.k (persists (Ok u) e) is (persist_acks lang RecordFits IsGood old.graph old.operators old.partitions a.h a.k keeps.expanded shape task old.stored new.stored spelling a.ended),
+        let shape = shape_at rules old a.h a.was keeps in (
+          brings a.h a.k a.was is [] (persists (Ok u) e) (persist_advances rules old.graph old.operators old.partitions a.h a.k keeps.expanded shape task old.stored new.stored spelling a.ended)
+              (persist_stays_still rules old.graph old.operators old.partitions a.h a.k keeps.expanded shape task old.stored new.stored spelling a.ended),
+          graph_held Acked [] a.k (persists (Ok u) e) is (persist_acks rules old.graph old.operators old.partitions a.h a.k keeps.expanded shape task old.stored new.stored spelling a.ended),
         )
     persist_part (Err NotReady) e =
         let a = ran old new Persisting (Err NotReady) (persisted (Err NotReady)) e runs in
         let is = ap (λ (s : State O R K S). s.held) a.is in
-        let shape = shape_at lang RecordFits IsGood old a.h a.was keeps in
+        let shape = shape_at rules old a.h a.was keeps in
         let was = ended_at a.h a.was in
-        let acked = persist_done lang RecordFits IsGood old.graph old.operators old.partitions a.h a.k keeps.expanded shape task old.stored new.stored spelling a.ended (was.copied task within)
-        (gate_rests lang.cmp RecordFits IsGood old.graph old.operators a.h keeps.expanded shape was.copied was.come task within) in (
+        let acked = persist_done rules old.graph old.operators old.partitions a.h a.k keeps.expanded shape task old.stored new.stored spelling a.ended (was.copied task within)
+        (gate_rests rules old.graph old.operators a.h keeps.expanded shape was.copied was.come task within) in (
           unchanged a.h a.k a.was is (persists (Err NotReady) e) a.ended.3,
           graph_held Acked [] a.k (persists (Err NotReady) e) is (subst (λ (x : Held R K S). has_acked x.coordination task ≡ true) (sym a.ended.3) acked),
         )
@@ -225,7 +226,7 @@ module _ {R K S O : Type 0} (lang : Language R K S O) (RecordFits : R → Type 0
         of None is = absurd (a.pending is)
         of (Some n) is = (n, is)
 
-    module _ (stays : Stays lang old new) where
+    module _ (stays : Stays rules.lang old new) where
       abbrev Taking : Held R K S → Held R K S → Result Effect CoreFault → Type 0
       Taking h k r = EndsBarrier old.graph task input h k old.ledger new.ledger r
 
@@ -235,18 +236,18 @@ module _ {R K S O : Type 0} (lang : Language R K S O) (RecordFits : R → Type 0
       abbrev Come : Expanded → Held R K S → Type 0
       Come g h = came_at h channel ≡ true
 
-      takes : (r : Result Effect CoreFault) → OnTransactions old new Taking r → Works lang RecordFits [] old new
-      takes r e = works_stays lang RecordFits old new Taking r (taken r) e (λ k. refl) calls stays
+      takes : (r : Result Effect CoreFault) → OnTransactions old new Taking r → Works rules [] old new
+      takes r e = works_stays rules old new Taking r (taken r) e (λ k. refl) calls stays
 
-      pub barrier_done : (effect : Effect) → OnTransactions old new Taking (Ok effect) → Brings lang RecordFits old new × Holds new Come
+      pub barrier_done : (effect : Effect) → OnTransactions old new Taking (Ok effect) → Brings rules old new × Holds new Come
       barrier_done effect e =
           let a = ran old new Taking (Ok effect) (taken (Ok effect)) e awake in
           let is = ap (λ (s : State O R K S). s.held) a.is in
-          let shape = shape_at lang RecordFits IsGood old a.h a.was keeps in
+          let shape = shape_at rules old a.h a.was keeps in
           let leads = (awaited_at a.h a.was).works.1 in (
-            brings a.h a.k a.was is [] (takes (Ok effect) e) (barrier_advances lang RecordFits IsGood old.graph old.operators old.partitions a.h a.k keeps.expanded shape task input channel leads old.ledger new.ledger effect a.ended)
-                (barrier_stays_still lang RecordFits IsGood old.graph old.operators old.partitions a.h a.k keeps.expanded shape task input channel leads old.ledger new.ledger effect a.ended),
-            graph_held Come [] a.k (takes (Ok effect) e) is (barrier_comes lang RecordFits IsGood old.graph old.operators old.partitions a.h a.k keeps.expanded shape task input channel leads old.ledger new.ledger effect a.ended),
+            brings a.h a.k a.was is [] (takes (Ok effect) e) (barrier_advances rules old.graph old.operators old.partitions a.h a.k keeps.expanded shape task input channel leads old.ledger new.ledger effect a.ended)
+                (barrier_stays_still rules old.graph old.operators old.partitions a.h a.k keeps.expanded shape task input channel leads old.ledger new.ledger effect a.ended),
+            graph_held Come [] a.k (takes (Ok effect) e) is (barrier_comes rules old.graph old.operators old.partitions a.h a.k keeps.expanded shape task input channel leads old.ledger new.ledger effect a.ended),
           )
 
       -- it is due where no record stands first
@@ -255,9 +256,9 @@ module _ {R K S O : Type 0} (lang : Language R K S O) (RecordFits : R → Type 0
           let a = awaited_at h was in
           let n = numbered h a in
           let to = input_channel old.graph task input channel a.works.1 in
-          (n.0, barrier_next lang.cmp RecordFits IsGood old.graph old.operators h keeps.expanded (shape_at lang RecordFits IsGood old h was keeps) task input channel n.0 to.0 a.works.1 to.1 n.1 (a.sent to.0 to.1) a.missing none)
+          (n.0, barrier_next rules old.graph old.operators h keeps.expanded (shape_at rules old h was keeps) task input channel n.0 to.0 a.works.1 to.1 n.1 (a.sent to.0 to.1) a.missing none)
 
-      fails_as : (h k : Held R K S) → old.held ≡ Some h → (f : CoreFault) → new ≡ taken (Err f) k → Works lang RecordFits [] old new → ((f ≡ Memory) × (k ≡ h)) ⊎ (f ≡ Device) → Ends Come (Err f)
+      fails_as : (h k : Held R K S) → old.held ≡ Some h → (f : CoreFault) → new ≡ taken (Err f) k → Works rules [] old new → ((f ≡ Memory) × (k ≡ h)) ⊎ (f ≡ Device) → Ends Come (Err f)
       fails_as h k was Memory is works (inl same) = unchanged h k was (ap (λ (s : State O R K S). s.held) is) works same.1
       fails_as h k was Device is works w = ([], works, ap (λ (s : State O R K S). s.held) is)
       fails_as h k was f is works (inl same) = absurd cc

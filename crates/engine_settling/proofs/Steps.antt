@@ -24,10 +24,10 @@ use Rattle.snapshot_store.specs.Store.{Stored}
 use Rattle.source_log.specs.Partitions.{records_at}
 use Rattle.task_part.specs.declared.part.Part.{Part}
 use Rattle.task_part.specs.declared.part.Part.TheVariants as part
+use Rattle.engine_model.specs.AllRules.{AllRules}
 use Rattle.engine_model.specs.Calls.{input_at, EndsInject, EndsPersist, EndsRead, EndsTrigger, EndsComplete, NotesBarrier, CopiesMap, CopiesSink, OperatesNext, PutsOut}
 use Rattle.engine_model.specs.Commits.{CommitsOne, CommitsEach, EndsCommit}
 use Rattle.engine_model.specs.Keeps.{Shape}
-use Rattle.engine_model.specs.Language.{Language}
 use Rattle.engine_model.specs.declared.fault.CoreFault.{CoreFault}
 use Rattle.engine_model.specs.declared.fault.CoreFault.TheVariants.{NotReady, NoSuchTask, CommitFault}
 use Rattle.engine_model.proofs.Calls.Tasks.{LeadsTo, input_leads}
@@ -116,8 +116,8 @@ module _ {R K S : Type 0} where
 
 -- ---- the calls
 
-module _ {R K S O : Type 0} (lang : Language R K S O) (RecordFits : R → Type 0) (IsGood : O → S → Type 0) (graph : Expanded) (operators : List O) (partitions : List (List R)) (h k : Held R K S)
-    (expanded : IsExpanded graph) (shape : Shape lang.cmp RecordFits IsGood graph operators h) where
+module _ {R K S O : Type 0} (rules : AllRules R K S O) (graph : Expanded) (operators : List O) (partitions : List (List R)) (h k : Held R K S)
+    (expanded : IsExpanded graph) (shape : Shape rules graph operators h) where
   copies_place : (task : ℕ) (r : Role) → slice_get graph.tasks task ≡ Some r → task < length h.copies
   copies_place task r is = subst (λ n. task < n) (sym shape.copies) (slice_get_within graph.tasks task r is)
 
@@ -248,20 +248,20 @@ module _ {R K S O : Type 0} (lang : Language R K S O) (RecordFits : R → Type 0
   -- ---- a record is worked
 
   module _ (task input channel : ℕ) (leads : input_at graph task input ≡ Some channel) (old new : Ledger) (u : Unit {0}) where
-    works_as : (o : Option Role) → WorksAs graph task input h k old new lang operators (Ok u) o (Some channel) → Works h channel k
+    works_as : (o : Option Role) → WorksAs graph task input h k old new rules.lang operators (Ok u) o (Some channel) → Works h channel k
     works_as (Some (role.Operator number)) e =
-        let w : OperatesNext graph task h k input channel lang e.0 = e.2 in
+        let w : OperatesNext graph task h k input channel rules.lang e.0 = e.2 in
         record {
           row = w.row;
           head = w.head;
-          more = map Record (received lang.meaning task (lang.meaning.apply e.0 (state_under (lang.meaning.key e.0 w.row) (lang.meaning.fresh e.0) (value_at lang.cmp w.entries)) w.row).sent (slice_get graph.channels channel));
-          taken = w.operates.puts.each channel ∙ ap (λ (items : List (Item R)). items ++ map Record (received lang.meaning task (lang.meaning.apply e.0 (state_under (lang.meaning.key e.0 w.row) (lang.meaning.fresh e.0) (value_at lang.cmp w.entries)) w.row).sent (slice_get graph.channels channel))) (taken_from h.channels channel);
+          more = map Record (received rules.lang.meaning task (rules.lang.meaning.apply e.0 (state_under (rules.lang.meaning.key e.0 w.row) (rules.lang.meaning.fresh e.0) (value_at rules.lang.cmp w.entries)) w.row).sent (slice_get graph.channels channel));
+          taken = w.operates.puts.each channel ∙ ap (λ (items : List (Item R)). items ++ map Record (received rules.lang.meaning task (rules.lang.meaning.apply e.0 (state_under (rules.lang.meaning.key e.0 w.row) (rules.lang.meaning.fresh e.0) (value_at rules.lang.cmp w.entries)) w.row).sent (slice_get graph.channels channel))) (taken_from h.channels channel);
           came = ap (λ (x : Held R K S). x.came) w.operates.ends;
           coordination = ap (λ (x : Held R K S). x.coordination) w.operates.ends;
           copies = ap (λ (x : Held R K S). x.copies) w.operates.ends;
         }
     works_as (Some (role.Sink subtask)) e =
-        let w : PutsOut task input h k channel old new lang.spelling = e in
+        let w : PutsOut task input h k channel old new rules.lang.spelling = e in
         record {
           row = w.row;
           head = w.head;
@@ -274,12 +274,12 @@ module _ {R K S O : Type 0} (lang : Language R K S O) (RecordFits : R → Type 0
     works_as (Some (role.Source partition)) e = absurd (not_refused e.0)
     works_as None e = absurd (not_refused e.0)
 
-    works_of : EndsWork lang graph operators task input h k old new (Ok u) → Works h channel k
-    works_of e = works_as (slice_get graph.tasks task) (subst (λ (c : Option ℕ). WorksAs graph task input h k old new lang operators (Ok u) (slice_get graph.tasks task) c) leads e)
+    works_of : EndsWork rules.lang graph operators task input h k old new (Ok u) → Works h channel k
+    works_of e = works_as (slice_get graph.tasks task) (subst (λ (c : Option ℕ). WorksAs graph task input h k old new rules.lang operators (Ok u) (slice_get graph.tasks task) c) leads e)
 
-    module _ (worked : Made O K S R) (one : records_of (given_of worked) ≡ 1) (e : EndsAccept lang graph operators task input h k old new worked (Ok u)) where
+    module _ (worked : Made O K S R) (one : records_of (given_of worked) ≡ 1) (e : EndsAccept rules.lang graph operators task input h k old new worked (Ok u)) where
       works : Works h channel k
-      works = works_of (one_works lang graph operators task input h k old new u worked one e)
+      works = works_of (one_works rules.lang graph operators task input h k old new u worked one e)
 
       -- no copy is made or lost
       pub work_copies : (t : ℕ) → copy_at k t ≡ copy_at h t
@@ -447,7 +447,7 @@ module _ {R K S O : Type 0} (lang : Language R K S O) (RecordFits : R → Type 0
 
   -- ---- a source reads
 
-  module _ (task : ℕ) (e : EndsRead graph task h k lang partitions (Ok tt)) where
+  module _ (task : ℕ) (e : EndsRead graph task h k rules.lang partitions (Ok tt)) where
     -- the pending checkpoint goes on
     pub read_advances : Advances h k
     read_advances = record {

@@ -26,10 +26,10 @@ use Rattle.snapshot_store.specs.Store.{Stored}
 use Rattle.source_log.specs.Partitions.{records_at}
 use Rattle.task_part.specs.declared.part.Part.{Part}
 use Rattle.task_part.specs.declared.part.Part.TheVariants as part
+use Rattle.engine_model.specs.AllRules.{AllRules}
 use Rattle.engine_model.specs.Calls.{IsBlocked, NoRecord}
 use Rattle.engine_model.specs.CompleteCut.{HasTheCut}
 use Rattle.engine_model.specs.Keeps.{Shape, CopyAs, barriers_in}
-use Rattle.engine_model.specs.Language.{Language}
 use Rattle.engine_model.specs.State.{State}
 use Rattle.engine_model.specs.View.{job_of, attempt_of, held_state, copied_state, plain_item}
 use Rattle.engine_model.proofs.Shape.BarriersKept.{none_unpending}
@@ -80,8 +80,8 @@ worker_by (role.Source partition) takes = absurd (true≢false takes)
 worker_by (role.Operator number) takes = tt
 worker_by (role.Sink subtask) takes = tt
 
-module _ {R K S O : Type 0} (lang : Language R K S O) (RecordFits : R → Type 0) (IsGood : O → S → Type 0) (s : State O R K S) (h : Held R K S) (expanded : IsExpanded s.graph)
-    (shape : Shape lang.cmp RecordFits IsGood s.graph s.operators h) where
+module _ {R K S O : Type 0} (rules : AllRules R K S O) (s : State O R K S) (h : Held R K S) (expanded : IsExpanded s.graph)
+    (shape : Shape rules s.graph s.operators h) where
   module _ (quiet : h.coordination.pending ≡ None) where
     -- no gate waits
     free : (task input : ℕ) → task < length s.graph.tasks → ¬ IsBlocked task input h
@@ -138,32 +138,32 @@ source_role {O} operators (Some (role.Operator number)) partition e = absurd (of
     of (Some operator) e = cc
 source_role operators (Some (role.Sink subtask)) partition e = cc
 
-module _ {R K S O : Type 0} (lang : Language R K S O) (RecordFits : R → Type 0) (IsGood : O → S → Type 0) (s : State O R K S) (h : Held R K S)
-    (shape : Shape lang.cmp RecordFits IsGood s.graph s.operators h) (still : IsStill s.graph s.partitions h) where
+module _ {R K S O : Type 0} (rules : AllRules R K S O) (s : State O R K S) (h : Held R K S)
+    (shape : Shape rules s.graph s.operators h) (still : IsStill s.graph s.partitions h) where
   abbrev cut : Configuration R K S
-  cut = cut_so_far (job_of lang s) (attempt_of lang.cmp h)
+  cut = cut_so_far (job_of rules.lang s) (attempt_of rules.lang.cmp h)
 
   -- each source has read to the end, and had when it copied, if it has
   past : (task partition : ℕ) (is : slice_get s.graph.tasks task ≡ Some (role.Source partition)) (o : Option (Part R K S)) → copy_at h task ≡ o → CopyAs (role.Source partition) o
-      → length (records_at s.partitions partition) ≤ (if is_some o then copied_state {R = R} lang.cmp o else held_state lang.cmp (slice_get h.tasks task)).offset
+      → length (records_at s.partitions partition) ≤ (if is_some o then copied_state {R = R} rules.lang.cmp o else held_state rules.lang.cmp (slice_get h.tasks task)).offset
   past task partition is None e form =
       let held = shape.forms task (role.Source partition) is in
-      let offset_is : (held_state {R = R} lang.cmp (slice_get h.tasks task)).offset ≡ held.0 = ap (λ (o : Option (Holding K S)). (held_state {R = R} lang.cmp o).offset) held.1 in
+      let offset_is : (held_state {R = R} rules.lang.cmp (slice_get h.tasks task)).offset ≡ held.0 = ap (λ (o : Option (Holding K S)). (held_state {R = R} rules.lang.cmp o).offset) held.1 in
       let end = still.read task partition held.0 is held.1 in
       omega (arith, offset_is, end)
   past task partition is (Some p) e form =
-      let offset_is : (copied_state {R = R} lang.cmp (Some p)).offset ≡ form.0 = ap (λ (q : Part R K S). (copied_state {R = R} lang.cmp (Some q)).offset) form.1 in
+      let offset_is : (copied_state {R = R} rules.lang.cmp (Some p)).offset ≡ form.0 = ap (λ (q : Part R K S). (copied_state {R = R} rules.lang.cmp (Some q)).offset) form.1 in
       let end = still.copied task partition form.0 is (e ∙ ap (λ (q : Part R K S). Some q) form.1) in
       omega (arith, offset_is, end)
 
   -- the cut has no record in a channel
-  cut_empty : (number : ℕ) (o : Option Channel) → cut_channel (attempt_of lang.cmp h) number o ≡ []
+  cut_empty : (number : ℕ) (o : Option Channel) → cut_channel (attempt_of rules.lang.cmp h) number o ≡ []
   cut_empty number None = no_records (items_at h.channels number) (still.queues number)
   cut_empty number (Some channel) =
       ap₂ (λ (x y : List R). x ++ y) (ap (logged (is_some (copy_at h channel.receiver))) (still.logs number) ∙ none_logged (is_some (copy_at h channel.receiver)))
       (none_sent (is_some (copy_at h channel.sender)) (came_at h number) (items_at h.channels number) (still.queues number))
 
-  none_possible : (move : Move) → IsPossible (job_of lang s) move cut → ⊥
+  none_possible : (move : Move) → IsPossible (job_of rules.lang s) move cut → ⊥
   none_possible (Read task) possible =
       let step = possible.1 in
       let partition = step.takes.0 in
@@ -176,9 +176,9 @@ module _ {R K S O : Type 0} (lang : Language R K S O) (RecordFits : R → Type 0
       none-some step.taken (ap (λ (rows : List R). slice_get rows 0) (sym (cut_empty channel (slice_get s.graph.channels channel))) ∙ step.takes.4)
 
   -- At the cut that a still job has made so far, no move of the plain machine is left.
-  pub cut_rests : IsAtRest (job_of lang s) (cut_so_far (job_of lang s) (attempt_of lang.cmp h))
+  pub cut_rests : IsAtRest (job_of rules.lang s) (cut_so_far (job_of rules.lang s) (attempt_of rules.lang.cmp h))
   cut_rests move possible = none_possible move possible
 
   -- So rests a checkpoint that is that cut.
-  pub cut_at_rest : (stored : Stored) (n : ℕ) → HasTheCut lang s h stored n → CutRests lang (record s { stored = stored }) n
+  pub cut_at_rest : (stored : Stored) (n : ℕ) → HasTheCut rules.lang s h stored n → CutRests rules.lang (record s { stored = stored }) n
   cut_at_rest stored n has = record { parts = has.parts; cut = cut; is_cut = has.cut; rests = cut_rests }

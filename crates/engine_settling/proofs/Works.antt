@@ -11,9 +11,9 @@ use Rattle.dataflow_model.specs.Machine.{Work}
 use Rattle.job_graph.specs.Expanded.{Expanded}
 use Rattle.job_state.specs.Held.{Held}
 use Rattle.job_state.specs.Sending.{items_at}
+use Rattle.engine_model.specs.AllRules.{AllRules}
 use Rattle.engine_model.specs.Calls.{IsBlocked, NoRecord, input_at, left_by}
 use Rattle.engine_model.specs.Keeps.{Keeps}
-use Rattle.engine_model.specs.Language.{Language}
 use Rattle.engine_model.specs.State.{State}
 use Rattle.engine_model.specs.declared.fault.CoreFault.{CoreFault}
 use Rattle.engine_model.specs.declared.fault.CoreFault.TheVariants.{NotRunning, NoSuchTask, NotReady, ChannelBlocked, Memory, Device}
@@ -47,7 +47,7 @@ number_of h pending = of h.coordination.pending refl
     of None is = absurd (pending is)
     of (Some n) is = (n, is)
 
-module _ {R K S O : Type 0} (lang : Language R K S O) (RecordFits : R → Type 0) (IsGood : O → S → Type 0) (old : State O R K S) (keeps : Keeps lang RecordFits IsGood old) (task input channel : ℕ) (awaited : Holds old (λ g h. IsAwaited g h task input channel)) where
+module _ {R K S O : Type 0} (rules : AllRules R K S O) (old : State O R K S) (keeps : Keeps rules old) (task input channel : ℕ) (awaited : Holds old (λ g h. IsAwaited g h task input channel)) where
   abbrev Awaited : Expanded → Held R K S → Type 0
   Awaited g h = IsAwaited g h task input channel
 
@@ -67,66 +67,66 @@ module _ {R K S O : Type 0} (lang : Language R K S O) (RecordFits : R → Type 0
   free_at : (h : Held R K S) → old.held ≡ Some h → IsBlocked task input h → ⊥
   free_at h was =
       let a = await_at h was in
-      is_free lang.cmp RecordFits IsGood old.graph old.operators h keeps.expanded (shape_at lang RecordFits IsGood old h was keeps) task input channel a.works.1 a.missing
+      is_free rules old.graph old.operators h keeps.expanded (shape_at rules old h was keeps) task input channel a.works.1 a.missing
 
   -- where nothing is offered
-  pub offer_part : (f : CoreFault) → Holds old (λ g h. HasHead h channel) → MatchOption old.held (◌≡◌ {A = Result (Given O K S R) CoreFault} (Err f) (Err NotRunning)) (λ h. EndsOffer lang old.graph old.operators task input h 1 (Err f))
-      → EndsPart lang RecordFits old old {T = Unit {0}} Awaited (Err f)
+  pub offer_part : (f : CoreFault) → Holds old (λ g h. HasHead h channel) → MatchOption old.held (◌≡◌ {A = Result (Given O K S R) CoreFault} (Err f) (Err NotRunning)) (λ h. EndsOffer rules.lang old.graph old.operators task input h 1 (Err f))
+      → EndsPart rules old old {T = Unit {0}} Awaited (Err f)
   offer_part f head e = of old.held refl head e
     where
-      at : (h : Held R K S) → old.held ≡ Some h → HasHead h channel → (f : CoreFault) → EndsOffer lang old.graph old.operators task input h 1 (Err f) → EndsPart lang RecordFits old old {T = Unit {0}} Awaited (Err f)
+      at : (h : Held R K S) → old.held ≡ Some h → HasHead h channel → (f : CoreFault) → EndsOffer rules.lang old.graph old.operators task input h 1 (Err f) → EndsPart rules old old {T = Unit {0}} Awaited (Err f)
       at h was head NoSuchTask e = absurd (e channel (await_at h was).works)
       at h was head ChannelBlocked e = absurd (free_at h was e.2)
       at h was head NotReady e =
           let same : e.0 ≡ channel = same_Some e.0 channel (sym e.1.1 ∙ (await_at h was).works.1) in
           absurd (subst (λ (c : ℕ). NoRecord h c) same e.3 head.0 head.1)
-      at h was head Memory e = brings_same lang RecordFits old h was
+      at h was head Memory e = brings_same rules old h was
       at h was head other e = absurd e
 
-      of : (o : Option (Held R K S)) → old.held ≡ o → MatchOption o ⊥ (λ h. HasHead h channel) → MatchOption o (◌≡◌ {A = Result (Given O K S R) CoreFault} (Err f) (Err NotRunning)) (λ h. EndsOffer lang old.graph old.operators task input h 1 (Err f)) → EndsPart lang RecordFits old old {T = Unit {0}} Awaited (Err f)
+      of : (o : Option (Held R K S)) → old.held ≡ o → MatchOption o ⊥ (λ h. HasHead h channel) → MatchOption o (◌≡◌ {A = Result (Given O K S R) CoreFault} (Err f) (Err NotRunning)) (λ h. EndsOffer rules.lang old.graph old.operators task input h 1 (Err f)) → EndsPart rules old old {T = Unit {0}} Awaited (Err f)
       of None is head e = absurd head
       of (Some h) is head e = at h is head f e
 
-  module _ (new : State O R K S) (calls : Calls lang RecordFits old new) (worked : Made O K S R) (due : MatchOption old.held ⊥ (λ h. IsDue lang old.graph old.operators task input h (given_of worked))) (one : records_of (given_of worked) ≡ 1) where
+  module _ (new : State O R K S) (calls : Calls rules old new) (worked : Made O K S R) (due : MatchOption old.held ⊥ (λ h. IsDue rules.lang old.graph old.operators task input h (given_of worked))) (one : records_of (given_of worked) ≡ 1) where
     abbrev Taking : Held R K S → Held R K S → Result Unit CoreFault → Type 0
-    Taking h k r = EndsAccept lang old.graph old.operators task input h k old.ledger new.ledger worked r
+    Taking h k r = EndsAccept rules.lang old.graph old.operators task input h k old.ledger new.ledger worked r
 
     abbrev kept : Result Unit CoreFault → Held R K S → State O R K S
     kept r k = record old { held = left_by r (Some k); ledger = new.ledger; faults = new.faults }
 
     abbrev Moves : Result Unit CoreFault → Type 0
-    Moves r = MatchOption (input_at old.graph task input) (Stays lang old new) (λ c. StepsOftenIfOk r (records_of (given_of worked)) lang (Work task c) old new)
+    Moves r = MatchOption (input_at old.graph task input) (Stays rules.lang old new) (λ c. StepsOftenIfOk r (records_of (given_of worked)) rules.lang (Work task c) old new)
 
-    turns : (r : Result Unit CoreFault) → OnTransactions old new Taking r → Moves r → EndsWorkAt lang RecordFits old new task input (turned_as r)
-    turns r e m = accept_turns lang RecordFits old new task input calls await_runs worked due one r e m
+    turns : (r : Result Unit CoreFault) → OnTransactions old new Taking r → Moves r → EndsWorkAt rules old new task input (turned_as r)
+    turns r e m = accept_turns rules old new task input calls await_runs worked due one r e m
 
     -- the barrier is still awaited, and one record less stands before it
-    still_awaited : (h k : Held R K S) → old.held ≡ Some h → EndsAccept lang old.graph old.operators task input h k old.ledger new.ledger worked (Ok tt) → IsAwaited old.graph k task input channel
+    still_awaited : (h k : Held R K S) → old.held ≡ Some h → EndsAccept rules.lang old.graph old.operators task input h k old.ledger new.ledger worked (Ok tt) → IsAwaited old.graph k task input channel
     still_awaited h k was e =
         let a = await_at h was in
-        let shape = shape_at lang RecordFits IsGood old h was keeps in
-        let advances : Advances h k = work_advances lang RecordFits IsGood old.graph old.operators old.partitions h k keeps.expanded shape task input channel a.works.1 old.ledger new.ledger tt worked one e in
+        let shape = shape_at rules old h was keeps in
+        let advances : Advances h k = work_advances rules old.graph old.operators old.partitions h k keeps.expanded shape task input channel a.works.1 old.ledger new.ledger tt worked one e in
         record {
           works = a.works;
           pending = λ none. a.pending (sym advances.pending ∙ none);
           sent = λ c is. advances.copied c.sender (a.sent c is);
-          missing = work_came lang RecordFits IsGood old.graph old.operators old.partitions h k keeps.expanded shape task input channel a.works.1 old.ledger new.ledger tt worked one e channel ∙ a.missing;
+          missing = work_came rules old.graph old.operators old.partitions h k keeps.expanded shape task input channel a.works.1 old.ledger new.ledger tt worked one e channel ∙ a.missing;
         }
 
-    falls_at : (h k : Held R K S) → old.held ≡ Some h → EndsAccept lang old.graph old.operators task input h k old.ledger new.ledger worked (Ok tt) → leading (items_at k.channels channel) < leading (items_at h.channels channel)
+    falls_at : (h k : Held R K S) → old.held ≡ Some h → EndsAccept rules.lang old.graph old.operators task input h k old.ledger new.ledger worked (Ok tt) → leading (items_at k.channels channel) < leading (items_at h.channels channel)
     falls_at h k was e =
         let a = await_at h was in
-        let shape = shape_at lang RecordFits IsGood old h was keeps in
-        let head = work_head lang RecordFits IsGood old.graph old.operators old.partitions h k keeps.expanded shape task input channel a.works.1 old.ledger new.ledger tt worked one e in
+        let shape = shape_at rules old h was keeps in
+        let head = work_head rules old.graph old.operators old.partitions h k keeps.expanded shape task input channel a.works.1 old.ledger new.ledger tt worked one e in
         let to = input_channel old.graph task input channel a.works.1 in
         let n = number_of h a.pending in
-        let one = barrier_sent lang.cmp RecordFits IsGood old.graph old.operators h keeps.expanded shape channel n.0 to.0 to.1 n.1 (a.sent to.0 to.1) a.missing in
+        let one = barrier_sent rules old.graph old.operators h keeps.expanded shape channel n.0 to.0 to.1 n.1 (a.sent to.0 to.1) a.missing in
         subst (λ (items : List (Item R)). leading items < leading (items_at h.channels channel)) (sym head.3) (leading_falls (items_at h.channels channel) head.2 head.0 n.0 head.1 one)
 
-    pub accept_part : (r : Result Unit CoreFault) → OnTransactions old new Taking r → Moves r → EndsPart lang RecordFits old new Awaited r
+    pub accept_part : (r : Result Unit CoreFault) → OnTransactions old new Taking r → Moves r → EndsPart rules old new Awaited r
     accept_part (Ok u) e m =
         let a = ran old new Taking (Ok u) (kept (Ok u)) e await_runs in
-        let shape = shape_at lang RecordFits IsGood old a.h a.was keeps in
+        let shape = shape_at rules old a.h a.was keeps in
         let made = turns (Ok u) e m in
         let is = ap (λ (s : State O R K S). s.held) a.is in (
           record {
@@ -136,16 +136,16 @@ module _ {R K S O : Type 0} (lang : Language R K S O) (RecordFits : R → Type 0
             is = is;
             moves = made.0 ∷ [];
             works = made.2.0;
-            advances = work_advances lang RecordFits IsGood old.graph old.operators old.partitions a.h a.k keeps.expanded shape task input channel (await_at a.h a.was).works.1 old.ledger new.ledger u worked one a.ended;
-            still = λ still. absurd (work_not_still lang RecordFits IsGood old.graph old.operators old.partitions a.h a.k keeps.expanded shape task input channel (await_at a.h a.was).works.1 old.ledger new.ledger u worked one a.ended still);
+            advances = work_advances rules old.graph old.operators old.partitions a.h a.k keeps.expanded shape task input channel (await_at a.h a.was).works.1 old.ledger new.ledger u worked one a.ended;
+            still = λ still. absurd (work_not_still rules old.graph old.operators old.partitions a.h a.k keeps.expanded shape task input channel (await_at a.h a.was).works.1 old.ledger new.ledger u worked one a.ended still);
           },
           holds_one new Awaited a.k is (subst (λ (g : Expanded). Awaited g a.k) (sym (ap (λ (s : State O R K S). s.graph) a.is)) (still_awaited a.h a.k a.was a.ended)),
         )
     accept_part (Err f) e m =
         let a = ran old new Taking (Err f) (kept (Err f)) e await_runs in
-        by f a.h a.k a.was a.is (accept_refused lang old.graph old.operators task input a.h a.k old.ledger new.ledger worked f (MatchOption-at_some ⊥ (λ x. IsDue lang old.graph old.operators task input x (given_of worked)) a.h a.was due) a.ended) (turns (Err f) e m)
+        by f a.h a.k a.was a.is (accept_refused rules.lang old.graph old.operators task input a.h a.k old.ledger new.ledger worked f (MatchOption-at_some ⊥ (λ x. IsDue rules.lang old.graph old.operators task input x (given_of worked)) a.h a.was due) a.ended) (turns (Err f) e m)
       where
-        by : (f : CoreFault) (h k : Held R K S) → old.held ≡ Some h → new ≡ kept (Err f) k → ((f ≡ Memory) × (k ≡ h)) ⊎ (f ≡ Device) → EndsWorkAt lang RecordFits old new task input (turned_as (Err f)) → EndsPart lang RecordFits old new {T = Unit {0}} Awaited (Err f)
+        by : (f : CoreFault) (h k : Held R K S) → old.held ≡ Some h → new ≡ kept (Err f) k → ((f ≡ Memory) × (k ≡ h)) ⊎ (f ≡ Device) → EndsWorkAt rules old new task input (turned_as (Err f)) → EndsPart rules old new {T = Unit {0}} Awaited (Err f)
         by Memory h k was is (inl same) turned =
             record {
               before = h;

@@ -3,7 +3,7 @@ use Rattle.std.specs.Prelude.{◌≡◌, ◌≤◌, ◌<◌, ◌+◌, ◌^◌, �
 use Rattle.dataflow_model.specs.Machine.{Move}
 use Rattle.job_graph.specs.declared.role.Role.TheVariants as role
 use Rattle.snapshot_store.specs.Store.{is_complete}
-use Rattle.engine_model.specs.Language.{Language}
+use Rattle.engine_model.specs.AllRules.{AllRules}
 use Rattle.engine_model.specs.LastCommitted.{committed_of, complete_numbers, last_committed}
 use Rattle.engine_model.specs.Sound.{IsSound}
 use Rattle.engine_model.specs.State.{State}
@@ -38,15 +38,15 @@ module _ {R K S O : Type 0} (s : State O R K S) where
   abbrev pub HaveCommitted : Type 0
   HaveCommitted = HaveCommittedBefore (length s.graph.tasks)
 
-module _ {R K S O : Type 0} (lang : Language R K S O) (RecordFits : R → Type 0) (old new : State O R K S) where
+module _ {R K S O : Type 0} (rules : AllRules R K S O) (old new : State O R K S) where
   -- plain steps were made, and the job still runs
   abbrev pub MadeSome : Type 0
-  MadeSome = (moves : List Move) × Made lang RecordFits old new moves
+  MadeSome = (moves : List Move) × Made rules old new moves
 
   -- The pending checkpoint is completed, or a device fails.
   abbrev pub EndsCompletion : Result Unit CoreFault → Type 0
-  EndsCompletion (Ok u) = (n : ℕ) × (pending_in old.held ≡ Some n) × MadeSome × IsCompleted new n × (IsStillIn old → CutRests lang new n)
-  EndsCompletion (Err Device) = WentDown lang RecordFits old new
+  EndsCompletion (Ok u) = (n : ℕ) × (pending_in old.held ≡ Some n) × MadeSome × IsCompleted new n × (IsStillIn old → CutRests rules.lang new n)
+  EndsCompletion (Err Device) = WentDown rules old new
   EndsCompletion (Err other) = ⊥
 
   -- Commits leave the store and the pending checkpoint.
@@ -57,29 +57,29 @@ module _ {R K S O : Type 0} (lang : Language R K S O) (RecordFits : R → Type 0
 
   -- Every sink of a sound engine has committed once for each complete checkpoint, or a commit failed.
   abbrev pub EndsCommits : Result Unit CoreFault → Type 0
-  EndsCommits (Ok u) = Commits × (IsSound lang RecordFits old → HaveCommitted new)
+  EndsCommits (Ok u) = Commits × (IsSound rules old → HaveCommitted new)
   EndsCommits (Err CommitFault) = Commits
   EndsCommits (Err other) = ⊥
 
   -- So for one task: a sink commits, and any other commits nothing.
   abbrev pub EndsCommitAt : (task : ℕ) → Result Unit CoreFault → Type 0
-  EndsCommitAt task (Ok u) = Commits × (IsSound lang RecordFits old → HaveCommittedBefore old task → HaveCommittedBefore new (task + 1))
+  EndsCommitAt task (Ok u) = Commits × (IsSound rules old → HaveCommittedBefore old task → HaveCommittedBefore new (task + 1))
   EndsCommitAt task (Err CommitFault) = Commits
   EndsCommitAt task (Err other) = ⊥
 
   -- The pending checkpoint is complete, and every sink of a sound engine has committed it last. It is refused where none is pending, and else only for want
   -- of memory or where a device failed: where a commit failed, it is complete all the same. The steps that were made are kept.
   abbrev pub EndsSettle : Result Unit CoreFault → Type 0
-  EndsSettle (Ok u) = (n : ℕ) × (pending_in old.held ≡ Some n) × MadeSome × IsCompleted new n × (IsSound lang RecordFits old → IsCommitted new n)
+  EndsSettle (Ok u) = (n : ℕ) × (pending_in old.held ≡ Some n) × MadeSome × IsCompleted new n × (IsSound rules old → IsCommitted new n)
   EndsSettle (Err NoCheckpoint) = (pending_in old.held ≡ None) × (new ≡ old)
   EndsSettle (Err Memory) = MadeSome
   EndsSettle (Err CommitFault) = (n : ℕ) × (pending_in old.held ≡ Some n) × MadeSome × IsCompleted new n
-  EndsSettle (Err Device) = WentDown lang RecordFits old new
+  EndsSettle (Err Device) = WentDown rules old new
   EndsSettle (Err other) = ⊥
 
   -- and where nothing moved before, the checkpoint's cut is at rest
   abbrev pub RestsIfStill : Result Unit CoreFault → Type 0
-  RestsIfStill (Ok u) = IsStillIn old → (n : ℕ) → pending_in old.held ≡ Some n → CutRests lang new n
+  RestsIfStill (Ok u) = IsStillIn old → (n : ℕ) → pending_in old.held ≡ Some n → CutRests rules.lang new n
   RestsIfStill (Err fault) = Unit {0}
 
   -- What was pending is complete, and none is pending any more.
@@ -87,27 +87,27 @@ module _ {R K S O : Type 0} (lang : Language R K S O) (RecordFits : R → Type 0
   EndsStart (Ok u) = MadeSome × (pending_in new.held ≡ None)
   EndsStart (Err Memory) = MadeSome
   EndsStart (Err CommitFault) = MadeSome × (pending_in new.held ≡ None)
-  EndsStart (Err Device) = WentDown lang RecordFits old new
+  EndsStart (Err Device) = WentDown rules old new
   EndsStart (Err other) = ⊥
 
   -- A checkpoint is complete whose cut is at rest, and every sink of a sound engine has committed it last.
   abbrev pub EndsAtRest : Result Unit CoreFault → Type 0
-  EndsAtRest (Ok u) = MadeSome × ((n : ℕ) × IsCompleted new n × CutRests lang new n × (IsSound lang RecordFits old → IsCommitted new n))
+  EndsAtRest (Ok u) = MadeSome × ((n : ℕ) × IsCompleted new n × CutRests rules.lang new n × (IsSound rules old → IsCommitted new n))
   EndsAtRest (Err Memory) = MadeSome
   EndsAtRest (Err CommitFault) = MadeSome × (pending_in new.held ≡ None)
   EndsAtRest (Err NumbersSpent) = MadeSome × (2 ^ 63 ≤ new.stored.next)
-  EndsAtRest (Err Device) = WentDown lang RecordFits old new
+  EndsAtRest (Err Device) = WentDown rules old new
   EndsAtRest (Err other) = ⊥
 
   -- At rest: a checkpoint is complete whose cut is at rest, every sink of a sound engine has committed it last, and what they have committed is the whole output
   -- of a run that has ended. Turns spent: after what was pending was settled, as many steps were made as there are turns, and a further one is possible.
   -- Refused for want of memory, where a device failed, and where no number is left.
   abbrev pub EndsDrain : (turns : ℕ) → Result Drained CoreFault → Type 0
-  EndsDrain turns (Ok AtRest) = MadeSome × ((n : ℕ) × IsCompleted new n × CutRests lang new n × (IsSound lang RecordFits old → IsCommitted new n × IsWhole lang new))
+  EndsDrain turns (Ok AtRest) = MadeSome × ((n : ℕ) × IsCompleted new n × CutRests rules.lang new n × (IsSound rules old → IsCommitted new n × IsWhole rules.lang new))
   EndsDrain turns (Ok TurnsSpent) =
-      MadeSome × ((before : State O R K S) × (moves : List Move) × (length moves ≡ turns) × ((first : List Move) × Made lang RecordFits old before first) × (pending_in before.held ≡ None) × Made lang RecordFits before new moves) × CanMove lang new
+      MadeSome × ((before : State O R K S) × (moves : List Move) × (length moves ≡ turns) × ((first : List Move) × Made rules old before first) × (pending_in before.held ≡ None) × Made rules before new moves) × CanMove rules.lang new
   EndsDrain turns (Err Memory) = MadeSome
   EndsDrain turns (Err CommitFault) = MadeSome × (pending_in new.held ≡ None)
   EndsDrain turns (Err NumbersSpent) = MadeSome × (2 ^ 63 ≤ new.stored.next)
-  EndsDrain turns (Err Device) = WentDown lang RecordFits old new
+  EndsDrain turns (Err Device) = WentDown rules old new
   EndsDrain turns (Err other) = ⊥

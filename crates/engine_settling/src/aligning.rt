@@ -32,8 +32,7 @@ pub(crate) fn copy_tasks<
     P: Partitions<Record = O::Record>,
 >(engine: &mut Engine<O, S, X, P>, alloc: Global) -> Result<(), CoreFault>
     requires sources { Holds engine.old (λ g h. IsPending h × HaveSourcesCopied g h) }
-    ensures ends { EndsPart ⟦<O as Rules>⟧.lang ⟦<O as Rules>⟧.RecordFits engine.old engine.new
-        HaveCopied result }
+    ensures ends { EndsPart ⟦<O as Rules>⟧.all engine.old engine.new HaveCopied result }
     ensures counted { IsCounted engine.old.faults engine.new.faults result }
 {
     for place in 0..engine.graph().tasks() {
@@ -55,8 +54,7 @@ pub(crate) fn close_logs<
     P: Partitions<Record = O::Record>,
 >(engine: &mut Engine<O, S, X, P>, alloc: Global) -> Result<(), CoreFault>
     requires copied { Holds engine.old (λ g h. IsPending h × HaveCopied g h) }
-    ensures ends { EndsPart ⟦<O as Rules>⟧.lang ⟦<O as Rules>⟧.RecordFits engine.old engine.new
-        HaveAllCome result }
+    ensures ends { EndsPart ⟦<O as Rules>⟧.all engine.old engine.new HaveAllCome result }
     ensures counted { IsCounted engine.old.faults engine.new.faults result }
 {
     for place in 0..engine.graph().tasks() {

@@ -25,8 +25,7 @@ fn settle_pending<
     P: Partitions<Record = O::Record>,
 >(engine: &mut Engine<O, S, X, P>, alloc: Global) -> Result<(), CoreFault>
     requires running { engine.old.held ≢ None }
-    ensures ends { EndsStart ⟦<O as Rules>⟧.lang ⟦<O as Rules>⟧.RecordFits engine.old engine.new
-        result }
+    ensures ends { EndsStart ⟦<O as Rules>⟧.all engine.old engine.new result }
     ensures counted { IsCounted engine.old.faults engine.new.faults result }
 {
     if engine.pending().is_none() {
@@ -43,8 +42,7 @@ fn end_at_rest<O: Operator, S: SnapshotStore, X: Transactions, P: Partitions<Rec
     requires running { engine.old.held ≢ None }
     requires none_pending { pending_in engine.old.held ≡ None }
     requires idle { AreIdle engine.old }
-    ensures ends { EndsAtRest ⟦<O as Rules>⟧.lang ⟦<O as Rules>⟧.RecordFits engine.old engine.new
-        result }
+    ensures ends { EndsAtRest ⟦<O as Rules>⟧.all engine.old engine.new result }
     ensures counted { IsCounted engine.old.faults engine.new.faults result }
 {
     engine.is_fresh();
@@ -66,8 +64,7 @@ pub fn drain<O: Operator, S: SnapshotStore, X: Transactions, P: Partitions<Recor
     turns: u64,
 ) -> Result<Drained, CoreFault>
     requires running { engine.old.held ≢ None }
-    ensures ends { EndsDrain ⟦<O as Rules>⟧.lang ⟦<O as Rules>⟧.RecordFits engine.old engine.new
-        turns result }
+    ensures ends { EndsDrain ⟦<O as Rules>⟧.all engine.old engine.new turns result }
     ensures counted { IsCounted engine.old.faults engine.new.faults result }
 {
     match settle_pending(engine, alloc) {

@@ -33,7 +33,7 @@ fn inject_source<O: Operator, S: SnapshotStore, X: Transactions, P: Partitions<R
 ) -> Result<(), CoreFault>
     requires source { IsSource engine.old.graph task }
     requires pending { Holds engine.old (λ _ h. IsPending h) }
-    ensures ends { EndsPart ⟦<O as Rules>⟧.lang ⟦<O as Rules>⟧.RecordFits engine.old engine.new
+    ensures ends { EndsPart ⟦<O as Rules>⟧.all engine.old engine.new
         (λ _ h. copy_at h task ≢ None) result }
     ensures counted { IsCounted engine.old.faults engine.new.faults result }
 {
@@ -49,8 +49,7 @@ pub(crate) fn inject_sources<
     P: Partitions<Record = O::Record>,
 >(engine: &mut Engine<O, S, X, P>) -> Result<(), CoreFault>
     requires pending { Holds engine.old (λ _ h. IsPending h) }
-    ensures ends { EndsPart ⟦<O as Rules>⟧.lang ⟦<O as Rules>⟧.RecordFits engine.old engine.new
-        HaveSourcesCopied result }
+    ensures ends { EndsPart ⟦<O as Rules>⟧.all engine.old engine.new HaveSourcesCopied result }
     ensures counted { IsCounted engine.old.faults engine.new.faults result }
 {
     for task in 0..engine.graph().tasks() {

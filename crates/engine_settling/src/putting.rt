@@ -23,7 +23,7 @@ fn persist_task<O: Operator, S: SnapshotStore, X: Transactions, P: Partitions<Re
 ) -> Result<(), CoreFault>
     requires ended { Holds engine.old HaveEnded }
     requires within { task < length engine.old.graph.tasks }
-    ensures ends { EndsPart ⟦<O as Rules>⟧.lang ⟦<O as Rules>⟧.RecordFits engine.old engine.new
+    ensures ends { EndsPart ⟦<O as Rules>⟧.all engine.old engine.new
         (λ _ h. has_acked h.coordination task ≡ true) result }
     ensures counted { IsCounted engine.old.faults engine.new.faults result }
 {
@@ -39,8 +39,7 @@ pub(crate) fn persist_tasks<
     P: Partitions<Record = O::Record>,
 >(engine: &mut Engine<O, S, X, P>) -> Result<(), CoreFault>
     requires ended { Holds engine.old HaveEnded }
-    ensures ends { EndsPart ⟦<O as Rules>⟧.lang ⟦<O as Rules>⟧.RecordFits engine.old engine.new
-        HaveAcked result }
+    ensures ends { EndsPart ⟦<O as Rules>⟧.all engine.old engine.new HaveAcked result }
     ensures counted { IsCounted engine.old.faults engine.new.faults result }
 {
     for task in 0..engine.graph().tasks() {
@@ -60,8 +59,7 @@ pub(crate) fn complete<
     P: Partitions<Record = O::Record>,
 >(engine: &mut Engine<O, S, X, P>) -> Result<(), CoreFault>
     requires acked { Holds engine.old (λ g h. HaveEnded g h × HaveAcked g h) }
-    ensures ends { EndsCompletion ⟦<O as Rules>⟧.lang ⟦<O as Rules>⟧.RecordFits engine.old
-        engine.new result }
+    ensures ends { EndsCompletion ⟦<O as Rules>⟧.all engine.old engine.new result }
     ensures counted { IsCounted engine.old.faults engine.new.faults result }
 {
     engine.is_fresh();
@@ -77,8 +75,7 @@ fn commit_task<O: Operator, S: SnapshotStore, X: Transactions, P: Partitions<Rec
     task: u32,
 ) -> Result<(), CoreFault>
     requires running { engine.old.held ≢ None }
-    ensures ends { EndsCommitAt ⟦<O as Rules>⟧.lang ⟦<O as Rules>⟧.RecordFits engine.old engine.new
-        task result }
+    ensures ends { EndsCommitAt ⟦<O as Rules>⟧.all engine.old engine.new task result }
     ensures counted { IsCounted engine.old.faults engine.new.faults result }
 {
     engine.is_fresh();
@@ -98,8 +95,7 @@ pub(crate) fn commit_sinks<
     P: Partitions<Record = O::Record>,
 >(engine: &mut Engine<O, S, X, P>) -> Result<(), CoreFault>
     requires running { engine.old.held ≢ None }
-    ensures ends { EndsCommits ⟦<O as Rules>⟧.lang ⟦<O as Rules>⟧.RecordFits engine.old engine.new
-        result }
+    ensures ends { EndsCommits ⟦<O as Rules>⟧.all engine.old engine.new result }
     ensures counted { IsCounted engine.old.faults engine.new.faults result }
 {
     for task in 0..engine.graph().tasks() {

@@ -25,8 +25,7 @@ fn bring_to_end<O: Operator, S: SnapshotStore, X: Transactions, P: Partitions<Re
     alloc: Global,
 ) -> Result<(), CoreFault>
     requires pending { Holds engine.old (λ _ h. IsPending h) }
-    ensures ends { EndsPart ⟦<O as Rules>⟧.lang ⟦<O as Rules>⟧.RecordFits engine.old engine.new
-        HaveEnded result }
+    ensures ends { EndsPart ⟦<O as Rules>⟧.all engine.old engine.new HaveEnded result }
     ensures counted { IsCounted engine.old.faults engine.new.faults result }
 {
     match inject_sources(engine) {
@@ -46,7 +45,7 @@ fn put_parts<O: Operator, S: SnapshotStore, X: Transactions, P: Partitions<Recor
     alloc: Global,
 ) -> Result<(), CoreFault>
     requires pending { Holds engine.old (λ _ h. IsPending h) }
-    ensures ends { EndsPart ⟦<O as Rules>⟧.lang ⟦<O as Rules>⟧.RecordFits engine.old engine.new
+    ensures ends { EndsPart ⟦<O as Rules>⟧.all engine.old engine.new
         (λ g h. HaveEnded g h × HaveAcked g h) result }
     ensures counted { IsCounted engine.old.faults engine.new.faults result }
 {
@@ -68,10 +67,8 @@ pub fn settle<O: Operator, S: SnapshotStore, X: Transactions, P: Partitions<Reco
     alloc: Global,
 ) -> Result<(), CoreFault>
     requires running { engine.old.held ≢ None }
-    ensures ends { EndsSettle ⟦<O as Rules>⟧.lang ⟦<O as Rules>⟧.RecordFits engine.old engine.new
-        result }
-    ensures rests { RestsIfStill ⟦<O as Rules>⟧.lang ⟦<O as Rules>⟧.RecordFits engine.old engine.new
-        result }
+    ensures ends { EndsSettle ⟦<O as Rules>⟧.all engine.old engine.new result }
+    ensures rests { RestsIfStill ⟦<O as Rules>⟧.all engine.old engine.new result }
     ensures counted { IsCounted engine.old.faults engine.new.faults result }
 {
     if engine.pending().is_none() {

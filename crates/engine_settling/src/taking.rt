@@ -27,7 +27,7 @@ fn work_first<O: Operator, S: SnapshotStore, X: Transactions, P: Partitions<Reco
 ) -> Result<(), CoreFault>
     requires awaited { Holds engine.old (λ g h. IsAwaited g h task input channel) }
     requires head { Holds engine.old (λ _ h. HasHead h channel) }
-    ensures ends { EndsPart ⟦<O as Rules>⟧.lang ⟦<O as Rules>⟧.RecordFits engine.old engine.new
+    ensures ends { EndsPart ⟦<O as Rules>⟧.all engine.old engine.new
         (λ g h. IsAwaited g h task input channel) result }
     ensures falls { IfOk result (λ _. leading_in engine.new.held channel
         < leading_in engine.old.held channel) }
@@ -50,7 +50,7 @@ fn up_to_barrier<O: Operator, S: SnapshotStore, X: Transactions, P: Partitions<R
     channel: u32,
 ) -> Result<(), CoreFault>
     requires awaited { Holds engine.old (λ g h. IsAwaited g h task input channel) }
-    ensures ends { EndsPart ⟦<O as Rules>⟧.lang ⟦<O as Rules>⟧.RecordFits engine.old engine.new
+    ensures ends { EndsPart ⟦<O as Rules>⟧.all engine.old engine.new
         (λ _ h. came_at h channel ≡ true) result }
     ensures counted { IsCounted engine.old.faults engine.new.faults result }
 {
@@ -76,7 +76,7 @@ fn take_input<O: Operator, S: SnapshotStore, X: Transactions, P: Partitions<Reco
     marked: bool,
 ) -> Result<(), CoreFault>
     requires sent { Holds engine.old (λ g h. IsPending h × HaveSendersCopied g h marked task) }
-    ensures ends { EndsPart ⟦<O as Rules>⟧.lang ⟦<O as Rules>⟧.RecordFits engine.old engine.new
+    ensures ends { EndsPart ⟦<O as Rules>⟧.all engine.old engine.new
         (λ g h. HasCome g h task input marked) result }
     ensures counted { IsCounted engine.old.faults engine.new.faults result }
 {
@@ -101,7 +101,7 @@ pub(crate) fn take_inputs<
     P: Partitions<Record = O::Record>,
 >(engine: &mut Engine<O, S, X, P>, alloc: Global, task: u32, marked: bool) -> Result<(), CoreFault>
     requires sent { Holds engine.old (λ g h. IsPending h × HaveSendersCopied g h marked task) }
-    ensures ends { EndsPart ⟦<O as Rules>⟧.lang ⟦<O as Rules>⟧.RecordFits engine.old engine.new
+    ensures ends { EndsPart ⟦<O as Rules>⟧.all engine.old engine.new
         (λ g h. HaveCome g h marked task) result }
     ensures counted { IsCounted engine.old.faults engine.new.faults result }
 {

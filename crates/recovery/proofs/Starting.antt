@@ -1,7 +1,7 @@
 -- The starts that parts say.
 use Rattle.std.proofs.Common.{◌≡◌, ◌<◌, inl, inr, All, Option, Some, None, Ok, Err, slice_get, get_or, length, List, [], ◌∷◌, ◌++◌, ℕ, refl, sym, ap, subst, ◌∙◌}
 use Rattle.std.proofs.lemmas.Option.{same_Some, slice_get-get_or}
-use Rattle.engine_model.specs.Language.{Language}
+use Rattle.engine_model.specs.AllRules.{AllRules}
 use Rattle.commit_sink.specs.Ledger.{Ledger}
 use Rattle.engine_model.specs.Restart.{IsStart, AreStarts, Takes, before_tasks, EndsRestart}
 use Rattle.engine_model.specs.declared.fault.CoreFault.TheVariants as core
@@ -23,48 +23,48 @@ use Rattle.recovery.specs.declared.fault.RecoveryFault.TheVariants.{Fault, Missi
 pub one_operator : {O : Type 0} (operators : List O) (number : ℕ) (a b : O) → slice_get operators number ≡ Some a → slice_get operators number ≡ Some b → (P : O → Type 0) → P b → P a
 one_operator operators number a b at there P holds = subst P (same_Some b a (sym there ∙ at)) holds
 
-module _ {R K S O : Type 0} (lang : Language R K S O) (KeyFits : K → Type 0) (RecordFits : R → Type 0) (IsGood : O → S → Type 0) (graph : Expanded) (operators : List O) (partitions : List (List R)) (stored : Stored) where
+module _ {R K S O : Type 0} (rules : AllRules R K S O) (graph : Expanded) (operators : List O) (partitions : List (List R)) (stored : Stored) where
   -- why the parts can't be read
-  pub task_stops : (last : Option ℕ) (task : ℕ) (r : Role) (f : RecoveryFault) → IsLatest stored last → slice_get graph.tasks task ≡ Some r → EndsTask lang KeyFits RecordFits IsGood graph operators partitions stored last task r (Err f) → CannotRestore lang KeyFits RecordFits IsGood graph operators partitions stored f
+  pub task_stops : (last : Option ℕ) (task : ℕ) (r : Role) (f : RecoveryFault) → IsLatest stored last → slice_get graph.tasks task ≡ Some r → EndsTask rules graph operators partitions stored last task r (Err f) → CannotRestore rules graph operators partitions stored f
   task_stops None task r f latest is ends = absurd ends
   task_stops (Some number) task r Fault latest is ends = tt
   task_stops (Some number) task r MissingPart latest is ends = record { last = number; latest = latest; task = task; role = r; is_task = is; missing = ends }
   task_stops (Some number) task r (Damaged which fault) latest is ends =
-      subst (λ (t : ℕ). HasDamage lang KeyFits RecordFits IsGood graph operators partitions stored t fault) (sym ends.0) (record { last = number; latest = latest; role = r; is_task = is; damage = ends.1 })
+      subst (λ (t : ℕ). HasDamage rules graph operators partitions stored t fault) (sym ends.0) (record { last = number; latest = latest; role = r; is_task = is; damage = ends.1 })
   task_stops (Some number) task r Memory latest is ends = tt
 
-  pub task_starts : (last : Option ℕ) (task : ℕ) (r : Role) (st : Start R K S) → EndsTask lang KeyFits RecordFits IsGood graph operators partitions stored last task r (Ok st) → IsStart lang KeyFits RecordFits IsGood graph operators partitions stored last task r st
+  pub task_starts : (last : Option ℕ) (task : ℕ) (r : Role) (st : Start R K S) → EndsTask rules graph operators partitions stored last task r (Ok st) → IsStart rules graph operators partitions stored last task r st
   task_starts None task r st ends = ends
   task_starts (Some number) task r st ends = ends
 
   -- one more task has a start
   pub starts_more : (last : Option ℕ) (starts : List (Start R K S)) (task : ℕ) (st : Start R K S) → length starts ≡ task
-      → ((t : ℕ) (q : Role) (x : Start R K S) → slice_get graph.tasks t ≡ Some q → slice_get starts t ≡ Some x → IsStart lang KeyFits RecordFits IsGood graph operators partitions stored last t q x)
-      → ((q : Role) → slice_get graph.tasks task ≡ Some q → EndsTask lang KeyFits RecordFits IsGood graph operators partitions stored last task q (Ok st))
-      → (t : ℕ) (q : Role) (x : Start R K S) → slice_get graph.tasks t ≡ Some q → slice_get (starts ++ st ∷ []) t ≡ Some x → IsStart lang KeyFits RecordFits IsGood graph operators partitions stored last t q x
+      → ((t : ℕ) (q : Role) (x : Start R K S) → slice_get graph.tasks t ≡ Some q → slice_get starts t ≡ Some x → IsStart rules graph operators partitions stored last t q x)
+      → ((q : Role) → slice_get graph.tasks task ≡ Some q → EndsTask rules graph operators partitions stored last task q (Ok st))
+      → (t : ℕ) (q : Role) (x : Start R K S) → slice_get graph.tasks t ≡ Some q → slice_get (starts ++ st ∷ []) t ≡ Some x → IsStart rules graph operators partitions stored last t q x
   starts_more last starts task st long each ends t q x at there =
       elim (slice_get_push starts st t x there) [
         | inl old ↦ each t q x at old
         | inr new ↦
             let same : t ≡ task = new.0 ∙ long in
-            subst (λ (n : ℕ). IsStart lang KeyFits RecordFits IsGood graph operators partitions stored last n q x) (sym same)
-            (subst (λ (s : Start R K S). IsStart lang KeyFits RecordFits IsGood graph operators partitions stored last task q s) new.1
+            subst (λ (n : ℕ). IsStart rules graph operators partitions stored last n q x) (sym same)
+            (subst (λ (s : Start R K S). IsStart rules graph operators partitions stored last task q s) new.1
             (task_starts last task q st (ends q (ap (slice_get graph.tasks) (sym same) ∙ at))))
       ]
 
   -- each sink's subtask is one of so many
-  pub starts_below : (last : Option ℕ) (starts : List (Start R K S)) (count : ℕ) → AreStarts lang KeyFits RecordFits IsGood graph operators partitions stored last starts
+  pub starts_below : (last : Option ℕ) (starts : List (Start R K S)) (count : ℕ) → AreStarts rules graph operators partitions stored last starts
       → ((task subtask : ℕ) → slice_get graph.tasks task ≡ Some (role.Sink subtask) → subtask < count) → All (IsBelow count) starts
   starts_below last starts count are sinks k d within = by (get_or starts k d) (slice_get-get_or starts k d within)
     where
       by : (st : Start R K S) → slice_get starts k ≡ Some st → IsBelow count st
       by (start.Source offset) at = tt
       by (start.Operator entries logs) at = tt
-      by (start.Sink subtask names logs) at = sinks k subtask (sink_at lang KeyFits RecordFits IsGood graph operators partitions stored last starts are k subtask names logs at)
+      by (start.Sink subtask names logs) at = sinks k subtask (sink_at rules graph operators partitions stored last starts are k subtask names logs at)
 
   -- all tasks have taken what they start from, and there is no memory for the attempt
-  pub restart_full : (old new : Ledger) (last : Option ℕ) (starts : List (Start R K S)) (x : List (Holding K S) × Logs R) → AreStarts lang KeyFits RecordFits IsGood graph operators partitions stored last starts
-      → TakeAll old new starts x → EndsRestart lang KeyFits RecordFits IsGood graph operators partitions stored old new (Err core.Memory)
+  pub restart_full : (old new : Ledger) (last : Option ℕ) (starts : List (Start R K S)) (x : List (Holding K S) × Logs R) → AreStarts rules graph operators partitions stored last starts
+      → TakeAll old new starts x → EndsRestart rules graph operators partitions stored old new (Err core.Memory)
   restart_full old new last starts x are done = inr (record {
     last = last;
     starts = starts;

@@ -4,6 +4,7 @@ use Rattle.abs_codec.specs.Reading.{whole_of}
 use Rattle.abs_codec.specs.declared.fault.CodecFault.{CodecFault}
 use Rattle.abs_codec.specs.declared.fault.CodecFault.TheVariants.{BadTag}
 use Rattle.commit_sink.specs.Ledger.{Ledger}
+use Rattle.engine_model.specs.AllRules.{AllRules}
 use Rattle.engine_model.specs.Language.{Language}
 use Rattle.engine_model.specs.Restart.{InTurn, AreStarts, IsInPart, SettlesPartly, NamesOther, Suits, Takes, first_start, part_for, logs_in, openings_of, TakeSome, TakeUntilRefused, before_tasks}
 use Rattle.engine_model.specs.declared.fault.CoreFault.{CoreFault}
@@ -47,20 +48,20 @@ module _ {R K S O : Type 0} (lang : Language R K S O) (stored : Stored) where
   EndsReading number task (Err (Damaged which fault)) = (which ≡ task) × IsReadAs number task (Err fault)
   EndsReading number task (Err Memory) = IsSome (part_of stored number task)
 
-module _ {R K S O : Type 0} (lang : Language R K S O) (KeyFits : K → Type 0) (RecordFits : R → Type 0) (IsGood : O → S → Type 0) (graph : Expanded) (operators : List O) (partitions : List (List R)) (stored : Stored) where
+module _ {R K S O : Type 0} (rules : AllRules R K S O) (graph : Expanded) (operators : List O) (partitions : List (List R)) (stored : Stored) where
   -- the bytes spell a part, but one that the task can't start from
   pub record SaysNoStart (number task : ℕ) (r : Role) : Type 0 where
     pub part : Part R K S
-    pub reads : IsReadAs lang stored number task (Ok part)
-    pub no_start : (st : Start R K S) → part ≡ part_for st → Suits lang KeyFits RecordFits IsGood graph operators partitions task r st → ⊥
+    pub reads : IsReadAs rules.lang stored number task (Ok part)
+    pub no_start : (st : Start R K S) → part ≡ part_for st → Suits rules graph operators partitions task r st → ⊥
 
   -- the bytes spell no part, by this fault; or one that the task can't start from
   abbrev pub IsDamage : ℕ → ℕ → Role → CodecFault → Type 0
-  IsDamage number task r fault = IsReadAs lang stored number task (Err fault) ⊎ ((fault ≡ BadTag) × SaysNoStart number task r)
+  IsDamage number task r fault = IsReadAs rules.lang stored number task (Err fault) ⊎ ((fault ≡ BadTag) × SaysNoStart number task r)
 
   -- what reading and judging one task's part of a checkpoint answers
   abbrev pub EndsPart : ℕ → ℕ → Role → Result (Start R K S) RecoveryFault → Type 0
-  EndsPart number task r (Ok st) = IsInPart lang KeyFits RecordFits IsGood graph operators partitions stored number task r st
+  EndsPart number task r (Ok st) = IsInPart rules graph operators partitions stored number task r st
   EndsPart number task r (Err Fault) = Unit {0}
   EndsPart number task r (Err MissingPart) = part_of stored number task ≡ None
   EndsPart number task r (Err (Damaged which fault)) = (which ≡ task) × IsDamage number task r fault
@@ -97,7 +98,7 @@ module _ {R K S O : Type 0} (lang : Language R K S O) (KeyFits : K → Type 0) (
 
   -- what reading them answers
   abbrev pub EndsRestore : Result (Option ℕ × List (Start R K S)) RecoveryFault → Type 0
-  EndsRestore (Ok x) = AreStarts lang KeyFits RecordFits IsGood graph operators partitions stored x.0 x.1
+  EndsRestore (Ok x) = AreStarts rules graph operators partitions stored x.0 x.1
   EndsRestore (Err f) = CannotRestore f
 
 -- a sink's subtask is one of so many

@@ -102,8 +102,8 @@ fn start_at<O: Operator, S: SnapshotStore, P: Partitions<Record = O::Record>>(
 ) -> Result<Start<O::Record, O::Key, O::State>, RecoveryFault>
     requires { IsLatest (S.state store.old) last }
     ensures ends { (role : Role) → slice_get graph.now.tasks task ≡ Some role → EndsTask
-        ⟦<O as Rules>⟧.lang ⟦<O as Rules>⟧.KeyFits ⟦<O as Rules>⟧.RecordFits ⟦<O as Rules>⟧.IsGood
-        graph.now operators.now (P.records log.now) (S.state store.old) last task role result }
+        ⟦<O as Rules>⟧.all graph.now operators.now (P.records log.now) (S.state store.old) last task
+        role result }
     ensures same { S.state store.new ≡ S.state store.old }
     ensures counted { result ≡ Err RecoveryFault.Fault
         → S.fault_count store.old < S.fault_count store.new }
@@ -133,11 +133,10 @@ fn starts_at<O: Operator, S: SnapshotStore, P: Partitions<Record = O::Record>>(
     log: &P,
 ) -> Result<Vec<Start<O::Record, O::Key, O::State>>, RecoveryFault>
     requires { IsLatest (S.state store.old) last }
-    ensures ends { MatchResult result (λ starts. AreStarts ⟦<O as Rules>⟧.lang
-        ⟦<O as Rules>⟧.KeyFits ⟦<O as Rules>⟧.RecordFits ⟦<O as Rules>⟧.IsGood
-        graph.now operators.now (P.records log.now) (S.state store.old) last starts.items)
-        (CannotRestore ⟦<O as Rules>⟧.lang ⟦<O as Rules>⟧.KeyFits ⟦<O as Rules>⟧.RecordFits
-        ⟦<O as Rules>⟧.IsGood graph.now operators.now (P.records log.now) (S.state store.old)) }
+    ensures ends { MatchResult result (λ starts. AreStarts ⟦<O as Rules>⟧.all graph.now
+        operators.now (P.records log.now) (S.state store.old) last starts.items)
+        (CannotRestore ⟦<O as Rules>⟧.all graph.now operators.now (P.records log.now)
+        (S.state store.old)) }
     ensures same { S.state store.new ≡ S.state store.old }
     ensures counted { result ≡ Err RecoveryFault.Fault
         → S.fault_count store.old < S.fault_count store.new }
@@ -160,9 +159,8 @@ pub fn restore<O: Operator, S: SnapshotStore, P: Partitions<Record = O::Record>>
     store: &mut S,
     log: &P,
 ) -> Result<Restored<O>, RecoveryFault>
-    ensures ends { EndsRestore ⟦<O as Rules>⟧.lang ⟦<O as Rules>⟧.KeyFits ⟦<O as Rules>⟧.RecordFits
-        ⟦<O as Rules>⟧.IsGood graph.now operators.now (P.records log.now) (S.state store.old)
-        result }
+    ensures ends { EndsRestore ⟦<O as Rules>⟧.all graph.now operators.now (P.records log.now)
+        (S.state store.old) result }
     ensures same { S.state store.new ≡ S.state store.old }
     ensures counted { result ≡ Err RecoveryFault.Fault
         → S.fault_count store.old < S.fault_count store.new }

@@ -29,9 +29,8 @@ pub fn restarted<O: Operator, S: SnapshotStore, X: Transactions, P: Partitions<R
 ) -> Result<(Option<u64>, Attempt<O>), CoreFault>
     requires sinks { (task subtask : ℕ) → slice_get graph.now.tasks task ≡ Some (Role.Sink subtask)
         → subtask < (X.state transactions.old).subtasks }
-    ensures ends { EndsRestart ⟦<O as Rules>⟧.lang ⟦<O as Rules>⟧.KeyFits ⟦<O as Rules>⟧.RecordFits
-        ⟦<O as Rules>⟧.IsGood graph.now operators.now (P.records log.now) (S.state store.old)
-        (X.state transactions.old) (X.state transactions.new) result }
+    ensures ends { EndsRestart ⟦<O as Rules>⟧.all graph.now operators.now (P.records log.now)
+        (S.state store.old) (X.state transactions.old) (X.state transactions.new) result }
     ensures same { S.state store.new ≡ S.state store.old }
     ensures counted { result ≡ Err CoreFault.Device
         → S.fault_count store.old + X.fault_count transactions.old

@@ -70,11 +70,9 @@ fn source_start<O: Operator, P: Partitions<Record = O::Record>>(
     log: &P,
 ) -> Option<Start<O::Record, O::Key, O::State>>
     ensures some { IfSome result (λ st. (st ≡ Start.Source offset) × ((operators : List O)
-        → Suits ⟦<O as Rules>⟧.lang ⟦<O as Rules>⟧.KeyFits ⟦<O as Rules>⟧.RecordFits
-        ⟦<O as Rules>⟧.IsGood graph.now operators (P.records log.now) task role st)) }
-    ensures none { IfNone result ((operators : List O) → Suits ⟦<O as Rules>⟧.lang
-        ⟦<O as Rules>⟧.KeyFits ⟦<O as Rules>⟧.RecordFits ⟦<O as Rules>⟧.IsGood graph.now operators
-        (P.records log.now) task role (Start.Source offset) → ⊥) }
+        → Suits ⟦<O as Rules>⟧.all graph.now operators (P.records log.now) task role st)) }
+    ensures none { IfNone result ((operators : List O) → Suits ⟦<O as Rules>⟧.all graph.now
+        operators (P.records log.now) task role (Start.Source offset) → ⊥) }
 {
     match role {
         Role::Source(partition) => {
@@ -100,11 +98,9 @@ fn operator_start<O: Operator>(
 ) -> Option<Start<O::Record, O::Key, O::State>>
     ensures some { IfSome result (λ st. (st ≡ Start.Operator states logs)
         × ((partitions : List (List O.Record))
-        → Suits ⟦<O as Rules>⟧.lang ⟦<O as Rules>⟧.KeyFits ⟦<O as Rules>⟧.RecordFits
-        ⟦<O as Rules>⟧.IsGood graph.now operators.now partitions task role st)) }
-    ensures none { IfNone result ((partitions : List (List O.Record)) → Suits ⟦<O as Rules>⟧.lang
-        ⟦<O as Rules>⟧.KeyFits ⟦<O as Rules>⟧.RecordFits ⟦<O as Rules>⟧.IsGood graph.now
-        operators.now partitions task role (Start.Operator states logs) → ⊥) }
+        → Suits ⟦<O as Rules>⟧.all graph.now operators.now partitions task role st)) }
+    ensures none { IfNone result ((partitions : List (List O.Record)) → Suits ⟦<O as Rules>⟧.all
+        graph.now operators.now partitions task role (Start.Operator states logs) → ⊥) }
 {
     match role {
         Role::Operator(number) => {
@@ -130,11 +126,10 @@ fn sink_start<O: Operator>(
 ) -> Option<Start<O::Record, O::Key, O::State>>
     ensures some { IfSome result (λ st. (part_for st ≡ Part.Sink names logs)
         × ((operators : List O) (partitions : List (List O.Record))
-        → Suits ⟦<O as Rules>⟧.lang ⟦<O as Rules>⟧.KeyFits ⟦<O as Rules>⟧.RecordFits
-        ⟦<O as Rules>⟧.IsGood graph.now operators partitions task role st)) }
+        → Suits ⟦<O as Rules>⟧.all graph.now operators partitions task role st)) }
     ensures none { IfNone result ((subtask : ℕ) (operators : List O)
-        (partitions : List (List O.Record)) → Suits ⟦<O as Rules>⟧.lang ⟦<O as Rules>⟧.KeyFits
-        ⟦<O as Rules>⟧.RecordFits ⟦<O as Rules>⟧.IsGood graph.now operators partitions task role
+        (partitions : List (List O.Record)) → Suits ⟦<O as Rules>⟧.all graph.now operators
+        partitions task role
         (Start.Sink subtask names logs) → ⊥) }
 {
     match role {
@@ -160,11 +155,9 @@ pub(crate) fn start_by<O: Operator, P: Partitions<Record = O::Record>>(
     log: &P,
 ) -> Option<Start<O::Record, O::Key, O::State>>
     ensures some { IfSome result (λ st. (part ≡ part_for st)
-        × Suits ⟦<O as Rules>⟧.lang ⟦<O as Rules>⟧.KeyFits ⟦<O as Rules>⟧.RecordFits
-        ⟦<O as Rules>⟧.IsGood graph.now operators.now (P.records log.now) task role st) }
+        × Suits ⟦<O as Rules>⟧.all graph.now operators.now (P.records log.now) task role st) }
     ensures none { IfNone result ((st : Start O.Record O.Key O.State) → part ≡ part_for st
-        → Suits ⟦<O as Rules>⟧.lang ⟦<O as Rules>⟧.KeyFits ⟦<O as Rules>⟧.RecordFits
-        ⟦<O as Rules>⟧.IsGood graph.now operators.now (P.records log.now) task role st → ⊥) }
+        → Suits ⟦<O as Rules>⟧.all graph.now operators.now (P.records log.now) task role st → ⊥) }
 {
     match part {
         Part::Source(offset) => source_start::<O, P>(graph, task, role, offset, log),

@@ -5,7 +5,7 @@ use Rattle.std.proofs.lemmas.Bool.{cases_eq}
 use Rattle.std.proofs.lemmas.List.{append-nil, length-append, take-append-drop}
 use Rattle.std.proofs.lemmas.Option.{same_Some}
 use Rattle.commit_sink.specs.Ledger.{committed_rows}
-use Rattle.engine_model.specs.Language.{Language}
+use Rattle.engine_model.specs.AllRules.{AllRules}
 use Rattle.engine_model.specs.State.{State}
 use Rattle.dataflow_core.specs.Steps.{Preserves}
 use Rattle.dataflow_model.specs.Graph.{Begins}
@@ -102,14 +102,14 @@ module _ {R K S O : Type 0} where
   published_kept (Some o) engine begins shows =
       λ task subtask at. begins_on (rows_of o.published subtask) (rows_of o.appended subtask) (committed_rows engine.ledger subtask) (taken_begins (rows_of o.published subtask) (rows_of o.appended subtask) (begins subtask)) (shows.begins task subtask at)
 
-  begin_kept : (lang : Language R K S O) (RecordFits : R → Type 0) (lists : List (List (List ℕ))) (old new : State O R K S) → Preserves lang RecordFits old new → BeginCommitted lists old → BeginCommitted lists new
-  begin_kept lang RecordFits lists old new kept begin = record {
+  begin_kept : (rules : AllRules R K S O) (lists : List (List (List ℕ))) (old new : State O R K S) → Preserves rules old new → BeginCommitted lists old → BeginCommitted lists new
+  begin_kept rules lists old new kept begin = record {
     subtasks = begin.subtasks ∙ ap (λ (g : Expanded). count_by is_sink g.tasks) (sym kept.same.0);
     begins = λ task subtask at.
         (let at_old = subst (λ (g : Expanded). slice_get g.tasks task ≡ Some (role.Sink subtask)) kept.same.0 at in
         begins_on (rows_of lists subtask) (committed_rows old.ledger subtask) (committed_rows new.ledger subtask) (begin.begins task subtask at_old) (kept.begins task subtask at_old));
   }
 
-  pub shows_kept : (lang : Language R K S O) (RecordFits : R → Type 0) (output : Option Output) (old new : State O R K S) → Preserves lang RecordFits old new → Shows output old → Shows output new
-  shows_kept lang RecordFits None old new kept shows = tt
-  shows_kept lang RecordFits (Some o) old new kept shows = begin_kept lang RecordFits o.appended old new kept shows
+  pub shows_kept : (rules : AllRules R K S O) (output : Option Output) (old new : State O R K S) → Preserves rules old new → Shows output old → Shows output new
+  shows_kept rules None old new kept shows = tt
+  shows_kept rules (Some o) old new kept shows = begin_kept rules o.appended old new kept shows

@@ -1,6 +1,6 @@
 -- What a station keeps, whatever call is made.
 use Rattle.std.proofs.Common.{◌≡◌, ℕ, ◌≤◌, List, Option, Result, Ok, Err, length, sym, subst, arith}
-use Rattle.engine_model.specs.Language.{Language}
+use Rattle.engine_model.specs.AllRules.{AllRules}
 use Rattle.engine_model.specs.declared.fault.CoreFault.{CoreFault}
 use Rattle.counted_finishes.specs.Counting.{Within}
 use Rattle.dataflow_core.specs.CoreState.{CoreState, claims_after}
@@ -17,14 +17,14 @@ fewer (Err f) claims = omega arith
 
 module _ {R K S O : Type 0} where
   -- a call that leaves the claims leaves a station what it keeps
-  pub call_kept : (lang : Language R K S O) (RecordFits : R → Type 0) (total : ℕ) (output : Option Output) (old new : CoreState O R K S) → new ≡ record old { engine = new.engine }
-      → Preserves lang RecordFits old.engine new.engine → Within total old × Shows output old.engine → Within total new × Shows output new.engine
-  call_kept lang RecordFits total output old new same kept was =
-      (subst (λ (c : CoreState O R K S). Within total c) (sym same) was.0, shows_kept lang RecordFits output old.engine new.engine kept was.1)
+  pub call_kept : (rules : AllRules R K S O) (total : ℕ) (output : Option Output) (old new : CoreState O R K S) → new ≡ record old { engine = new.engine }
+      → Preserves rules old.engine new.engine → Within total old × Shows output old.engine → Within total new × Shows output new.engine
+  call_kept rules total output old new same kept was =
+      (subst (λ (c : CoreState O R K S). Within total c) (sym same) was.0, shows_kept rules output old.engine new.engine kept was.1)
 
   -- so does a restart
-  pub restart_kept : {T : Type 0} (lang : Language R K S O) (RecordFits : R → Type 0) (total : ℕ) (output : Option Output) (result : Result T CoreFault) (old new : CoreState O R K S)
-      → new ≡ record old { engine = new.engine; claims = claims_after result old.claims } → Preserves lang RecordFits old.engine new.engine
+  pub restart_kept : {T : Type 0} (rules : AllRules R K S O) (total : ℕ) (output : Option Output) (result : Result T CoreFault) (old new : CoreState O R K S)
+      → new ≡ record old { engine = new.engine; claims = claims_after result old.claims } → Preserves rules old.engine new.engine
       → Within total old × Shows output old.engine → Within total new × Shows output new.engine
-  restart_kept lang RecordFits total output result old new same kept was =
-      (let less = fewer result old.claims in subst (λ (c : CoreState O R K S). Within total c) (sym same) (omega (arith, less, was.0)), shows_kept lang RecordFits output old.engine new.engine kept was.1)
+  restart_kept rules total output result old new same kept was =
+      (let less = fewer result old.claims in subst (λ (c : CoreState O R K S). Within total c) (sym same) (omega (arith, less, was.0)), shows_kept rules output old.engine new.engine kept was.1)

@@ -1,5 +1,6 @@
 -- What a station keeps.
 use Rattle.std.specs.Prelude.{◌≡◌, ℕ, ◌+◌, ◌≤◌, Option, Result, length}
+use Rattle.engine_model.specs.AllRules.{AllRules}
 use Rattle.engine_model.specs.Language.{Language}
 use Rattle.engine_model.specs.declared.fault.CoreFault.{CoreFault}
 use Rattle.engine_plain.specs.Plain.{Stays}
@@ -24,8 +25,8 @@ module _ {O R K S : Type 0} (old new : Standing O R K S) where
   LeavesClaims = new ≡ record old { core = record old.core { engine = new.core.engine } }
 
   -- the core's engine makes a step
-  abbrev pub MakesStep : Language R K S O → (R → Type 0) → Type 0
-  MakesStep lang RecordFits = IsStep lang RecordFits old.core.engine new.core.engine
+  abbrev pub MakesStep : AllRules R K S O → Type 0
+  MakesStep rules = IsStep rules old.core.engine new.core.engine
 
   -- its records stay where they are
   abbrev pub StaysPut : Language R K S O → Type 0

@@ -48,7 +48,7 @@ impl<
     /// The job is down, and what it held is lost.
     pub fn fail(&mut self) -> Result<(), CoreFault>
         ensures ends { Fails self.old.core.engine self.new.core.engine result }
-        ensures step { MakesStep self.old self.new ⟦<O as Rules>⟧.lang ⟦<O as Rules>⟧.RecordFits }
+        ensures step { MakesStep self.old self.new ⟦<O as Rules>⟧.all }
         ensures stays { StaysPut self.old self.new ⟦<O as Rules>⟧.lang }
         ensures counted { CountsFaults self.old self.new result }
         ensures claims { LeavesClaims self.old self.new }
@@ -59,9 +59,9 @@ impl<
     /// The next attempt runs from the last complete checkpoint, or anew, and all claims are
     /// dropped.
     pub fn restart(&mut self) -> Result<Option<u64>, CoreFault>
-        ensures ends { Restarts self.old.core.engine self.new.core.engine ⟦<O as Rules>⟧.lang
-            ⟦<O as Rules>⟧.KeyFits ⟦<O as Rules>⟧.RecordFits ⟦<O as Rules>⟧.IsGood result }
-        ensures step { IsRestart ⟦<O as Rules>⟧.lang ⟦<O as Rules>⟧.RecordFits
+        ensures ends { Restarts self.old.core.engine self.new.core.engine ⟦<O as Rules>⟧.all
+            result }
+        ensures step { IsRestart ⟦<O as Rules>⟧.all
             self.old.core.engine self.new.core.engine result }
         ensures counted { CountsFaults self.old self.new result }
         ensures claims { self.new.core ≡ record self.old.core {
@@ -77,7 +77,7 @@ impl<
     pub fn read(&mut self, task: u32) -> Result<(), CoreFault>
         ensures ends { Reads self.old.core.engine self.new.core.engine
             ⟦<O as Rules>⟧.lang task result }
-        ensures step { MakesStep self.old self.new ⟦<O as Rules>⟧.lang ⟦<O as Rules>⟧.RecordFits }
+        ensures step { MakesStep self.old self.new ⟦<O as Rules>⟧.all }
         ensures plain { StepsIfOk result ⟦<O as Rules>⟧.lang (machine.Read task)
             self.old.core.engine self.new.core.engine }
         ensures counted { CountsFaults self.old self.new result }
@@ -115,7 +115,7 @@ impl<
     /// A task that holds no claim takes the barrier at the head of its input.
     pub fn take_barrier(&mut self, task: u32, input: u32) -> Result<Effect, CoreFault>
         ensures ends { TakesBarrierUnclaimed self.old.core task input self.new.core result }
-        ensures step { MakesStep self.old self.new ⟦<O as Rules>⟧.lang ⟦<O as Rules>⟧.RecordFits }
+        ensures step { MakesStep self.old self.new ⟦<O as Rules>⟧.all }
         ensures stays { StaysPut self.old self.new ⟦<O as Rules>⟧.lang }
         ensures counted { CountsFaults self.old self.new result }
         ensures claims { LeavesClaims self.old self.new }
@@ -126,7 +126,7 @@ impl<
     /// A checkpoint begins.
     pub fn trigger(&mut self) -> Result<u64, CoreFault>
         ensures ends { Triggers self.old.core.engine self.new.core.engine result }
-        ensures step { MakesStep self.old self.new ⟦<O as Rules>⟧.lang ⟦<O as Rules>⟧.RecordFits }
+        ensures step { MakesStep self.old self.new ⟦<O as Rules>⟧.all }
         ensures stays { StaysPut self.old self.new ⟦<O as Rules>⟧.lang }
         ensures counted { CountsFaults self.old self.new result }
         ensures claims { LeavesClaims self.old self.new }
@@ -137,7 +137,7 @@ impl<
     /// Source `task` copies its offset for the pending checkpoint, and sends the barrier.
     pub fn inject(&mut self, task: u32) -> Result<(), CoreFault>
         ensures ends { Injects self.old.core.engine self.new.core.engine task result }
-        ensures step { MakesStep self.old self.new ⟦<O as Rules>⟧.lang ⟦<O as Rules>⟧.RecordFits }
+        ensures step { MakesStep self.old self.new ⟦<O as Rules>⟧.all }
         ensures stays { StaysPut self.old self.new ⟦<O as Rules>⟧.lang }
         ensures counted { CountsFaults self.old self.new result }
         ensures claims { LeavesClaims self.old self.new }
@@ -149,7 +149,7 @@ impl<
     pub fn persist(&mut self, task: u32) -> Result<(), CoreFault>
         ensures ends { Persists self.old.core.engine self.new.core.engine
             ⟦<O as Rules>⟧.spelling task result }
-        ensures step { MakesStep self.old self.new ⟦<O as Rules>⟧.lang ⟦<O as Rules>⟧.RecordFits }
+        ensures step { MakesStep self.old self.new ⟦<O as Rules>⟧.all }
         ensures stays { StaysPut self.old self.new ⟦<O as Rules>⟧.lang }
         ensures counted { CountsFaults self.old self.new result }
         ensures claims { LeavesClaims self.old self.new }
@@ -163,7 +163,7 @@ impl<
     pub fn persist_some(&mut self, task: u32, most: u32) -> Result<Persisted, CoreFault>
         ensures ends { PersistsSome self.old.core.engine self.new.core.engine
             ⟦<O as Rules>⟧.spelling task result }
-        ensures step { MakesStep self.old self.new ⟦<O as Rules>⟧.lang ⟦<O as Rules>⟧.RecordFits }
+        ensures step { MakesStep self.old self.new ⟦<O as Rules>⟧.all }
         ensures stays { StaysPut self.old self.new ⟦<O as Rules>⟧.lang }
         ensures counted { CountsFaults self.old self.new result }
         ensures claims { LeavesClaims self.old self.new }
@@ -174,7 +174,7 @@ impl<
     /// The pending checkpoint, of which the store has every task's part, becomes complete.
     pub fn complete(&mut self) -> Result<u64, CoreFault>
         ensures ends { Completes self.old.core.engine self.new.core.engine result }
-        ensures step { MakesStep self.old self.new ⟦<O as Rules>⟧.lang ⟦<O as Rules>⟧.RecordFits }
+        ensures step { MakesStep self.old self.new ⟦<O as Rules>⟧.all }
         ensures stays { StaysPut self.old self.new ⟦<O as Rules>⟧.lang }
         ensures counted { CountsFaults self.old self.new result }
         ensures claims { LeavesClaims self.old self.new }
@@ -185,10 +185,10 @@ impl<
     /// The pending transactions of a sink subtask up to the last complete checkpoint are committed.
     pub fn commit(&mut self, sink: u32) -> Result<(), CoreFault>
         ensures ends { Commits self.old.core.engine self.new.core.engine sink result }
-        ensures reaches { IsSound ⟦<O as Rules>⟧.lang ⟦<O as Rules>⟧.RecordFits self.old.core.engine
+        ensures reaches { IsSound ⟦<O as Rules>⟧.all self.old.core.engine
             → OnOk result (length (committed_of self.new.core.engine.ledger sink)
             ≡ length (complete_numbers self.new.core.engine.stored)) }
-        ensures step { MakesStep self.old self.new ⟦<O as Rules>⟧.lang ⟦<O as Rules>⟧.RecordFits }
+        ensures step { MakesStep self.old self.new ⟦<O as Rules>⟧.all }
         ensures stays { StaysPut self.old self.new ⟦<O as Rules>⟧.lang }
         ensures counted { CountsFaults self.old self.new result }
         ensures claims { LeavesClaims self.old self.new }
@@ -200,8 +200,8 @@ impl<
     pub fn append(&mut self, partition: u32, row: O::Record) -> Result<(), SourceFault>
         requires { Fits O.Record.HasSpelling O.Record.spelling row }
         ensures ends { Appends self.old.core.engine self.new.core.engine partition row result }
-        ensures sound { IsSound ⟦<O as Rules>⟧.lang ⟦<O as Rules>⟧.RecordFits self.old.core.engine
-            → IsSound ⟦<O as Rules>⟧.lang ⟦<O as Rules>⟧.RecordFits self.new.core.engine }
+        ensures sound { IsSound ⟦<O as Rules>⟧.all self.old.core.engine
+            → IsSound ⟦<O as Rules>⟧.all self.new.core.engine }
         ensures stays { StaysPut self.old self.new ⟦<O as Rules>⟧.lang }
         ensures claims { LeavesClaims self.old self.new }
     {

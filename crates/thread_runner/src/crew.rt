@@ -57,26 +57,30 @@ impl<L: Ledger> Worker<L> {
         R: Wait + Clock,
     >(&mut self, rt: &R, station: &Mutex<Station<O, S, X, P, L, W>>, turns: u64, pause: &H) {
         for _ in 0..turns {
-            let (next, before, left) = station.lock(rt).choose_some();
+            let asked = self.patience.now(rt);
+            let mut held = station.lock(rt);
+            let had = self.patience.now(rt);
+            let (next, before, left) = held.choose_some();
+            drop(held);
+            self.patience.had_lock(asked, had, self.patience.now(rt));
             self.patience.took_turns(before, left);
             match next {
                 Next::Over => return,
                 Next::Idle => self.idled(rt, station),
-                Next::Again => self.made(rt, station, true),
+                Next::Again => self.made(rt, station),
                 Next::Publish => {
                     let _ = station.lock(rt).publish();
-                    self.made(rt, station, true);
+                    self.made(rt, station);
                 }
                 Next::Run(task, job) => {
-                    let is_short = self.run_job(rt, station, turns, pause, task, job);
-                    self.made(rt, station, is_short);
+                    self.run_job(rt, station, turns, pause, task, job);
+                    self.made(rt, station);
                 }
             }
         }
     }
 
-    /// A step was made, which was short or not. A worker whose steps are all short rests, where
-    /// another one is awake.
+    /// A step was made. A worker that others can do without rests, where another one is awake.
     fn made<
         O: Operator,
         S: SnapshotStore + Drop,
@@ -84,8 +88,9 @@ impl<L: Ledger> Worker<L> {
         P: Partitions<Record = O::Record> + Drop,
         W: Wait + Drop,
         R: Wait + Clock,
-    >(&mut self, rt: &R, station: &Mutex<Station<O, S, X, P, L, W>>, is_short: bool) {
-        let is_tired = self.patience.is_tired(is_short);
+    >(&mut self, rt: &R, station: &Mutex<Station<O, S, X, P, L, W>>) {
+        self.patience.made_step();
+        let is_tired = self.patience.is_tired();
         self.rests(rt, station, is_tired);
     }
 
@@ -98,7 +103,7 @@ impl<L: Ledger> Worker<L> {
         W: Wait + Drop,
         R: Wait + Clock,
     >(&mut self, rt: &R, station: &Mutex<Station<O, S, X, P, L, W>>) {
-        let is_tired = self.patience.is_tired_of_waiting();
+        let is_tired = self.patience.is_tired();
         if !self.rests(rt, station, is_tired) {
             self.patience.wait(rt);
         }
@@ -121,8 +126,7 @@ impl<L: Ledger> Worker<L> {
         true
     }
 
-    /// Runs a task's job with no lock held, and hands in what was done of it. Whether the job was
-    /// short.
+    /// Runs a task's job with no lock held, and hands in what was done of it.
     fn run_job<
         O: Operator,
         S: SnapshotStore + Drop,
@@ -139,33 +143,37 @@ impl<L: Ledger> Worker<L> {
         pause: &H,
         task: u32,
         job: Job<O>,
-    ) -> bool {
+    ) {
         let (attempt, serial) = (job.attempt(), job.serial());
-        let begun = self.patience.begin(rt);
+        let begun = self.patience.now(rt);
         for _ in 0..turns {
             if pause.before_run(attempt, serial) {
                 break;
             }
             if !station.lock(rt).wait() {
-                return false;
+                return;
             }
         }
         let done = job.run();
         let records = done.records();
         pause.after_run(attempt, serial);
-        let is_short = self.patience.was_short(rt, begun);
+        let ended = self.patience.now(rt);
+        self.patience.ran_job(begun, ended);
         let Worker {
             share,
             finished,
+            patience,
             ..
         } = self;
-        let mut station = station.lock(rt);
-        let outcome = station.finish_with(share, done);
+        let mut held = station.lock(rt);
+        let had = patience.now(rt);
+        let outcome = held.finish_with(share, done);
         if outcome.is_ok() {
             *finished += records as u128;
         }
-        station.finished(task, outcome, records);
-        is_short
+        held.finished(task, outcome, records);
+        drop(held);
+        patience.had_lock(ended, had, patience.now(rt));
     }
 }
 

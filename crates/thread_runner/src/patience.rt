@@ -1,4 +1,4 @@
-//! When a worker waits: where it has nothing to do, and where what it does is not worth a worker.
+//! When a worker waits: where it has nothing to do, and where others do without it what it does.
 
 use std::thread;
 use std::time::{Clock, Duration, Instant};
@@ -13,11 +13,11 @@ const LONGEST: u32 = 10;
 /// milliseconds.
 const RESTS: u32 = 5;
 
-/// After so many short steps in a row a worker rests.
-const SHORT_STEPS: u32 = 8;
+/// So long a worker is watched before it is judged, in microseconds.
+const WATCHED: u64 = 2000;
 
-/// Between two rests it makes so many.
-const STEPS_BETWEEN: u32 = 1;
+/// Of what a worker does, less than one part of so many with no lock held is not worth a worker.
+const PARTS: u32 = 4;
 
 /// How a worker has fared.
 #[derive(Clone, Copy)]
@@ -28,14 +28,14 @@ pub(crate) struct Patience {
     is_alone: bool,
     /// How often it has had nothing to do, halved at each step.
     waits: u32,
-    /// Whether its last step was long.
-    is_of_use: bool,
-    /// How many short steps it has made in a row, of those between which others made steps too.
-    short: u32,
-    /// How often it has rested, halved at each long step.
+    /// How often it has rested, halved each time that it was of use.
     rests: u32,
-    /// When it came back from its last job or rest, unless it has waited since or was alone.
-    since: Option<Instant>,
+    /// Since it was judged last: how long it waited, for the lock or for something to do,
+    waited: Duration,
+    /// how long it held the lock,
+    held: Duration,
+    /// and how long it ran jobs, with no lock held.
+    worked: Duration,
 }
 
 impl Patience {
@@ -44,10 +44,10 @@ impl Patience {
             seen: 0,
             is_alone: false,
             waits: 0,
-            is_of_use: false,
-            short: 0,
             rests: 0,
-            since: None,
+            waited: Duration::ZERO,
+            held: Duration::ZERO,
+            worked: Duration::ZERO,
         }
     }
 
@@ -57,9 +57,38 @@ impl Patience {
         self.seen = left;
     }
 
+    /// The time, which a worker that is alone need not ask for.
+    pub(crate) fn now<R: Clock>(&self, rt: &R) -> Option<Instant> {
+        if self.is_alone {
+            return None;
+        }
+        Instant::now(rt).ok()
+    }
+
+    /// The lock was asked for, had and given back at these times.
+    pub(crate) fn had_lock(
+        &mut self,
+        asked: Option<Instant>,
+        had: Option<Instant>,
+        gave: Option<Instant>,
+    ) {
+        self.waited = self.waited.saturating_add(between(asked, had));
+        self.held = self.held.saturating_add(between(had, gave));
+    }
+
+    /// A step was made.
+    pub(crate) fn made_step(&mut self) {
+        self.waits /= 2;
+    }
+
+    /// A job was run from the one time to the other.
+    pub(crate) fn ran_job(&mut self, begun: Option<Instant>, ended: Option<Instant>) {
+        self.worked = self.worked.saturating_add(between(begun, ended));
+    }
+
     /// Lets others go first; a worker that has waited often sleeps, longer each time up to a bound.
     pub(crate) fn wait<R: Clock>(&mut self, rt: &R) {
-        self.since = None;
+        let begun = self.now(rt);
         if self.waits < YIELDS {
             thread::yield_now();
         } else {
@@ -67,37 +96,33 @@ impl Patience {
             thread::sleep(rt, Duration::from_micros(1 << doubled));
         }
         self.waits = self.waits.saturating_add(1).min(YIELDS + LONGEST);
+        self.waited = self.waited.saturating_add(between(begun, self.now(rt)));
     }
 
-    /// A step was made, which was short or not. Whether the worker wants to rest: where all its
-    /// steps are short, of those between which others made steps too.
-    pub(crate) fn is_tired(&mut self, is_short: bool) -> bool {
-        self.waits /= 2;
+    /// Whether the worker wants to rest: where it was watched long enough, and waited longer than
+    /// it held the lock and than it ran jobs, or ran jobs for too little of that time.
+    pub(crate) fn is_tired(&mut self) -> bool {
+        let Patience {
+            waited,
+            held,
+            worked,
+            ..
+        } = *self;
+        let all = waited.saturating_add(held).saturating_add(worked);
+        if all < Duration::from_micros(WATCHED) {
+            return false;
+        }
+        self.waited = Duration::ZERO;
+        self.held = Duration::ZERO;
+        self.worked = Duration::ZERO;
         if self.is_alone {
             return false;
         }
-        self.is_of_use = !is_short;
-        if is_short {
-            return self.tires();
-        }
-        self.short = 0;
-        self.rests /= 2;
-        false
-    }
-
-    /// The worker found nothing to do. Whether it wants to rest: it tires as of a short step, but
-    /// where its last one was long.
-    pub(crate) fn is_tired_of_waiting(&mut self) -> bool {
-        !self.is_of_use && self.tires()
-    }
-
-    /// One short step more. Whether they were many.
-    fn tires(&mut self) -> bool {
-        self.short = self.short.saturating_add(1);
-        if self.short < SHORT_STEPS {
+        let has_waited_little = waited < held || waited < worked;
+        if has_waited_little && held < worked.saturating_mul(PARTS) {
+            self.rests /= 2;
             return false;
         }
-        self.short = SHORT_STEPS - STEPS_BETWEEN;
         true
     }
 
@@ -106,33 +131,13 @@ impl Patience {
         let doubled = LONGEST + self.rests.min(RESTS);
         thread::sleep(rt, Duration::from_micros(1 << doubled));
         self.rests = self.rests.saturating_add(1);
-        self.since = Instant::now(rt).ok();
     }
+}
 
-    /// When a job begins: a worker that is alone, and so does not rest, need not ask.
-    pub(crate) fn begin<R: Clock>(&self, rt: &R) -> Option<Instant> {
-        if self.is_alone {
-            return None;
-        }
-        Instant::now(rt).ok()
-    }
-
-    /// A job that began then has ended. Whether it was short: no longer than what came before it,
-    /// since the worker's last job, when it waited for the lock and made steps under it. Then the
-    /// lock is what all wait for, and a worker more takes from the others what they do themselves.
-    /// Without a clock no job is short.
-    pub(crate) fn was_short<R: Clock>(&mut self, rt: &R, begun: Option<Instant>) -> bool {
-        let since = self.since.take();
-        let Some(begun) = begun else {
-            return false;
-        };
-        let Ok(ended) = Instant::now(rt) else {
-            return false;
-        };
-        self.since = Some(ended);
-        since.is_some_and(|since| {
-            let job = ended.saturating_duration_since(begun);
-            job <= begun.saturating_duration_since(since)
-        })
+/// The time from the one to the other, nothing where either was not asked for.
+fn between(from: Option<Instant>, to: Option<Instant>) -> Duration {
+    match (from, to) {
+        (Some(from), Some(to)) => to.saturating_duration_since(from),
+        _ => Duration::ZERO,
     }
 }

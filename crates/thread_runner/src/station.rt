@@ -230,8 +230,7 @@ impl<
         requires { 0 < share.old.parts }
         ensures ends { EndsFinish self.old.core ⟦<O as Rules>⟧.lang self.new.core done.attempt
             done.serial done.worked result }
-        ensures step { IsStep ⟦<O as Rules>⟧.lang ⟦<O as Rules>⟧.RecordFits self.old.core.engine
-            self.new.core.engine }
+        ensures step { IsStep ⟦<O as Rules>⟧.all self.old.core.engine self.new.core.engine }
         ensures plain { FinishMoves self.old.core ⟦<O as Rules>⟧.lang self.new.core done.attempt
             done.serial done.worked result }
         ensures total { MatchResult result (λ _. self.new.total ≡ self.old.total
@@ -259,8 +258,8 @@ impl<
         book.audit(share);
     }
 
-    /// A run of so many turns and restarts begins, by so many workers. A claim takes so many records
-    /// at most.
+    /// A run of so many turns and restarts begins, by so many workers. A claim takes so many
+    /// records at most.
     pub(crate) fn begin(
         &mut self,
         workers: usize,
@@ -302,20 +301,18 @@ impl<
     /// is made here.
     pub(crate) fn choose(&mut self) -> (Next<O>, u64)
         ensures total { self.new.total ≡ self.old.total }
-        ensures step { Preserves ⟦<O as Rules>⟧.lang ⟦<O as Rules>⟧.RecordFits self.old.core.engine
-            self.new.core.engine }
+        ensures step { Preserves ⟦<O as Rules>⟧.all self.old.core.engine self.new.core.engine }
     {
         let Station { core, turns, .. } = self;
         let next = take_turn(core, turns);
         (next, turns.left())
     }
 
-    /// Turns of one hold of the lock, until one leaves the worker something to do: what that is, and
-    /// how many turns were left before them and are after them.
+    /// Turns of one hold of the lock, until one leaves the worker something to do: what that is,
+    /// and how many turns were left before them and are after them.
     pub(crate) fn choose_some(&mut self) -> (Next<O>, u64, u64)
         ensures total { self.new.total ≡ self.old.total }
-        ensures step { Preserves ⟦<O as Rules>⟧.lang ⟦<O as Rules>⟧.RecordFits self.old.core.engine
-            self.new.core.engine }
+        ensures step { Preserves ⟦<O as Rules>⟧.all self.old.core.engine self.new.core.engine }
     {
         let before = self.turns.left();
         for _ in 1..TURNS_A_HOLD {
@@ -380,8 +377,7 @@ fn take_turn<O: Operator, S: SnapshotStore, X: Transactions, P: Partitions<Recor
     turns: &mut Turns,
 ) -> Next<O>
     ensures once { ClaimsOnce core.old core.new }
-    ensures step { Preserves ⟦<O as Rules>⟧.lang ⟦<O as Rules>⟧.RecordFits core.old.engine
-        core.new.engine }
+    ensures step { Preserves ⟦<O as Rules>⟧.all core.old.engine core.new.engine }
 {
     match turns.choose() {
         Step::Over => Next::Over,
@@ -418,8 +414,7 @@ fn claim<O: Operator, S: SnapshotStore, X: Transactions, P: Partitions<Record = 
     place: Place,
 ) -> Next<O>
     ensures once { ClaimsOnce core.old core.new }
-    ensures step { Preserves ⟦<O as Rules>⟧.lang ⟦<O as Rules>⟧.RecordFits core.old.engine
-        core.new.engine }
+    ensures step { Preserves ⟦<O as Rules>⟧.all core.old.engine core.new.engine }
 {
     match core.claim_some(place.task, place.input, turns.batch()) {
         Ok(job) => {
@@ -445,8 +440,7 @@ fn persist<O: Operator, S: SnapshotStore, X: Transactions, P: Partitions<Record 
     task: u32,
 ) -> Next<O>
     ensures once { ClaimsOnce core.old core.new }
-    ensures step { Preserves ⟦<O as Rules>⟧.lang ⟦<O as Rules>⟧.RecordFits core.old.engine
-        core.new.engine }
+    ensures step { Preserves ⟦<O as Rules>⟧.all core.old.engine core.new.engine }
 {
     let outcome = core.persist_some(task, ENTRIES_A_TURN);
     turns.persisted(task, outcome);
@@ -459,8 +453,7 @@ fn make<O: Operator, S: SnapshotStore, X: Transactions, P: Partitions<Record = O
     step: Step,
 ) -> Result<(), CoreFault>
     ensures once { ClaimsOnce core.old core.new }
-    ensures step { Preserves ⟦<O as Rules>⟧.lang ⟦<O as Rules>⟧.RecordFits core.old.engine
-        core.new.engine }
+    ensures step { Preserves ⟦<O as Rules>⟧.all core.old.engine core.new.engine }
 {
     match step {
         Step::Restart => restart(core),
@@ -478,8 +471,7 @@ fn restart<O: Operator, S: SnapshotStore, X: Transactions, P: Partitions<Record 
     core: &mut Core<O, S, X, P>,
 ) -> Result<(), CoreFault>
     ensures once { ClaimsOnce core.old core.new }
-    ensures step { Preserves ⟦<O as Rules>⟧.lang ⟦<O as Rules>⟧.RecordFits core.old.engine
-        core.new.engine }
+    ensures step { Preserves ⟦<O as Rules>⟧.all core.old.engine core.new.engine }
 {
     core.restart()?;
     Ok(())

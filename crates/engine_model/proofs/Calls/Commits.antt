@@ -18,7 +18,7 @@ use Rattle.job_state.specs.Held.{Held, copy_at, oldest_forgotten}
 use Rattle.job_state.specs.declared.holding.Holding.{Holding}
 use Rattle.job_state.specs.declared.holding.Holding.TheVariants as holds
 use Rattle.snapshot_store.specs.Store.{is_complete}
-use Rattle.engine_model.specs.Language.{Language}
+use Rattle.engine_model.specs.AllRules.{AllRules}
 use Rattle.engine_model.specs.State.{State}
 use Rattle.engine_model.specs.View.{held_state, run_of, transactions_at, devices_of}
 use Rattle.engine_model.specs.Keeps.{SinkIn, PendingIn, Shape, NoneAfter, RunsIn, Keeps}
@@ -67,10 +67,10 @@ module _ (l : Ledger) (subtask : ℕ) (sink : Sinking) (p : Pending) (s : SinkIn
 
 -- ---- one transaction
 
-module _ {R K S O : Type 0} (lang : Language R K S O) (RecordFits : R → Type 0) (IsGood : O → S → Type 0) (task subtask n : ℕ) where
-  module _ (s : State O R K S) (keeps : Keeps lang RecordFits IsGood s) (h : Held R K S) (was : s.held ≡ Some h) (is : slice_get s.graph.tasks task ≡ Some (role.Sink subtask)) (sink : Sinking) (p : Pending) (next : IsNext task h sink p) where
-    abbrev runs : RunsIn lang s h
-    runs = runs_of lang RecordFits IsGood s keeps h was
+module _ {R K S O : Type 0} (rules : AllRules R K S O) (task subtask n : ℕ) where
+  module _ (s : State O R K S) (keeps : Keeps rules s) (h : Held R K S) (was : s.held ≡ Some h) (is : slice_get s.graph.tasks task ≡ Some (role.Sink subtask)) (sink : Sinking) (p : Pending) (next : IsNext task h sink p) where
+    abbrev runs : RunsIn rules.lang s h
+    runs = runs_of rules s keeps h was
 
     abbrev ledger : Ledger
     ledger = after_commit s.ledger p.transaction
@@ -109,28 +109,28 @@ module _ {R K S O : Type 0} (lang : Language R K S O) (RecordFits : R → Type 0
       abbrev k : Held R K S
       k = record h { tasks = tasks }
 
-      same_tasks : (t : ℕ) → held_state {R = R} lang.cmp (slice_get tasks t) ≡ held_state lang.cmp (slice_get h.tasks t)
+      same_tasks : (t : ℕ) → held_state {R = R} rules.lang.cmp (slice_get tasks t) ≡ held_state rules.lang.cmp (slice_get h.tasks t)
       same_tasks t =
           elim (eqb_tells t task) [
-            | inl same ↦ ap (λ m. held_state lang.cmp (slice_get tasks m)) same.1 ∙ ap (held_state lang.cmp) there ∙ sym (ap (held_state lang.cmp) next.was) ∙ sym (ap (λ m. held_state lang.cmp (slice_get h.tasks m)) same.1)
-            | inr apart ↦ ap (held_state lang.cmp) (elsewhere t apart.1)
+            | inl same ↦ ap (λ m. held_state rules.lang.cmp (slice_get tasks m)) same.1 ∙ ap (held_state rules.lang.cmp) there ∙ sym (ap (held_state rules.lang.cmp) next.was) ∙ sym (ap (λ m. held_state rules.lang.cmp (slice_get h.tasks m)) same.1)
+            | inr apart ↦ ap (held_state rules.lang.cmp) (elsewhere t apart.1)
           ]
 
       -- the model's attempt holds nothing of a sink's transactions
-      same_run : run_of lang.cmp s.graph k ≡ run_of lang.cmp s.graph h
-      same_run = ap (λ (f : ℕ → TaskState R K S). let run = run_of lang.cmp s.graph h in record { attempt = record run.attempt { tasks = f }; number = run.number; named = run.named }) (fun_ext same_tasks)
+      same_run : run_of rules.lang.cmp s.graph k ≡ run_of rules.lang.cmp s.graph h
+      same_run = ap (λ (f : ℕ → TaskState R K S). let run = run_of rules.lang.cmp s.graph h in record { attempt = record run.attempt { tasks = f }; number = run.number; named = run.named }) (fun_ext same_tasks)
 
-      goes_committed : Goes lang s (after s (Some k) s.stored ledger n)
+      goes_committed : Goes rules.lang s (after s (Some k) s.stored ledger n)
       goes_committed = of first.call
         where
-          of : (ledger ≡ s.ledger) ⊎ ((c : Commits (line_of s.stored) (share s.ledger subtask) (share ledger subtask)) × (c.front ≡ [])) → Goes lang s (after s (Some k) s.stored ledger n)
+          of : (ledger ≡ s.ledger) ⊎ ((c : Commits (line_of s.stored) (share s.ledger subtask) (share ledger subtask)) × (c.front ≡ [])) → Goes rules.lang s (after s (Some k) s.stored ledger n)
           of (inl same) =
-              goes_nowhere lang s (after s (Some k) s.stored ledger n)
-              (λ i. record { devices = devices_of lang (record s { ledger = same i }); running = (ap (λ (r : Running R K S). Some r) same_run ∙ sym (ap (option_map (run_of lang.cmp s.graph)) was)) i })
+              goes_nowhere rules.lang s (after s (Some k) s.stored ledger n)
+              (λ i. record { devices = devices_of rules.lang (record s { ledger = same i }); running = (ap (λ (r : Running R K S). Some r) same_run ∙ sym (ap (option_map (run_of rules.lang.cmp s.graph)) was)) i })
           of (inr commits) =
               let C : Option Role → Type 0 = λ r. (c : Commits (line_of s.stored) (transactions_at s.ledger r) (transactions_at ledger r)) × (c.front ≡ []) in
               let c : C (slice_get s.graph.tasks task) = subst C (sym is) commits in
-              goes_by lang s h k s.stored ledger n (run_of lang.cmp s.graph h) was (sym (ap pruned_run same_run))
+              goes_by rules.lang s h k s.stored ledger n (run_of rules.lang.cmp s.graph h) was (sym (ap pruned_run same_run))
               (CommitsATransaction task (record {
                 commits = record { store = refl; sink = c.0; others = other_shares };
                 is_first = c.1;
@@ -141,7 +141,7 @@ module _ {R K S O : Type 0} (lang : Language R K S O) (RecordFits : R → Type 0
       holds_there : (t : ℕ) (now : Sinking) → slice_get tasks t ≡ Some (holds.Sink now) → t ≡ task → now ≡ sink'
       holds_there t now at same = same_sink now sink' (same_Some (holds.Sink now) (holds.Sink sink') (sym at ∙ ap (slice_get tasks) same ∙ there))
 
-      runs_committed : RunsIn lang (after s (Some k) s.stored ledger n) k
+      runs_committed : RunsIn rules.lang (after s (Some k) s.stored ledger n) k
       runs_committed = record {
         pending = moved h.coordination.pending runs.pending;
         last_complete = runs.last_complete;
@@ -169,9 +169,9 @@ module _ {R K S O : Type 0} (lang : Language R K S O) (RecordFits : R → Type 0
             ];
       }
         where
-          moved : (o : Option ℕ) → MatchOption o (Unit {0}) (PendingIn lang s.graph s.stored h) → MatchOption o (Unit {0}) (PendingIn lang s.graph s.stored k)
+          moved : (o : Option ℕ) → MatchOption o (Unit {0}) (PendingIn rules.lang s.graph s.stored h) → MatchOption o (Unit {0}) (PendingIn rules.lang s.graph s.stored k)
           moved None m = tt
-          moved (Some number) m = pending_moved lang s.graph s.stored h k number m keeps.numbered refl refl (λ t acked. refl)
+          moved (Some number) m = pending_moved rules.lang s.graph s.stored h k number m keeps.numbered refl refl (λ t acked. refl)
 
           every : (P : Pending → Type 0) (t : ℕ) (now : Sinking) → slice_get tasks t ≡ Some (holds.Sink now) → All P sink.pending → (slice_get h.tasks t ≡ Some (holds.Sink now) → All P now.pending) → All P now.pending
           every P t now held here others =
@@ -180,67 +180,67 @@ module _ {R K S O : Type 0} (lang : Language R K S O) (RecordFits : R → Type 0
                 | inr apart ↦ others (sym (elsewhere t apart.1) ∙ held)
               ]
 
-      keeps_committed : Shape lang.cmp RecordFits IsGood s.graph s.operators k → KeepsAndGoes lang RecordFits IsGood s (after s (Some k) s.stored ledger n)
+      keeps_committed : Shape rules s.graph s.operators k → KeepsAndGoes rules s (after s (Some k) s.stored ledger n)
       keeps_committed shape =
-          goes_keeps lang RecordFits IsGood s keeps (Some k) s.stored ledger n refl keeps.numbered keeps.formed (subtasks_stay s.ledger subtask sink p sink_in next.oldest) (stays_ordered s.ledger subtask sink p sink_in next.oldest keeps.ordered)
+          goes_keeps rules s keeps (Some k) s.stored ledger n refl keeps.numbered keeps.formed (subtasks_stay s.ledger subtask sink p sink_in next.oldest) (stays_ordered s.ledger subtask sink p sink_in next.oldest keeps.ordered)
           shape runs_committed goes_committed
 
     -- it is committed, and forgotten
-    forgotten : KeepsAndGoes lang RecordFits IsGood s (after s (Some (oldest_forgotten task sink h)) s.stored ledger n)
+    forgotten : KeepsAndGoes rules s (after s (Some (oldest_forgotten task sink h)) s.stored ledger n)
     forgotten =
         let less : Sinking = record sink { pending = drop 1 sink.pending } in
-        let shape = shape_of lang RecordFits IsGood s keeps h was in
+        let shape = shape_of rules s keeps h was in
         keeps_committed (slice_set h.tasks task (holds.Sink less)) less (get_set_same h.tasks task (holds.Sink less) (slice_get_within h.tasks task (holds.Sink sink) next.was)) (λ t apart. get_set_other h.tasks task t (holds.Sink less) apart)
         first.sink_in (λ P all. All-drop P 1 sink.pending all) (λ checkpoint last. none_after_drop checkpoint sink.pending last)
-        (shape_forgotten lang.cmp RecordFits IsGood s.graph s.operators h shape task subtask sink is)
+        (shape_forgotten rules s.graph s.operators h shape task subtask sink is)
 
     -- it is committed, and the call is answered as failed
-    still_pending : KeepsAndGoes lang RecordFits IsGood s (after s (Some h) s.stored ledger n)
-    still_pending = keeps_committed h.tasks sink next.was (λ t apart. refl) first.sink_still (λ P all. all) (λ checkpoint last. last) (shape_of lang RecordFits IsGood s keeps h was)
+    still_pending : KeepsAndGoes rules s (after s (Some h) s.stored ledger n)
+    still_pending = keeps_committed h.tasks sink next.was (λ t apart. refl) first.sink_still (λ P all. all) (λ checkpoint last. last) (shape_of rules s keeps h was)
 
   -- ---- rounds of the call
 
-  module _ (s : State O R K S) (keeps : Keeps lang RecordFits IsGood s) (h : Held R K S) (was : s.held ≡ Some h) (is : slice_get s.graph.tasks task ≡ Some (role.Sink subtask)) where
-    pub keeps_round : (k : Held R K S) (ledger : Ledger) → CommitsOne task h s.ledger k ledger → KeepsAndGoes lang RecordFits IsGood s (after s (Some k) s.stored ledger n)
+  module _ (s : State O R K S) (keeps : Keeps rules s) (h : Held R K S) (was : s.held ≡ Some h) (is : slice_get s.graph.tasks task ≡ Some (role.Sink subtask)) where
+    pub keeps_round : (k : Held R K S) (ledger : Ledger) → CommitsOne task h s.ledger k ledger → KeepsAndGoes rules s (after s (Some k) s.stored ledger n)
     keeps_round k ledger c =
-        subst (λ (x : Held R K S). KeepsAndGoes lang RecordFits IsGood s (after s (Some x) s.stored ledger n)) (sym c.ends)
-        (subst (λ (l : Ledger). KeepsAndGoes lang RecordFits IsGood s (after s (Some (oldest_forgotten task c.sink h)) s.stored l n)) (sym c.commits)
+        subst (λ (x : Held R K S). KeepsAndGoes rules s (after s (Some x) s.stored ledger n)) (sym c.ends)
+        (subst (λ (l : Ledger). KeepsAndGoes rules s (after s (Some (oldest_forgotten task c.sink h)) s.stored l n)) (sym c.commits)
         (forgotten s keeps h was is c.sink c.next c.is_next))
 
-    pub keeps_failed : (k : Held R K S) (ledger : Ledger) → FailsToCommit task h s.ledger k ledger → KeepsAndGoes lang RecordFits IsGood s (after s (Some k) s.stored ledger n)
+    pub keeps_failed : (k : Held R K S) (ledger : Ledger) → FailsToCommit task h s.ledger k ledger → KeepsAndGoes rules s (after s (Some k) s.stored ledger n)
     keeps_failed k ledger c =
         elim c.either [
-          | inl same ↦ keeps_refused lang RecordFits IsGood s keeps h k s.stored ledger n was c.ends refl same
+          | inl same ↦ keeps_refused rules s keeps h k s.stored ledger n was c.ends refl same
           | inr done ↦
-              subst (λ (x : Held R K S). KeepsAndGoes lang RecordFits IsGood s (after s (Some x) s.stored ledger n)) (sym c.ends)
-              (subst (λ (l : Ledger). KeepsAndGoes lang RecordFits IsGood s (after s (Some h) s.stored l n)) (sym done)
+              subst (λ (x : Held R K S). KeepsAndGoes rules s (after s (Some x) s.stored ledger n)) (sym c.ends)
+              (subst (λ (l : Ledger). KeepsAndGoes rules s (after s (Some h) s.stored l n)) (sym done)
               (still_pending s keeps h was is c.sink c.next c.is_next))
         ]
 
     -- one call, and then another
-    keeps_then : (k : Held R K S) (ledger : Ledger) (new : State O R K S) → KeepsAndGoes lang RecordFits IsGood s (after s (Some k) s.stored ledger n)
-        → (Keeps lang RecordFits IsGood (after s (Some k) s.stored ledger n) → KeepsAndGoes lang RecordFits IsGood (after s (Some k) s.stored ledger n) new)
-        → KeepsAndGoes lang RecordFits IsGood s new
-    keeps_then k ledger new one more = let then = more one.0 in (then.0, goes_on lang s (Some k) s.stored ledger n new one.1 then.1)
+    keeps_then : (k : Held R K S) (ledger : Ledger) (new : State O R K S) → KeepsAndGoes rules s (after s (Some k) s.stored ledger n)
+        → (Keeps rules (after s (Some k) s.stored ledger n) → KeepsAndGoes rules (after s (Some k) s.stored ledger n) new)
+        → KeepsAndGoes rules s new
+    keeps_then k ledger new one more = let then = more one.0 in (then.0, goes_on rules.lang s (Some k) s.stored ledger n new one.1 then.1)
 
-  pub keeps_each : (rounds : List (Held R K S × Ledger)) (s : State O R K S) (h : Held R K S) → Keeps lang RecordFits IsGood s → s.held ≡ Some h → slice_get s.graph.tasks task ≡ Some (role.Sink subtask)
-      → (k : Held R K S) (ledger : Ledger) → CommitsEach task h s.ledger rounds k ledger → KeepsAndGoes lang RecordFits IsGood s (after s (Some k) s.stored ledger n)
-  keeps_each [] s h keeps was is k ledger c = keeps_refused lang RecordFits IsGood s keeps h k s.stored ledger n was c.0 refl c.1
+  pub keeps_each : (rounds : List (Held R K S × Ledger)) (s : State O R K S) (h : Held R K S) → Keeps rules s → s.held ≡ Some h → slice_get s.graph.tasks task ≡ Some (role.Sink subtask)
+      → (k : Held R K S) (ledger : Ledger) → CommitsEach task h s.ledger rounds k ledger → KeepsAndGoes rules s (after s (Some k) s.stored ledger n)
+  keeps_each [] s h keeps was is k ledger c = keeps_refused rules s keeps h k s.stored ledger n was c.0 refl c.1
   keeps_each (next ∷ rest) s h keeps was is k ledger c =
       keeps_then s keeps h was is next.0 next.1 (after s (Some k) s.stored ledger n) (keeps_round s keeps h was is next.0 next.1 c.0)
       (λ kept. keeps_each rest (after s (Some next.0) s.stored next.1 n) next.0 kept refl is k ledger c.1)
 
 -- ---- the call
 
-module _ {R K S O : Type 0} (lang : Language R K S O) (RecordFits : R → Type 0) (IsGood : O → S → Type 0) (s : State O R K S) (keeps : Keeps lang RecordFits IsGood s) (h : Held R K S) (was : s.held ≡ Some h) (subtask : ℕ) (k : Held R K S) (ledger : Ledger) (n : ℕ) where
+module _ {R K S O : Type 0} (rules : AllRules R K S O) (s : State O R K S) (keeps : Keeps rules s) (h : Held R K S) (was : s.held ≡ Some h) (subtask : ℕ) (k : Held R K S) (ledger : Ledger) (n : ℕ) where
   pub keeps_commit : (result : Result Unit CoreFault) → EndsCommit s.graph subtask h k s.ledger ledger result
-      → Keeps lang RecordFits IsGood (record s { held = left_by result (Some k); ledger = ledger; faults = n }) × Goes lang s (record s { held = left_by result (Some k); ledger = ledger; faults = n })
-  keeps_commit (Ok u) e = keeps_each lang RecordFits IsGood e.0 subtask n (e.2).rounds s h keeps was e.1 k ledger (e.2).each
-  keeps_commit (Err NoSuchTask) e = keeps_refused lang RecordFits IsGood s keeps h k s.stored ledger n was e.1 refl e.2
+      → Keeps rules (record s { held = left_by result (Some k); ledger = ledger; faults = n }) × Goes rules.lang s (record s { held = left_by result (Some k); ledger = ledger; faults = n })
+  keeps_commit (Ok u) e = keeps_each rules e.0 subtask n (e.2).rounds s h keeps was e.1 k ledger (e.2).each
+  keeps_commit (Err NoSuchTask) e = keeps_refused rules s keeps h k s.stored ledger n was e.1 refl e.2
   keeps_commit (Err CommitFault) e =
       let c = e.2 in
       let middle = c.middle in
-      keeps_then lang RecordFits IsGood e.0 subtask n s keeps h was e.1 middle.0 middle.1 (after s (Some k) s.stored ledger n)
-      (keeps_each lang RecordFits IsGood e.0 subtask n c.rounds s h keeps was e.1 middle.0 middle.1 c.each)
-      (λ kept. keeps_failed lang RecordFits IsGood e.0 subtask n (after s (Some middle.0) s.stored middle.1 n) kept middle.0 refl e.1 k ledger c.fails)
+      keeps_then rules e.0 subtask n s keeps h was e.1 middle.0 middle.1 (after s (Some k) s.stored ledger n)
+      (keeps_each rules e.0 subtask n c.rounds s h keeps was e.1 middle.0 middle.1 c.each)
+      (λ kept. keeps_failed rules e.0 subtask n (after s (Some middle.0) s.stored middle.1 n) kept middle.0 refl e.1 k ledger c.fails)
   keeps_commit (Err other) e = absurd e

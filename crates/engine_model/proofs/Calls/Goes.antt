@@ -16,6 +16,7 @@ use Rattle.job_graph.proofs.PlainTasks.{tasks-graph_of, receiver-graph_of}
 use Rattle.job_state.specs.Held.{Held, copy_at}
 use Rattle.snapshot_store.specs.Store.{Stored, IsNumbered}
 use Rattle.task_part.specs.declared.part.Part.{Part}
+use Rattle.engine_model.specs.AllRules.{AllRules}
 use Rattle.engine_model.specs.Language.{Language}
 use Rattle.engine_model.specs.State.{State}
 use Rattle.engine_model.specs.View.{named_by, run_of, job_of, is_logged_in, devices_of, running_of, engine_of}
@@ -88,38 +89,6 @@ module _ {R K S O : Type 0} (lang : Language R K S O) where
     leads_on (job_of lang s) (is_logged_in s) lang.spelling first.0 then.0 (pruned_engine (engine_of lang s)) (pruned_engine (engine_of lang (after s held stored ledger n))) (pruned_engine (engine_of lang new)) first.1 then.1,
   )
 
-  module _ (RecordFits : R → Type 0) (IsGood : O → S → Type 0) (s : State O R K S) (keeps : Keeps lang RecordFits IsGood s) (held : Option (Held R K S)) (stored : Stored) (ledger : Ledger) (n : ℕ) where
-    -- a fresh engine stays sound
-    pub goes_keeps_fresh : Goes lang s (after s held stored ledger n) → s.is_fresh ≡ true
-        → IsPrunedSound (job_of lang s) (is_logged_in s) lang.spelling (devices_of lang (after s held stored ledger n)) (pruned_running (running_of lang (after s held stored ledger n)))
-    goes_keeps_fresh goes fresh =
-        pruned_sound (job_of lang s) lang.spelling (is_logged_in s) goes.0 (pruned_engine (engine_of lang s)) (pruned_engine (engine_of lang (after s held stored ledger n)))
-        (receiver-graph_of s.graph s.operators keeps.expanded) goes.1 (keeps.fresh fresh)
-
-    -- what an engine keeps, by its steps and what the devices and the job keep
-    pub goes_keeps : stored.tasks ≡ s.stored.tasks → IsNumbered stored → (s.is_fresh ≡ true → PartsAreFormed lang RecordFits s.graph stored) → ledger.subtasks ≡ s.ledger.subtasks → IsOrdered ledger
-        → MatchOption held (Unit {0}) (Shape lang.cmp RecordFits IsGood s.graph s.operators) → MatchOption held (Unit {0}) (RunsIn lang (after s held stored ledger n)) → Goes lang s (after s held stored ledger n)
-        → Keeps lang RecordFits IsGood (after s held stored ledger n) × Goes lang s (after s held stored ledger n)
-    goes_keeps tasks numbered formed subtasks ordered shape runs goes = (
-      record {
-        expanded = keeps.expanded;
-        operators = keeps.operators;
-        partitions = keeps.partitions;
-        stored_tasks = tasks ∙ keeps.stored_tasks;
-        numbered = numbered;
-        subtasks = subtasks ∙ keeps.subtasks;
-        ordered = ordered;
-        shape = shape;
-        runs = runs;
-        fresh = goes_keeps_fresh goes;
-        whole = λ fresh.
-            steps_whole (job_of lang s) (is_logged_in s) lang.spelling goes.0 (pruned_engine (engine_of lang s)) (pruned_engine (engine_of lang (after s held stored ledger n)))
-            (receiver-graph_of s.graph s.operators keeps.expanded) goes.1 (keeps.fresh fresh) (keeps.whole fresh);
-        formed = formed;
-      },
-      goes,
-    )
-
   -- what a running job keeps is not of the devices' faults
   pub runs_same : (s new : State O R K S) (h : Held R K S) → new.graph ≡ s.graph → new.stored ≡ s.stored → new.ledger ≡ s.ledger → RunsIn lang s h → RunsIn lang new h
   runs_same s new h graph stored ledger runs = record {
@@ -134,32 +103,64 @@ module _ {R K S O : Type 0} (lang : Language R K S O) where
   pub goes_then_down : (s : State O R K S) (held : Option (Held R K S)) (stored : Stored) (ledger : Ledger) (n : ℕ) → Goes lang s (after s held stored ledger n) → Goes lang s (after s None stored ledger n)
   goes_then_down s held stored ledger n first = goes_on s held stored ledger n (after s None stored ledger n) first (goes_down (after s held stored ledger n) stored ledger n refl refl)
 
-  -- ---- what a call ends in
+-- ---- what a call ends in
 
-  module _ (RecordFits : R → Type 0) (IsGood : O → S → Type 0) where
-    -- what every call is to show
-    abbrev pub KeepsAndGoes : State O R K S → State O R K S → Type 0
-    KeepsAndGoes s new = Keeps lang RecordFits IsGood new × Goes lang s new
+module _ {R K S O : Type 0} (rules : AllRules R K S O) where
+  module _ (s : State O R K S) (keeps : Keeps rules s) (held : Option (Held R K S)) (stored : Stored) (ledger : Ledger) (n : ℕ) where
+    -- a fresh engine stays sound
+    pub goes_keeps_fresh : Goes rules.lang s (after s held stored ledger n) → s.is_fresh ≡ true
+        → IsPrunedSound (job_of rules.lang s) (is_logged_in s) rules.lang.spelling (devices_of rules.lang (after s held stored ledger n)) (pruned_running (running_of rules.lang (after s held stored ledger n)))
+    goes_keeps_fresh goes fresh =
+        pruned_sound (job_of rules.lang s) rules.lang.spelling (is_logged_in s) goes.0 (pruned_engine (engine_of rules.lang s)) (pruned_engine (engine_of rules.lang (after s held stored ledger n)))
+        (receiver-graph_of s.graph s.operators keeps.expanded) goes.1 (keeps.fresh fresh)
 
-    module _ (s : State O R K S) (keeps : Keeps lang RecordFits IsGood s) where
-      pub shape_of : (h : Held R K S) → s.held ≡ Some h → Shape lang.cmp RecordFits IsGood s.graph s.operators h
-      shape_of h was = MatchOption-at_some (Unit {0}) (Shape lang.cmp RecordFits IsGood s.graph s.operators) h was keeps.shape
+    -- what an engine keeps, by its steps and what the devices and the job keep
+    pub goes_keeps : stored.tasks ≡ s.stored.tasks → IsNumbered stored → (s.is_fresh ≡ true → PartsAreFormed rules s.graph stored) → ledger.subtasks ≡ s.ledger.subtasks → IsOrdered ledger
+        → MatchOption held (Unit {0}) (Shape rules s.graph s.operators) → MatchOption held (Unit {0}) (RunsIn rules.lang (after s held stored ledger n)) → Goes rules.lang s (after s held stored ledger n)
+        → Keeps rules (after s held stored ledger n) × Goes rules.lang s (after s held stored ledger n)
+    goes_keeps tasks numbered formed subtasks ordered shape runs goes = (
+      record {
+        expanded = keeps.expanded;
+        operators = keeps.operators;
+        partitions = keeps.partitions;
+        stored_tasks = tasks ∙ keeps.stored_tasks;
+        numbered = numbered;
+        subtasks = subtasks ∙ keeps.subtasks;
+        ordered = ordered;
+        shape = shape;
+        runs = runs;
+        fresh = goes_keeps_fresh goes;
+        whole = λ fresh.
+            steps_whole (job_of rules.lang s) (is_logged_in s) rules.lang.spelling goes.0 (pruned_engine (engine_of rules.lang s)) (pruned_engine (engine_of rules.lang (after s held stored ledger n)))
+            (receiver-graph_of s.graph s.operators keeps.expanded) goes.1 (keeps.fresh fresh) (keeps.whole fresh);
+        formed = formed;
+      },
+      goes,
+    )
 
-      pub runs_of : (h : Held R K S) → s.held ≡ Some h → RunsIn lang s h
-      runs_of h was = MatchOption-at_some (Unit {0}) (RunsIn lang s) h was keeps.runs
+  -- what every call is to show
+  abbrev pub KeepsAndGoes : State O R K S → State O R K S → Type 0
+  KeepsAndGoes s new = Keeps rules new × Goes rules.lang s new
 
-      -- a call that is refused
-      pub keeps_refused : (h k : Held R K S) (stored : Stored) (ledger : Ledger) (n : ℕ) → s.held ≡ Some h → k ≡ h → stored ≡ s.stored → ledger ≡ s.ledger → KeepsAndGoes s (after s (Some k) stored ledger n)
-      keeps_refused h k stored ledger n was same same_stored same_ledger =
-          let is : Some k ≡ s.held = ap (λ (x : Held R K S). Some x) same ∙ sym was in
-          goes_keeps RecordFits IsGood s keeps (Some k) stored ledger n (ap (λ (x : Stored). x.tasks) same_stored) (subst IsNumbered (sym same_stored) keeps.numbered)
-          (λ fresh. subst (PartsAreFormed lang RecordFits s.graph) (sym same_stored) (keeps.formed fresh))
-          (ap (λ (x : Ledger). x.subtasks) same_ledger) (subst IsOrdered (sym same_ledger) keeps.ordered)
-          (subst (Shape lang.cmp RecordFits IsGood s.graph s.operators) (sym same) (shape_of h was))
-          (runs_same s (after s (Some k) stored ledger n) k refl same_stored same_ledger (subst (RunsIn lang s) (sym same) (runs_of h was)))
-          (goes_nowhere s (after s (Some k) stored ledger n) (λ i. engine_of lang (record s { held = is i; stored = same_stored i; ledger = same_ledger i })))
+  module _ (s : State O R K S) (keeps : Keeps rules s) where
+    pub shape_of : (h : Held R K S) → s.held ≡ Some h → Shape rules s.graph s.operators h
+    shape_of h was = MatchOption-at_some (Unit {0}) (Shape rules s.graph s.operators) h was keeps.shape
 
-      -- a call that took the job down
-      pub keeps_down : (stored : Stored) (ledger : Ledger) (n : ℕ) → stored.tasks ≡ s.stored.tasks → IsNumbered stored → (s.is_fresh ≡ true → PartsAreFormed lang RecordFits s.graph stored) → ledger.subtasks ≡ s.ledger.subtasks → IsOrdered ledger → Goes lang s (after s None stored ledger n)
-          → KeepsAndGoes s (after s None stored ledger n)
-      keeps_down stored ledger n tasks numbered formed subtasks ordered goes = goes_keeps RecordFits IsGood s keeps None stored ledger n tasks numbered formed subtasks ordered tt tt goes
+    pub runs_of : (h : Held R K S) → s.held ≡ Some h → RunsIn rules.lang s h
+    runs_of h was = MatchOption-at_some (Unit {0}) (RunsIn rules.lang s) h was keeps.runs
+
+    -- a call that is refused
+    pub keeps_refused : (h k : Held R K S) (stored : Stored) (ledger : Ledger) (n : ℕ) → s.held ≡ Some h → k ≡ h → stored ≡ s.stored → ledger ≡ s.ledger → KeepsAndGoes s (after s (Some k) stored ledger n)
+    keeps_refused h k stored ledger n was same same_stored same_ledger =
+        let is : Some k ≡ s.held = ap (λ (x : Held R K S). Some x) same ∙ sym was in
+        goes_keeps s keeps (Some k) stored ledger n (ap (λ (x : Stored). x.tasks) same_stored) (subst IsNumbered (sym same_stored) keeps.numbered)
+        (λ fresh. subst (PartsAreFormed rules s.graph) (sym same_stored) (keeps.formed fresh))
+        (ap (λ (x : Ledger). x.subtasks) same_ledger) (subst IsOrdered (sym same_ledger) keeps.ordered)
+        (subst (Shape rules s.graph s.operators) (sym same) (shape_of h was))
+        (runs_same rules.lang s (after s (Some k) stored ledger n) k refl same_stored same_ledger (subst (RunsIn rules.lang s) (sym same) (runs_of h was)))
+        (goes_nowhere rules.lang s (after s (Some k) stored ledger n) (λ i. engine_of rules.lang (record s { held = is i; stored = same_stored i; ledger = same_ledger i })))
+
+    -- a call that took the job down
+    pub keeps_down : (stored : Stored) (ledger : Ledger) (n : ℕ) → stored.tasks ≡ s.stored.tasks → IsNumbered stored → (s.is_fresh ≡ true → PartsAreFormed rules s.graph stored) → ledger.subtasks ≡ s.ledger.subtasks → IsOrdered ledger → Goes rules.lang s (after s None stored ledger n)
+        → KeepsAndGoes s (after s None stored ledger n)
+    keeps_down stored ledger n tasks numbered formed subtasks ordered goes = goes_keeps s keeps None stored ledger n tasks numbered formed subtasks ordered tt tt goes

@@ -19,7 +19,7 @@ use Rattle.job_graph.proofs.PlainTasks.{tasks-graph_of}
 use Rattle.job_state.specs.Held.{Held, copy_at}
 use Rattle.job_state.specs.declared.holding.Holding.TheVariants as holds
 use Rattle.snapshot_store.specs.Store.{is_complete}
-use Rattle.engine_model.specs.Language.{Language}
+use Rattle.engine_model.specs.AllRules.{AllRules}
 use Rattle.engine_model.specs.State.{State}
 use Rattle.engine_model.specs.View.{job_of, is_logged_in, transactions_at, engine_of}
 use Rattle.engine_model.specs.Keeps.{SinkIn, NoneAfter, RunsIn, Keeps}
@@ -82,17 +82,17 @@ module _ (l : Ledger) (subtask : ℕ) (sink : Sinking) (s : SinkIn l subtask sin
             | inr is ↦ absurd (pre_not_committed q.checkpoint (sym stage ∙ is))
           ]
 
-module _ {R K S O : Type 0} (lang : Language R K S O) (RecordFits : R → Type 0) (IsGood : O → S → Type 0) (s : State O R K S) (keeps : Keeps lang RecordFits IsGood s) (fresh : s.is_fresh ≡ true) (h : Held R K S) (was : s.held ≡ Some h)
+module _ {R K S O : Type 0} (rules : AllRules R K S O) (s : State O R K S) (keeps : Keeps rules s) (fresh : s.is_fresh ≡ true) (h : Held R K S) (was : s.held ≡ Some h)
     (task subtask : ℕ) (is : slice_get s.graph.tasks task ≡ Some (role.Sink subtask)) (sink : Sinking) (at : slice_get h.tasks task ≡ Some (holds.Sink sink)) where
   -- as many committed transactions as complete checkpoints, if the checkpoint of none that is pending is complete
   pub committed_for_each : All (λ p. is_complete s.stored p.checkpoint ≡ false) sink.pending → length (share s.ledger subtask).committed ≡ length (line_of s.stored)
   committed_for_each none =
-      let in_ledger = (runs_of lang RecordFits IsGood s keeps h was).sinks task subtask sink is at in
+      let in_ledger = (runs_of rules s keeps h was).sinks task subtask sink is at in
       let off : All (λ (q : durable.PreCommitted (List ℕ)). is_on (line_of s.stored) q.checkpoint ≡ false) (share s.ledger subtask).pre_committed =
       pre_committed_all s.ledger subtask sink in_ledger (λ c. is_on (line_of s.stored) c ≡ false) (All-weaker (λ (p : Pending). is_complete s.stored p.checkpoint ≡ false) (λ p. is_on (line_of s.stored) p.checkpoint ≡ false) (λ p e. is_on-line_of s.stored p.checkpoint keeps.numbered ∙ e) sink.pending none) in
       let Exact : Option Role → Type 0 = λ r. All (λ q. is_on (line_of s.stored) q.checkpoint ≡ false) (transactions_at s.ledger r).pre_committed → length (transactions_at s.ledger r).committed ≡ length (line_of s.stored) in
       let here : Exact (slice_get s.graph.tasks task) =
-      pruned_up_to_last (job_of lang s) lang.spelling (is_logged_in s) (pruned_engine (engine_of lang s)) task (keeps.fresh fresh) (tasks-graph_of s.graph s.operators task ∙ ap (option_map (task_of s.operators)) is) in
+      pruned_up_to_last (job_of rules.lang s) rules.lang.spelling (is_logged_in s) (pruned_engine (engine_of rules.lang s)) task (keeps.fresh fresh) (tasks-graph_of s.graph s.operators task ∙ ap (option_map (task_of s.operators)) is) in
       subst Exact is here off
 
   -- so where the sink has none pending
@@ -111,7 +111,7 @@ module _ {R K S O : Type 0} (lang : Language R K S O) (RecordFits : R → Type 0
           not_less m less = omega (arith, less)
 
           complete_then : is_complete s.stored p.checkpoint ≡ true → h.coordination.pending ≡ Some p.checkpoint → ⊥
-          complete_then complete pending = not_less p.checkpoint ((runs_pending lang s h (runs_of lang RecordFits IsGood s keeps h was) p.checkpoint pending).above p.checkpoint complete)
+          complete_then complete pending = not_less p.checkpoint ((runs_pending rules.lang s h (runs_of rules s keeps h was) p.checkpoint pending).above p.checkpoint complete)
 
           not_pending : h.coordination.pending ≡ Some p.checkpoint → ⊥
           not_pending pending =
@@ -119,7 +119,7 @@ module _ {R K S O : Type 0} (lang : Language R K S O) (RecordFits : R → Type 0
                 | inl idle ↦ none-some p.checkpoint (sym idle ∙ pending)
                 | inr uncopied ↦
                     let P : Pending → Type 0 = λ q. is_complete s.stored q.checkpoint ≡ true in
-                    complete_then (All-head P p rest (subst (All P) e ((runs_of lang RecordFits IsGood s keeps h was).copied_last task p.checkpoint sink at pending uncopied))) pending
+                    complete_then (All-head P p rest (subst (All P) e ((runs_of rules s keeps h was).copied_last task p.checkpoint sink at pending uncopied))) pending
               ]
 
   pub committed_up_to_last : NoneIsNext task h → (h.coordination.pending ≡ None) ⊎ (copy_at h task ≡ None) → length (share s.ledger subtask).committed ≡ length (line_of s.stored)
@@ -129,8 +129,8 @@ module _ {R K S O : Type 0} (lang : Language R K S O) (RecordFits : R → Type 0
   none_complete : NoneIsNext task h → All (λ p. is_complete s.stored p.checkpoint ≡ false) sink.pending
   none_complete none = of sink.pending h.coordination.pending refl refl
     where
-      runs : RunsIn lang s h
-      runs = runs_of lang RecordFits IsGood s keeps h was
+      runs : RunsIn rules.lang s h
+      runs = runs_of rules s keeps h was
 
       P : Pending → Type 0
       P p = is_complete s.stored p.checkpoint ≡ false
@@ -146,7 +146,7 @@ module _ {R K S O : Type 0} (lang : Language R K S O) (RecordFits : R → Type 0
             | inl same ↦
                 let now : h.coordination.pending ≡ Some p.checkpoint = is ∙ ap (λ (n : ℕ). Some n) same.1 in
                 let alone : rest ≡ [] = only_one h.coordination.pending p rest (subst (NoneAfter h.coordination.pending) e (runs.last_pending task sink at)) now in
-                let incomplete : P p = pending_incomplete lang s.graph s.stored h p.checkpoint (runs_pending lang s h runs p.checkpoint now) in
+                let incomplete : P p = pending_incomplete rules.lang s.graph s.stored h p.checkpoint (runs_pending rules.lang s h runs p.checkpoint now) in
                 subst (All P) (sym (e ∙ ap (λ (l : List Pending). p ∷ l) alone)) (All-cons P p [] incomplete (All-nil P))
             | inr apart ↦ absurd (oldest_is_next p rest e (λ same. apart.1 (same_Some number p.checkpoint (sym is ∙ same))))
           ]
@@ -155,12 +155,12 @@ module _ {R K S O : Type 0} (lang : Language R K S O) (RecordFits : R → Type 0
   pub committed_each : NoneIsNext task h → length (share s.ledger subtask).committed ≡ length (line_of s.stored)
   committed_each none = committed_for_each (none_complete none)
 
-module _ {R K S O : Type 0} (lang : Language R K S O) (RecordFits : R → Type 0) (IsGood : O → S → Type 0) (s : State O R K S) (keeps : Keeps lang RecordFits IsGood s) (fresh : s.is_fresh ≡ true) (h : Held R K S) (was : s.held ≡ Some h)
+module _ {R K S O : Type 0} (rules : AllRules R K S O) (s : State O R K S) (keeps : Keeps rules s) (fresh : s.is_fresh ≡ true) (h : Held R K S) (was : s.held ≡ Some h)
     (subtask : ℕ) (k : Held R K S) (ledger : Ledger) where
   -- so has a commit that is answered Ok
   pub commits_reach : (u : Unit {0}) → EndsCommit s.graph subtask h k s.ledger ledger (Ok u) → length (committed_of ledger subtask) ≡ length (complete_numbers s.stored)
   commits_reach u ends =
       let after : State O R K S = record s { held = Some k; ledger = ledger; faults = 0 } in
-      let kept : Keeps lang RecordFits IsGood after = (keeps_commit lang RecordFits IsGood s keeps h was subtask k ledger 0 (Ok u) ends).0 in
-      let form = (shape_of lang RecordFits IsGood after kept k refl).forms ends.0 (role.Sink subtask) ends.1 in
-      sym (count_in ledger subtask kept.ordered) ∙ committed_each lang RecordFits IsGood after kept fresh k refl ends.0 subtask ends.1 form.0 form.1 (ends.2).none_next
+      let kept : Keeps rules after = (keeps_commit rules s keeps h was subtask k ledger 0 (Ok u) ends).0 in
+      let form = (shape_of rules after kept k refl).forms ends.0 (role.Sink subtask) ends.1 in
+      sym (count_in ledger subtask kept.ordered) ∙ committed_each rules after kept fresh k refl ends.0 subtask ends.1 form.0 form.1 (ends.2).none_next

@@ -26,6 +26,7 @@ use Rattle.job_graph.specs.declared.role.Role.TheVariants as role
 use Rattle.job_state.specs.Held.{Held, record_taken}
 use Rattle.job_state.specs.Sending.{items_at}
 use Rattle.job_state.specs.declared.holding.Holding.TheVariants as holds
+use Rattle.engine_model.specs.AllRules.{AllRules}
 use Rattle.engine_model.specs.Calls.{EndsPutOut, PutsOut, FailsToPutOut, IsBlocked, input_at, left_by}
 use Rattle.engine_model.specs.Keeps.{Keeps, GateFits}
 use Rattle.engine_model.specs.Language.{Language}
@@ -107,51 +108,51 @@ module _ {R K S O : Type 0} (lang : Language R K S O) (s : State O R K S) (h : H
           ends = refl;
         })
 
-module _ {R K S O : Type 0} (lang : Language R K S O) (RecordFits : R → Type 0) (IsGood : O → S → Type 0) (s : State O R K S) (h k : Held R K S) (n task subtask input channel : ℕ) (new : Ledger)
-    (keeps : Keeps lang RecordFits IsGood s) (is : s.held ≡ Some h) (at_task : slice_get s.graph.tasks task ≡ Some (role.Sink subtask)) (ordered : IsOrdered new) (leads : input_at s.graph task input ≡ Some channel) where
+module _ {R K S O : Type 0} (rules : AllRules R K S O) (s : State O R K S) (h k : Held R K S) (n task subtask input channel : ℕ) (new : Ledger)
+    (keeps : Keeps rules s) (is : s.held ≡ Some h) (at_task : slice_get s.graph.tasks task ≡ Some (role.Sink subtask)) (ordered : IsOrdered new) (leads : input_at s.graph task input ≡ Some channel) where
   appends : (sink : Sinking) (bytes : List ℕ) → slice_get h.tasks task ≡ Some (holds.Sink sink) → new ≡ appended s.ledger sink.open_one bytes → Appended bytes subtask sink s.ledger new
-  appends sink bytes was e = append_in s.ledger new subtask sink bytes keeps.ordered ((runs_of lang RecordFits IsGood s keeps h is).sinks task subtask sink at_task was) e
+  appends sink bytes was e = append_in s.ledger new subtask sink bytes keeps.ordered ((runs_of rules s keeps h is).sinks task subtask sink at_task was) e
 
   same_subtasks : (sink : Sinking) (bytes : List ℕ) → slice_get h.tasks task ≡ Some (holds.Sink sink) → new ≡ appended s.ledger sink.open_one bytes → new.subtasks ≡ s.ledger.subtasks
   same_subtasks sink bytes was e =
-      let there = (runs_of lang RecordFits IsGood s keeps h is).sinks task subtask sink at_task was in
+      let there = (runs_of rules s keeps h is).sinks task subtask sink at_task was in
       ap (λ (l : Ledger). l.subtasks) e ∙ appended_subtasks s.ledger sink.open_one bytes there.opened there.opened_at
 
-  puts_out : PutsOut task input h k channel s.ledger new lang.spelling → KeepsAndGoes lang RecordFits IsGood s (after lang s new (Some k) n)
+  puts_out : PutsOut task input h k channel s.ledger new rules.lang.spelling → KeepsAndGoes rules s (after rules.lang s new (Some k) n)
   puts_out ends =
-      let shape = shape_of lang RecordFits IsGood s keeps h is in
-      let runs = runs_of lang RecordFits IsGood s keeps h is in
-      let bytes = lang.spelling ends.row in
+      let shape = shape_of rules s keeps h is in
+      let runs = runs_of rules s keeps h is in
+      let bytes = rules.lang.spelling ends.row in
       let done : Appended bytes subtask ends.sink s.ledger new = appends ends.sink bytes ends.was ends.appends in
       let within : task < length s.graph.tasks = slice_get_within s.graph.tasks task (role.Sink subtask) at_task in
       let gate : GateFits s.graph h task = shape.gate_fits task within in
       let after_head : Held R K S = record_taken task input channel ends.row h in
-      subst (λ (x : Held R K S). KeepsAndGoes lang RecordFits IsGood s (after lang s new (Some x) n)) (sym ends.ends)
-      (goes_keeps lang RecordFits IsGood s keeps new (Some after_head) n (same_subtasks ends.sink bytes ends.was ends.appends) ordered
-      (shape_puts_out lang.cmp RecordFits IsGood s.graph s.operators h shape task input channel (role.Sink subtask) ends.row at_task leads ends.head)
-      (runs_moved lang s h after_head runs new (Some after_head) n keeps.numbered (λ t acked. logs_stay s.graph h task gate input channel leads ends.row t acked) refl refl (λ t sink at. at)
-      (sinks_in lang s keeps.expanded task subtask at_task h.tasks s.ledger new ends.sink ends.was done.sink_in done.other_sinks (λ t m sink apart. runs.sinks t m sink)))
-      (goes_one lang s h is new after_head n (put_run lang s h task subtask input channel at_task leads gate shape.logs ends.row)
-      (put_steps lang s h task subtask input channel at_task leads gate shape.logs ends.row ends.sink keeps.expanded ends.free ends.head new done)
-      (put_held lang s h task subtask input channel at_task leads gate shape.logs ends.row)))
+      subst (λ (x : Held R K S). KeepsAndGoes rules s (after rules.lang s new (Some x) n)) (sym ends.ends)
+      (goes_keeps rules s keeps new (Some after_head) n (same_subtasks ends.sink bytes ends.was ends.appends) ordered
+      (shape_puts_out rules s.graph s.operators h shape task input channel (role.Sink subtask) ends.row at_task leads ends.head)
+      (runs_moved rules.lang s h after_head runs new (Some after_head) n keeps.numbered (λ t acked. logs_stay s.graph h task gate input channel leads ends.row t acked) refl refl (λ t sink at. at)
+      (sinks_in rules.lang s keeps.expanded task subtask at_task h.tasks s.ledger new ends.sink ends.was done.sink_in done.other_sinks (λ t m sink apart. runs.sinks t m sink)))
+      (goes_one rules.lang s h is new after_head n (put_run rules.lang s h task subtask input channel at_task leads gate shape.logs ends.row)
+      (put_steps rules.lang s h task subtask input channel at_task leads gate shape.logs ends.row ends.sink keeps.expanded ends.free ends.head new done)
+      (put_held rules.lang s h task subtask input channel at_task leads gate shape.logs ends.row)))
 
-  fails_to_put_out : FailsToPutOut task input h k channel s.ledger new lang.spelling → KeepsAndGoes lang RecordFits IsGood s (after lang s new None n)
+  fails_to_put_out : FailsToPutOut task input h k channel s.ledger new rules.lang.spelling → KeepsAndGoes rules s (after rules.lang s new None n)
   fails_to_put_out ends =
       elim ends.either [
-        | inl e ↦ subst (λ (l : Ledger). KeepsAndGoes lang RecordFits IsGood s (after lang s l None n)) (sym e) (keeps_down lang RecordFits IsGood s keeps n)
+        | inl e ↦ subst (λ (l : Ledger). KeepsAndGoes rules s (after rules.lang s l None n)) (sym e) (keeps_down rules s keeps n)
         | inr e ↦
-            let bytes = lang.spelling ends.row in
+            let bytes = rules.lang.spelling ends.row in
             let done : Appended bytes subtask ends.sink s.ledger new = appends ends.sink bytes ends.was e in
-            goes_keeps lang RecordFits IsGood s keeps new None n (same_subtasks ends.sink bytes ends.was e) ordered tt tt
-            (goes_down_once lang s new n (Append task bytes) (changes_sink lang s keeps.expanded task subtask at_task (λ a b. Appends bytes a b) s.ledger new done.call done.others))
+            goes_keeps rules s keeps new None n (same_subtasks ends.sink bytes ends.was e) ordered tt tt
+            (goes_down_once rules.lang s new n (Append task bytes) (changes_sink rules.lang s keeps.expanded task subtask at_task (λ a b. Appends bytes a b) s.ledger new done.call done.others))
       ]
 
   -- nothing changed, of the ledger neither
-  pub keeps_still_with : k ≡ h → new ≡ s.ledger → KeepsAndGoes lang RecordFits IsGood s (after lang s new (Some k) n)
-  keeps_still_with same e = subst (λ (l : Ledger). KeepsAndGoes lang RecordFits IsGood s (after lang s l (Some k) n)) (sym e) (keeps_still lang RecordFits IsGood s keeps h is k n same)
+  pub keeps_still_with : k ≡ h → new ≡ s.ledger → KeepsAndGoes rules s (after rules.lang s new (Some k) n)
+  keeps_still_with same e = subst (λ (l : Ledger). KeepsAndGoes rules s (after rules.lang s l (Some k) n)) (sym e) (keeps_still rules s keeps h is k n same)
 
-  pub keeps_put_out : (result : Result Unit CoreFault) → EndsPutOut task input h k channel s.ledger new lang.spelling result
-      → KeepsAndGoes lang RecordFits IsGood s (record s { ledger = new; held = left_by result (Some k); faults = n })
+  pub keeps_put_out : (result : Result Unit CoreFault) → EndsPutOut task input h k channel s.ledger new rules.lang.spelling result
+      → KeepsAndGoes rules s (record s { ledger = new; held = left_by result (Some k); faults = n })
   keeps_put_out (Ok u) ends = puts_out ends
   keeps_put_out (Err ChannelBlocked) ends = keeps_still_with ends.1 ends.2
   keeps_put_out (Err NotReady) ends = keeps_still_with ends.2 ends.3

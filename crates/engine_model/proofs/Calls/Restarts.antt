@@ -5,9 +5,9 @@ use Rattle.commit_sink.specs.Ledger.{Ledger, committed_rows}
 use Rattle.dataflow_model.specs.Graph.{Begins}
 use Rattle.job_state.specs.Held.{Held}
 use Rattle.job_state.specs.declared.holding.Holding.TheVariants as holds
+use Rattle.engine_model.specs.AllRules.{AllRules}
 use Rattle.engine_model.specs.Goes.{Goes}
 use Rattle.engine_model.specs.Keeps.{Shape, RunsIn, Keeps}
-use Rattle.engine_model.specs.Language.{Language}
 use Rattle.engine_model.specs.Restart.{InTurn, AreStarts, Takes, before_tasks, TakeSome, TakeUntilRefused, Restarts, RestartsPartly, EndsRestart}
 use Rattle.engine_model.specs.RestartLaws.{held_by, restarted}
 use Rattle.engine_model.specs.State.{State}
@@ -21,9 +21,9 @@ use Rattle.engine_model.proofs.Restart.Held.{from_first, shape, leaves, runs}
 use Rattle.engine_model.proofs.Restart.Starts.{in_front, sink_at}
 use Rattle.engine_model.proofs.Calls.Goes.{goes_keeps_fresh}
 
-module _ {R K S O : Type 0} (lang : Language R K S O) (KeyFits : K → Type 0) (RecordFits : R → Type 0) (IsGood : O → S → Type 0) (s : State O R K S) (keeps : Keeps lang RecordFits IsGood s) (ledger : Ledger) where
+module _ {R K S O : Type 0} (rules : AllRules R K S O) (s : State O R K S) (keeps : Keeps rules s) (ledger : Ledger) where
   abbrev AreAll : Option ℕ → List (Start R K S) → Type 0
-  AreAll last starts = AreStarts lang KeyFits RecordFits IsGood s.graph s.operators s.partitions s.stored last starts
+  AreAll last starts = AreStarts rules s.graph s.operators s.partitions s.stored last starts
 
   -- ---- the rows
 
@@ -31,7 +31,7 @@ module _ {R K S O : Type 0} (lang : Language R K S O) (KeyFits : K → Type 0) (
   up_to_rows : (last : Option ℕ) (starts done rest : List (Start R K S)) (middle : Rattle.engine_model.specs.Restart.Settling K S) → AreAll last starts → starts ≡ done ++ rest → InTurn Takes done (before_tasks s.ledger) middle → KeepsRows s.ledger middle.ledger
   up_to_rows last starts done rest middle are split turns =
       (takes_leave s.graph keeps.expanded done (before_tasks s.ledger) middle
-      (λ k subtask names logs at. ap (slice_get s.graph.tasks) (from_first k) ∙ sink_at lang KeyFits RecordFits IsGood s.graph s.operators s.partitions s.stored last starts are k subtask names logs (ap (λ (l : List (Start R K S)). slice_get l k) split ∙ in_front done k (start.Sink subtask names logs) rest at))
+      (λ k subtask names logs at. ap (slice_get s.graph.tasks) (from_first k) ∙ sink_at rules s.graph s.operators s.partitions s.stored last starts are k subtask names logs (ap (λ (l : List (Start R K S)). slice_get l k) split ∙ in_front done k (start.Sink subtask names logs) rest at))
       keeps.ordered (λ place subtask sink is at. absurd (none-some (holds.Sink sink) at)) turns).rows
 
   some_rows : (last : Option ℕ) (starts : List (Start R K S)) → AreAll last starts → TakeSome starts s.ledger ledger → KeepsRows s.ledger ledger
@@ -47,8 +47,8 @@ module _ {R K S O : Type 0} (lang : Language R K S O) (KeyFits : K → Type 0) (
       let first = up_to_rows last starts t.taken.done t.taken.rest t.middle are t.taken.are t.taken.turns in
       rows_then s.ledger t.middle.ledger ledger first (refused_leaves t.names t.subtask t.middle.ledger ledger first.ordered t.refused).rows
 
-  pub restart_rows : (result : Result (Option ℕ × Held R K S) CoreFault) → EndsRestart lang KeyFits RecordFits IsGood s.graph s.operators s.partitions s.stored s.ledger ledger result → KeepsRows s.ledger ledger
-  restart_rows (Ok x) ends = (leaves lang KeyFits RecordFits IsGood s.graph s.operators s.partitions s.stored s.ledger ledger x.0 ends.starts ends.are (x.1).tasks ends.take keeps.expanded keeps.ordered).rows
+  pub restart_rows : (result : Result (Option ℕ × Held R K S) CoreFault) → EndsRestart rules s.graph s.operators s.partitions s.stored s.ledger ledger result → KeepsRows s.ledger ledger
+  restart_rows (Ok x) ends = (leaves rules s.graph s.operators s.partitions s.stored s.ledger ledger x.0 ends.starts ends.are (x.1).tasks ends.take keeps.expanded keeps.ordered).rows
   restart_rows (Err fault.Memory) ends = elim ends [ inl same ↦ rows_same s.ledger ledger keeps.ordered same | inr p ↦ some_rows p.last p.starts p.are p.then_ends ]
   restart_rows (Err fault.Device) ends = elim ends [ inl same ↦ rows_same s.ledger ledger keeps.ordered same | inr p ↦ some_rows p.last p.starts p.are p.then_ends ]
   restart_rows (Err fault.BadSnapshot) ends = elim ends [ inl broken ↦ rows_same s.ledger ledger keeps.ordered broken.1 | inr p ↦ refused_rows p.last p.starts p.are p.then_ends ]
@@ -66,7 +66,7 @@ module _ {R K S O : Type 0} (lang : Language R K S O) (KeyFits : K → Type 0) (
   restart_rows (Err fault.NumbersSpent) ends = absurd ends
 
   -- no committed row is withdrawn
-  pub restart_withdraws : (result : Result (Option ℕ × Held R K S) CoreFault) (subtask : ℕ) → EndsRestart lang KeyFits RecordFits IsGood s.graph s.operators s.partitions s.stored s.ledger ledger result
+  pub restart_withdraws : (result : Result (Option ℕ × Held R K S) CoreFault) (subtask : ℕ) → EndsRestart rules s.graph s.operators s.partitions s.stored s.ledger ledger result
       → Begins (committed_rows s.ledger subtask) (committed_rows ledger subtask)
   restart_withdraws result subtask ends =
       let kept = restart_rows result ends in
@@ -76,17 +76,17 @@ module _ {R K S O : Type 0} (lang : Language R K S O) (KeyFits : K → Type 0) (
   -- ---- what every engine keeps
 
   abbrev Held_keeps : ℕ → Option (Held R K S) → Type 0
-  Held_keeps n held = MatchOption held (Unit {0}) (Shape lang.cmp RecordFits IsGood s.graph s.operators) × MatchOption held (Unit {0}) (RunsIn lang (record s { held = held; ledger = ledger; faults = n }))
+  Held_keeps n held = MatchOption held (Unit {0}) (Shape rules s.graph s.operators) × MatchOption held (Unit {0}) (RunsIn rules.lang (record s { held = held; ledger = ledger; faults = n }))
 
-  held_keeps : (n : ℕ) (result : Result (Option ℕ × Held R K S) CoreFault) → EndsRestart lang KeyFits RecordFits IsGood s.graph s.operators s.partitions s.stored s.ledger ledger result → Held_keeps n (held_by result)
+  held_keeps : (n : ℕ) (result : Result (Option ℕ × Held R K S) CoreFault) → EndsRestart rules s.graph s.operators s.partitions s.stored s.ledger ledger result → Held_keeps n (held_by result)
   held_keeps n (Ok x) ends =
-      let whole = shape lang KeyFits RecordFits IsGood s.graph s.operators s.partitions s.stored s.ledger ledger x.0 ends.starts ends.are (x.1).tasks ends.take in
-      let going = runs lang KeyFits RecordFits IsGood s.graph s.operators s.partitions s.stored s.ledger ledger x.0 ends.starts ends.are (x.1).tasks ends.take keeps.expanded keeps.ordered (record s { held = Some x.1; ledger = ledger; faults = n }) refl refl refl in
-      (subst (Shape lang.cmp RecordFits IsGood s.graph s.operators) (sym ends.ends) whole, subst (RunsIn lang (record s { held = Some x.1; ledger = ledger; faults = n })) (sym ends.ends) going)
+      let whole = shape rules s.graph s.operators s.partitions s.stored s.ledger ledger x.0 ends.starts ends.are (x.1).tasks ends.take in
+      let going = runs rules s.graph s.operators s.partitions s.stored s.ledger ledger x.0 ends.starts ends.are (x.1).tasks ends.take keeps.expanded keeps.ordered (record s { held = Some x.1; ledger = ledger; faults = n }) refl refl refl in
+      (subst (Shape rules s.graph s.operators) (sym ends.ends) whole, subst (RunsIn rules.lang (record s { held = Some x.1; ledger = ledger; faults = n })) (sym ends.ends) going)
   held_keeps n (Err f) ends = (tt, tt)
 
-  pub keeps_restart : (n : ℕ) (result : Result (Option ℕ × Held R K S) CoreFault) → EndsRestart lang KeyFits RecordFits IsGood s.graph s.operators s.partitions s.stored s.ledger ledger result
-      → (s.is_fresh ≡ true → Goes lang s (restarted s ledger n result)) → Keeps lang RecordFits IsGood (restarted s ledger n result)
+  pub keeps_restart : (n : ℕ) (result : Result (Option ℕ × Held R K S) CoreFault) → EndsRestart rules s.graph s.operators s.partitions s.stored s.ledger ledger result
+      → (s.is_fresh ≡ true → Goes rules.lang s (restarted s ledger n result)) → Keeps rules (restarted s ledger n result)
   keeps_restart n result ends goes =
       let kept = restart_rows result ends in
       let held = held_keeps n result ends in
@@ -100,7 +100,7 @@ module _ {R K S O : Type 0} (lang : Language R K S O) (KeyFits : K → Type 0) (
         ordered = kept.ordered;
         shape = held.0;
         runs = held.1;
-        fresh = λ fresh. goes_keeps_fresh lang RecordFits IsGood s keeps (held_by result) s.stored ledger n (goes fresh) fresh;
+        fresh = λ fresh. goes_keeps_fresh rules s keeps (held_by result) s.stored ledger n (goes fresh) fresh;
         whole = keeps.whole;
         formed = keeps.formed;
       }

@@ -26,9 +26,9 @@ use Rattle.job_state.specs.declared.holding.Holding.TheVariants as holds
 use Rattle.snapshot_store.specs.Store.{is_complete}
 use Rattle.task_part.specs.declared.part.Part.{Part}
 use Rattle.task_part.specs.declared.part.Part.TheVariants as part
+use Rattle.engine_model.specs.AllRules.{AllRules}
 use Rattle.engine_model.specs.Calls.{EndsSinkBarrier, CopiesSink, FailsToCopySink, IsBarrierNext, input_at, is_copy, left_by}
 use Rattle.engine_model.specs.Keeps.{Keeps, GateFits, PendingIn, NoneAfter, RunsIn, Shape}
-use Rattle.engine_model.specs.Language.{Language}
 use Rattle.engine_model.specs.State.{State}
 use Rattle.engine_model.specs.View.{named_by, names_in, attempt_of, run_of, store_of, transactions_at}
 use Rattle.engine_model.specs.declared.fault.CoreFault.{CoreFault}
@@ -53,14 +53,14 @@ use Rattle.engine_model.proofs.Calls.PutsOut.{keeps_still_with}
 all_subtasks : (l : Ledger) (n checkpoint : ℕ) → (pre_committed l n checkpoint).subtasks ≡ l.subtasks
 all_subtasks l n checkpoint = changed_subtasks l n (λ x. record x { progress = PreCommitted checkpoint }) (transaction_at l n)
 
-module _ {R K S O : Type 0} (lang : Language R K S O) (RecordFits : R → Type 0) (IsGood : O → S → Type 0) (s : State O R K S) (h : Held R K S) (n task subtask input channel checkpoint : ℕ) (sink : Sinking) (new : Ledger)
-    (keeps : Keeps lang RecordFits IsGood s) (is : s.held ≡ Some h) (at_task : slice_get s.graph.tasks task ≡ Some (role.Sink subtask)) (leads : input_at s.graph task input ≡ Some channel)
+module _ {R K S O : Type 0} (rules : AllRules R K S O) (s : State O R K S) (h : Held R K S) (n task subtask input channel checkpoint : ℕ) (sink : Sinking) (new : Ledger)
+    (keeps : Keeps rules s) (is : s.held ≡ Some h) (at_task : slice_get s.graph.tasks task ≡ Some (role.Sink subtask)) (leads : input_at s.graph task input ≡ Some channel)
     (barrier : IsBarrierNext h channel checkpoint) (copying : is_copy (effect_of (gate_at h task) input) ≡ true) (was : slice_get h.tasks task ≡ Some (holds.Sink sink)) where
   abbrev middle : Ledger
   middle = begun s.ledger subtask
 
   abbrev line : List ℕ
-  line = (store_of lang s.stored).line
+  line = (store_of rules.lang s.stored).line
 
   abbrev names : List ℕ
   names = names_with_open sink
@@ -71,8 +71,8 @@ module _ {R K S O : Type 0} (lang : Language R K S O) (RecordFits : R → Type 0
   abbrev k : Held R K S
   k = sink_copied task input channel checkpoint names sink_now h
 
-  shape_before : Shape lang.cmp RecordFits IsGood s.graph s.operators h
-  shape_before = shape_of lang RecordFits IsGood s keeps h is
+  shape_before : Shape rules s.graph s.operators h
+  shape_before = shape_of rules s keeps h is
 
   gate : GateFits s.graph h task
   gate = shape_before.gate_fits task (slice_get_within s.graph.tasks task (role.Sink subtask) at_task)
@@ -81,14 +81,14 @@ module _ {R K S O : Type 0} (lang : Language R K S O) (RecordFits : R → Type 0
   not_copied : copy_at h task ≡ None
   not_copied = copy_is_first s.graph h task gate input channel leads checkpoint barrier.1 barrier.2 copying
 
-  runs_before : RunsIn lang s h
-  runs_before = runs_of lang RecordFits IsGood s keeps h is
+  runs_before : RunsIn rules.lang s h
+  runs_before = runs_of rules s keeps h is
 
-  pending_in : PendingIn lang s.graph s.stored h checkpoint
-  pending_in = runs_pending lang s h runs_before checkpoint barrier.1
+  pending_in : PendingIn rules.lang s.graph s.stored h checkpoint
+  pending_in = runs_pending rules.lang s h runs_before checkpoint barrier.1
 
   not_complete : is_on line checkpoint ≡ false
-  not_complete = is_on-line_of s.stored checkpoint keeps.numbered ∙ pending_incomplete lang s.graph s.stored h checkpoint pending_in
+  not_complete = is_on-line_of s.stored checkpoint keeps.numbered ∙ pending_incomplete rules.lang s.graph s.stored h checkpoint pending_in
 
   -- the ledger's two calls
   ledger_copies : (l : Ledger) → l ≡ pre_committed middle sink.open_one checkpoint → Copied line checkpoint subtask sink s.ledger middle l
@@ -96,7 +96,7 @@ module _ {R K S O : Type 0} (lang : Language R K S O) (RecordFits : R → Type 0
 
   module _ (done : Copied line checkpoint subtask sink s.ledger middle new) where
     abbrev within : task < length h.copies
-    within = copy_within lang RecordFits IsGood s h h n task keeps is (role.Sink subtask) at_task
+    within = copy_within rules s h h n task keeps is (role.Sink subtask) at_task
 
     within_tasks : task < length h.tasks
     within_tasks = slice_get_within h.tasks task (holds.Sink sink) was
@@ -113,7 +113,7 @@ module _ {R K S O : Type 0} (lang : Language R K S O) (RecordFits : R → Type 0
         ]
 
     abbrev taken : Running R K S
-    taken = between lang s h k task input channel checkpoint leads gate shape_before.came barrier
+    taken = between rules.lang s h k task input channel checkpoint leads gate shape_before.came barrier
 
     abbrev PreAt : Option Role → ℕ → Type 0
     PreAt o m = (c : PreCommits line m (transactions_at middle o) (transactions_at new o)) × (c.front ≡ [])
@@ -127,28 +127,28 @@ module _ {R K S O : Type 0} (lang : Language R K S O) (RecordFits : R → Type 0
     last_names : AreLast names (transactions_at new (slice_get s.graph.tasks task)).committed ((transactions_at new (slice_get s.graph.tasks task)).committed ++ transactions_of (transactions_at new (slice_get s.graph.tasks task)).pre_committed)
     last_names = subst (λ (o : Option Role). AreLast names (transactions_at new o).committed ((transactions_at new o).committed ++ transactions_of (transactions_at new o).pre_committed)) (sym at_task) done.names_last
 
-    copy_steps : Steps lang s (devices_with lang s keeps.expanded task subtask at_task s.ledger) (devices_with lang s keeps.expanded task subtask at_task new) taken (run_of lang.cmp s.graph k)
+    copy_steps : Steps rules.lang s (devices_with rules.lang s keeps.expanded task subtask at_task s.ledger) (devices_with rules.lang s keeps.expanded task subtask at_task new) taken (run_of rules.lang.cmp s.graph k)
     copy_steps =
         CopiesATask task (record {
-          attempt = attempt_of lang.cmp k;
-          copies = sink_copies lang s h k task input channel checkpoint leads gate shape_before.came barrier within copying keeps.expanded subtask names sink sink_now at_task was refl;
+          attempt = attempt_of rules.lang.cmp k;
+          copies = sink_copies rules.lang s h k task input channel checkpoint leads gate shape_before.came barrier within copying keeps.expanded subtask names sink sink_now at_task was refl;
           kind = SinkTask;
           is_task = tasks-graph_of s.graph s.operators task ∙ ap (option_map (task_of s.operators)) at_task;
           elsewhere = λ not_sink. absurd (not_sink refl);
           at_sink = λ e. (
             length s.ledger.transactions + 1,
-            devices_with lang s keeps.expanded task subtask at_task middle,
-            changes_sink lang s keeps.expanded task subtask at_task (λ a b. b ≡ durable.begun (length s.ledger.transactions + 1) a) s.ledger middle done.began done.others_began,
-            record { store = refl; sink = pre_at.0; others = others_same lang s keeps.expanded task subtask at_task middle new done.others },
+            devices_with rules.lang s keeps.expanded task subtask at_task middle,
+            changes_sink rules.lang s keeps.expanded task subtask at_task (λ a b. b ≡ durable.begun (length s.ledger.transactions + 1) a) s.ledger middle done.began done.others_began,
+            record { store = refl; sink = pre_at.0; others = others_same rules.lang s keeps.expanded task subtask at_task middle new done.others },
             pre_at.1,
             names,
             last_names,
-            same_run (run_of lang.cmp s.graph k) (record { attempt = attempt_of lang.cmp k; number = taken.number; named = λ other. if other == task then names else taken.named other }) refl refl named_now,
+            same_run (run_of rules.lang.cmp s.graph k) (record { attempt = attempt_of rules.lang.cmp k; number = taken.number; named = λ other. if other == task then names else taken.named other }) refl refl named_now,
           );
         })
 
-    goes_copied : Steps lang s (devices_with lang s keeps.expanded task subtask at_task s.ledger) (devices_with lang s keeps.expanded task subtask at_task s.ledger) (run_of lang.cmp s.graph h) taken
-    goes_copied = barrier_runs lang s h k task input channel checkpoint leads gate shape_before.came barrier
+    goes_copied : Steps rules.lang s (devices_with rules.lang s keeps.expanded task subtask at_task s.ledger) (devices_with rules.lang s keeps.expanded task subtask at_task s.ledger) (run_of rules.lang.cmp s.graph h) taken
+    goes_copied = barrier_runs rules.lang s h k task input channel checkpoint leads gate shape_before.came barrier
 
     -- what the task holds, and what others hold
     sink_here : (sink' : Sinking) → slice_get k.tasks task ≡ Some (holds.Sink sink') → sink' ≡ sink_now
@@ -163,14 +163,14 @@ module _ {R K S O : Type 0} (lang : Language R K S O) (RecordFits : R → Type 0
     abbrev IsCompleteOrPending : Pending → Type 0
     IsCompleteOrPending p = (is_complete s.stored p.checkpoint ≡ true) ⊎ (h.coordination.pending ≡ Some p.checkpoint)
 
-    runs_now : RunsIn lang (after lang s new (Some k) n) k
+    runs_now : RunsIn rules.lang (after rules.lang s new (Some k) n) k
     runs_now = record {
       pending =
-          subst (λ (o : Option ℕ). MatchOption o (Unit {0}) (PendingIn lang s.graph s.stored k)) (sym barrier.1)
-          (pending_copied lang s.graph s.stored h k checkpoint pending_in task (part.Sink names []) not_copied refl refl refl);
+          subst (λ (o : Option ℕ). MatchOption o (Unit {0}) (PendingIn rules.lang s.graph s.stored k)) (sym barrier.1)
+          (pending_copied rules.lang s.graph s.stored h k checkpoint pending_in task (part.Sink names []) not_copied refl refl refl);
       last_complete = runs_before.last_complete;
       sinks =
-          sinks_in lang s keeps.expanded task subtask at_task k.tasks s.ledger new sink_now (get_set_same h.tasks task (holds.Sink sink_now) within_tasks) done.sink_in
+          sinks_in rules.lang s keeps.expanded task subtask at_task k.tasks s.ledger new sink_now (get_set_same h.tasks task (holds.Sink sink_now) within_tasks) done.sink_in
           (λ other sink' apart there. done.other_sinks other sink' apart (done.sinks_began other sink' apart there))
           (λ t m sink' apart role_is at. runs_before.sinks t m sink' role_is (sink_there t sink' apart at));
       checkpoints = λ t sink' at.
@@ -202,64 +202,64 @@ module _ {R K S O : Type 0} (lang : Language R K S O) (RecordFits : R → Type 0
         none_before : (i : ℕ) (p : Pending) → slice_get sink.pending i ≡ Some p → h.coordination.pending ≡ Some p.checkpoint → ⊥
         none_before i p here e =
             let complete : is_complete s.stored p.checkpoint ≡ true = all_at (λ (q : Pending). is_complete s.stored q.checkpoint ≡ true) sink.pending i p (runs_before.copied_last task checkpoint sink was barrier.1 not_copied) here in
-            false≢true (sym (pending_incomplete lang s.graph s.stored h checkpoint pending_in) ∙ ap (is_complete s.stored) (same_Some checkpoint p.checkpoint (sym barrier.1 ∙ e)) ∙ complete)
+            false≢true (sym (pending_incomplete rules.lang s.graph s.stored h checkpoint pending_in) ∙ ap (is_complete s.stored) (same_Some checkpoint p.checkpoint (sym barrier.1 ∙ e)) ∙ complete)
 
-    copied : new.subtasks ≡ s.ledger.subtasks → IsOrdered new → KeepsAndGoes lang RecordFits IsGood s (after lang s new (Some k) n)
+    copied : new.subtasks ≡ s.ledger.subtasks → IsOrdered new → KeepsAndGoes rules s (after rules.lang s new (Some k) n)
     copied subtasks ordered =
-        goes_keeps lang RecordFits IsGood s keeps new (Some k) n subtasks ordered
-        (shape_sink_copied lang.cmp RecordFits IsGood s.graph s.operators h shape_before task subtask input channel checkpoint names sink_now keeps.expanded at_task leads barrier copying)
+        goes_keeps rules s keeps new (Some k) n subtasks ordered
+        (shape_sink_copied rules s.graph s.operators h shape_before task subtask input channel checkpoint names sink_now keeps.expanded at_task leads barrier copying)
         runs_now
-        (goes_two lang s h is new k n taken refl goes_copied copy_steps)
+        (goes_two rules.lang s h is new k n taken refl goes_copied copy_steps)
 
-  begun_down : IsOrdered middle → KeepsAndGoes lang RecordFits IsGood s (after lang s middle None n)
+  begun_down : IsOrdered middle → KeepsAndGoes rules s (after rules.lang s middle None n)
   begun_down ordered =
       let done = ledger_copies (pre_committed middle sink.open_one checkpoint) refl in
-      goes_keeps lang RecordFits IsGood s keeps middle None n refl ordered tt tt
-      (goes_down_once lang s middle n (Begin task (length s.ledger.transactions + 1))
-      (changes_sink lang s keeps.expanded task subtask at_task (λ a b. b ≡ durable.begun (length s.ledger.transactions + 1) a) s.ledger middle done.began done.others_began))
+      goes_keeps rules s keeps middle None n refl ordered tt tt
+      (goes_down_once rules.lang s middle n (Begin task (length s.ledger.transactions + 1))
+      (changes_sink rules.lang s keeps.expanded task subtask at_task (λ a b. b ≡ durable.begun (length s.ledger.transactions + 1) a) s.ledger middle done.began done.others_began))
 
-  copied_down : Copied line checkpoint subtask sink s.ledger middle new → new.subtasks ≡ s.ledger.subtasks → IsOrdered new → KeepsAndGoes lang RecordFits IsGood s (after lang s new None n)
+  copied_down : Copied line checkpoint subtask sink s.ledger middle new → new.subtasks ≡ s.ledger.subtasks → IsOrdered new → KeepsAndGoes rules s (after rules.lang s new None n)
   copied_down done subtasks ordered =
-      goes_keeps lang RecordFits IsGood s keeps new None n subtasks ordered tt tt
-      (goes_down_twice lang s middle new n (Begin task (length s.ledger.transactions + 1)) (PreCommit task checkpoint)
-      (changes_sink lang s keeps.expanded task subtask at_task (λ a b. b ≡ durable.begun (length s.ledger.transactions + 1) a) s.ledger middle done.began done.others_began)
-      (changes_sink lang s keeps.expanded task subtask at_task (λ a b. PreCommits line checkpoint a b) middle new done.call done.others))
+      goes_keeps rules s keeps new None n subtasks ordered tt tt
+      (goes_down_twice rules.lang s middle new n (Begin task (length s.ledger.transactions + 1)) (PreCommit task checkpoint)
+      (changes_sink rules.lang s keeps.expanded task subtask at_task (λ a b. b ≡ durable.begun (length s.ledger.transactions + 1) a) s.ledger middle done.began done.others_began)
+      (changes_sink rules.lang s keeps.expanded task subtask at_task (λ a b. PreCommits line checkpoint a b) middle new done.call done.others))
 
-module _ {R K S O : Type 0} (lang : Language R K S O) (RecordFits : R → Type 0) (IsGood : O → S → Type 0) (s : State O R K S) (h k : Held R K S) (n task subtask input channel : ℕ) (new : Ledger)
-    (keeps : Keeps lang RecordFits IsGood s) (is : s.held ≡ Some h) (at_task : slice_get s.graph.tasks task ≡ Some (role.Sink subtask)) (ordered : IsOrdered new) (leads : input_at s.graph task input ≡ Some channel) where
+module _ {R K S O : Type 0} (rules : AllRules R K S O) (s : State O R K S) (h k : Held R K S) (n task subtask input channel : ℕ) (new : Ledger)
+    (keeps : Keeps rules s) (is : s.held ≡ Some h) (at_task : slice_get s.graph.tasks task ≡ Some (role.Sink subtask)) (ordered : IsOrdered new) (leads : input_at s.graph task input ≡ Some channel) where
   pre_subtasks : (sink : Sinking) (checkpoint : ℕ) → new ≡ pre_committed (begun s.ledger subtask) sink.open_one checkpoint → new.subtasks ≡ s.ledger.subtasks
   pre_subtasks sink checkpoint e = ap (λ (l : Ledger). l.subtasks) e ∙ all_subtasks (begun s.ledger subtask) sink.open_one checkpoint
 
-  copies_sink : (effect : Effect) → CopiesSink task input h k channel subtask s.ledger new effect → KeepsAndGoes lang RecordFits IsGood s (after lang s new (Some k) n)
+  copies_sink : (effect : Effect) → CopiesSink task input h k channel subtask s.ledger new effect → KeepsAndGoes rules s (after rules.lang s new (Some k) n)
   copies_sink effect ends =
       let copying : is_copy (effect_of (gate_at h task) input) ≡ true = ap is_copy (sym ends.brings) ∙ ends.copies in
-      let done = ledger_copies lang RecordFits IsGood s h n task subtask input channel ends.checkpoint ends.sink new keeps is at_task leads ends.barrier copying ends.was new ends.transactions in
-      subst (λ (x : Held R K S). KeepsAndGoes lang RecordFits IsGood s (after lang s new (Some x) n)) (sym ends.ends)
-      (copied lang RecordFits IsGood s h n task subtask input channel ends.checkpoint ends.sink new keeps is at_task leads ends.barrier copying ends.was done (pre_subtasks ends.sink ends.checkpoint ends.transactions) ordered)
+      let done = ledger_copies rules s h n task subtask input channel ends.checkpoint ends.sink new keeps is at_task leads ends.barrier copying ends.was new ends.transactions in
+      subst (λ (x : Held R K S). KeepsAndGoes rules s (after rules.lang s new (Some x) n)) (sym ends.ends)
+      (copied rules s h n task subtask input channel ends.checkpoint ends.sink new keeps is at_task leads ends.barrier copying ends.was done (pre_subtasks ends.sink ends.checkpoint ends.transactions) ordered)
 
-  fails_to_copy : FailsToCopySink task input h k channel subtask s.ledger new → KeepsAndGoes lang RecordFits IsGood s (after lang s new None n)
+  fails_to_copy : FailsToCopySink task input h k channel subtask s.ledger new → KeepsAndGoes rules s (after rules.lang s new None n)
   fails_to_copy ends =
       elim ends.either [
-        | inl (inl e) ↦ subst (λ (l : Ledger). KeepsAndGoes lang RecordFits IsGood s (after lang s l None n)) (sym e) (keeps_down lang RecordFits IsGood s keeps n)
+        | inl (inl e) ↦ subst (λ (l : Ledger). KeepsAndGoes rules s (after rules.lang s l None n)) (sym e) (keeps_down rules s keeps n)
         | inl (inr e) ↦
-            subst (λ (l : Ledger). KeepsAndGoes lang RecordFits IsGood s (after lang s l None n)) (sym e)
-            (begun_down lang RecordFits IsGood s h n task subtask input channel ends.checkpoint ends.sink new keeps is at_task leads ends.barrier ends.copies ends.was (subst IsOrdered e ordered))
+            subst (λ (l : Ledger). KeepsAndGoes rules s (after rules.lang s l None n)) (sym e)
+            (begun_down rules s h n task subtask input channel ends.checkpoint ends.sink new keeps is at_task leads ends.barrier ends.copies ends.was (subst IsOrdered e ordered))
         | inr e ↦
-            let done = ledger_copies lang RecordFits IsGood s h n task subtask input channel ends.checkpoint ends.sink new keeps is at_task leads ends.barrier ends.copies ends.was new e in
-            copied_down lang RecordFits IsGood s h n task subtask input channel ends.checkpoint ends.sink new keeps is at_task leads ends.barrier ends.copies ends.was done (pre_subtasks ends.sink ends.checkpoint e) ordered
+            let done = ledger_copies rules s h n task subtask input channel ends.checkpoint ends.sink new keeps is at_task leads ends.barrier ends.copies ends.was new e in
+            copied_down rules s h n task subtask input channel ends.checkpoint ends.sink new keeps is at_task leads ends.barrier ends.copies ends.was done (pre_subtasks ends.sink ends.checkpoint e) ordered
       ]
 
   -- nothing changed
-  still : k ≡ h → new ≡ s.ledger → KeepsAndGoes lang RecordFits IsGood s (after lang s new (Some k) n)
-  still same e = keeps_still_with lang RecordFits IsGood s h k n task subtask input channel new keeps is at_task ordered leads same e
+  still : k ≡ h → new ≡ s.ledger → KeepsAndGoes rules s (after rules.lang s new (Some k) n)
+  still same e = keeps_still_with rules s h k n task subtask input channel new keeps is at_task ordered leads same e
 
   pub keeps_sink_barrier : (result : Result Effect CoreFault) → EndsSinkBarrier task input h k channel subtask s.ledger new result
-      → KeepsAndGoes lang RecordFits IsGood s (record s { ledger = new; held = left_by result (Some k); faults = n })
+      → KeepsAndGoes rules s (record s { ledger = new; held = left_by result (Some k); faults = n })
   keeps_sink_barrier (Ok effect) ends =
       elim ends [
         | inl noted ↦
-            subst (λ (l : Ledger). KeepsAndGoes lang RecordFits IsGood s (after lang s l (Some k) n)) (sym noted.1)
-            (notes_barrier lang RecordFits IsGood s h k n task input channel (role.Sink subtask) keeps is at_task leads effect noted.0)
+            subst (λ (l : Ledger). KeepsAndGoes rules s (after rules.lang s l (Some k) n)) (sym noted.1)
+            (notes_barrier rules s h k n task input channel (role.Sink subtask) keeps is at_task leads effect noted.0)
         | inr copied ↦ copies_sink effect copied
       ]
   keeps_sink_barrier (Err ChannelBlocked) ends = still ends.1 ends.2

@@ -10,6 +10,7 @@ use Rattle.checkpoint_model.specs.PrunedLaws.{OnlySinksName, pruned_engine}
 use Rattle.checkpoint_model.proofs.PrunedSteps.{engine_steps_pruned}
 use Rattle.commit_sink.specs.Ledger.{Ledger, IsOrdered}
 use Rattle.job_state.specs.Held.{Held}
+use Rattle.engine_model.specs.AllRules.{AllRules}
 use Rattle.engine_model.specs.Goes.{Goes}
 use Rattle.engine_model.specs.Keeps.{Keeps, Shape, RunsIn}
 use Rattle.engine_model.specs.Language.{Language}
@@ -85,17 +86,17 @@ module _ {R K S O : Type 0} (lang : Language R K S O) (s : State O R K S) where
       let new : Devices R K S (List ℕ) = devices_of lang (after ledger None n) in
       (down (devices_of lang s) ∷ down middle ∷ down new ∷ [], (PrunedFails refl refl, (PrunedCalls first refl refl one, (PrunedCalls second refl refl two, refl))))
 
-module _ {R K S O : Type 0} (lang : Language R K S O) (RecordFits : R → Type 0) (IsGood : O → S → Type 0) (s : State O R K S) (keeps : Keeps lang RecordFits IsGood s) where
+module _ {R K S O : Type 0} (rules : AllRules R K S O) (s : State O R K S) (keeps : Keeps rules s) where
   -- the steps keep what every engine keeps, where the store stays
   pub goes_keeps : (ledger : Ledger) (held : Option (Held R K S)) (n : ℕ) → ledger.subtasks ≡ s.ledger.subtasks → IsOrdered ledger
-      → MatchOption held (Unit {0}) (Shape lang.cmp RecordFits IsGood s.graph s.operators) → MatchOption held (Unit {0}) (RunsIn lang (after lang s ledger held n))
-      → Goes lang s (after lang s ledger held n) → KeepsAndGoes lang RecordFits IsGood s (after lang s ledger held n)
-  goes_keeps ledger held n subtasks ordered shape runs goes = calls.goes_keeps lang RecordFits IsGood s keeps held s.stored ledger n refl keeps.numbered keeps.formed subtasks ordered shape runs goes
+      → MatchOption held (Unit {0}) (Shape rules s.graph s.operators) → MatchOption held (Unit {0}) (RunsIn rules.lang (after rules.lang s ledger held n))
+      → Goes rules.lang s (after rules.lang s ledger held n) → KeepsAndGoes rules s (after rules.lang s ledger held n)
+  goes_keeps ledger held n subtasks ordered shape runs goes = calls.goes_keeps rules s keeps held s.stored ledger n refl keeps.numbered keeps.formed subtasks ordered shape runs goes
 
   -- a device failed, and the job is down
-  pub keeps_down : (n : ℕ) → KeepsAndGoes lang RecordFits IsGood s (after lang s s.ledger None n)
-  keeps_down n = calls.keeps_down lang RecordFits IsGood s keeps s.stored s.ledger n refl keeps.numbered keeps.formed refl keeps.ordered (goes_down lang s s.stored s.ledger n refl refl)
+  pub keeps_down : (n : ℕ) → KeepsAndGoes rules s (after rules.lang s s.ledger None n)
+  keeps_down n = calls.keeps_down rules s keeps s.stored s.ledger n refl keeps.numbered keeps.formed refl keeps.ordered (goes_down rules.lang s s.stored s.ledger n refl refl)
 
   -- nothing changed
-  pub keeps_still : (h : Held R K S) → s.held ≡ Some h → (k : Held R K S) (n : ℕ) → k ≡ h → KeepsAndGoes lang RecordFits IsGood s (after lang s s.ledger (Some k) n)
-  keeps_still h is k n same = keeps_refused lang RecordFits IsGood s keeps h k s.stored s.ledger n is same refl refl
+  pub keeps_still : (h : Held R K S) → s.held ≡ Some h → (k : Held R K S) (n : ℕ) → k ≡ h → KeepsAndGoes rules s (after rules.lang s s.ledger (Some k) n)
+  keeps_still h is k n same = keeps_refused rules s keeps h k s.stored s.ledger n is same refl refl

@@ -27,6 +27,7 @@ use Rattle.job_state.specs.declared.holding.Holding.{Holding}
 use Rattle.job_state.specs.declared.holding.Holding.TheVariants as holds
 use Rattle.snapshot_store.specs.Store.{Stored, IsLatest, IsNumbered, is_complete, part_of}
 use Rattle.task_part.specs.declared.part.Part.{Part}
+use Rattle.engine_model.specs.AllRules.{AllRules}
 use Rattle.engine_model.specs.Language.{Language}
 use Rattle.engine_model.specs.Restart.{InTurn, IsInPart, IsStart, AreStarts, Takes, before_tasks, first_start, part_for, openings_of}
 use Rattle.engine_model.specs.State.{State}
@@ -159,25 +160,25 @@ module _ {R K S O : Type 0} (lang : Language R K S O) where
 
 -- ---- the configuration
 
-module _ {R K S O : Type 0} (lang : Language R K S O) (KeyFits : K → Type 0) (RecordFits : R → Type 0) (IsGood : O → S → Type 0) (s : State O R K S) (expanded : IsExpanded s.graph) (operators : HaveOperators s.graph s.operators) (numbered : IsNumbered s.stored)
-    (old new : Ledger) (last : Option ℕ) (starts : List (Start R K S)) (are : AreStarts lang KeyFits RecordFits IsGood s.graph s.operators s.partitions s.stored last starts) (tasks : List (Holding K S))
+module _ {R K S O : Type 0} (rules : AllRules R K S O) (s : State O R K S) (expanded : IsExpanded s.graph) (operators : HaveOperators s.graph s.operators) (numbered : IsNumbered s.stored)
+    (old new : Ledger) (last : Option ℕ) (starts : List (Start R K S)) (are : AreStarts rules s.graph s.operators s.partitions s.stored last starts) (tasks : List (Holding K S))
     (take : InTurn Takes starts (before_tasks old) (record { ledger = new; tasks = tasks })) where
   -- what the tasks hold, and the logs in the channels
   abbrev pub base : Configuration R K S
-  base = record { tasks = λ task. held_state lang.cmp (slice_get tasks task); channels = λ number. opened (openings_of starts) number }
+  base = record { tasks = λ task. held_state rules.lang.cmp (slice_get tasks task); channels = λ number. opened (openings_of starts) number }
 
   abbrev k : Held R K S
   k = begun s.graph tasks (openings_of starts) last
 
   -- the attempt begins there
-  pub begins_there : pruned_run (run_of lang.cmp s.graph k) ≡ pruned_start base
+  pub begins_there : pruned_run (run_of rules.lang.cmp s.graph k) ≡ pruned_start base
   begins_there =
       let plainly : (λ number. map plain_item (items_at k.channels number)) ≡ (λ number. map attempt.Record (base.channels number)) =
-      fun_ext (λ number. ap (map plain_item) (channels_are lang KeyFits RecordFits IsGood s.graph s.operators s.partitions s.stored old new last starts are tasks take number) ∙ plain_records (opened (openings_of starts) number)) in
+      fun_ext (λ number. ap (map plain_item) (channels_are rules s.graph s.operators s.partitions s.stored old new last starts are tasks take number) ∙ plain_records (opened (openings_of starts) number)) in
       ap (λ (f : ℕ → List (attempt.Item R)). (let x : Running R K S = record { attempt = record (pruned (started base)) { channels = f }; number = 0; named = λ task. [] } in x)) plainly
 
-  abbrev at_task : (task : ℕ) (r : Role) → slice_get s.graph.tasks task ≡ Some r → Started lang KeyFits RecordFits IsGood s.graph s.operators s.partitions s.stored old new last starts are tasks take task r
-  at_task task r is = task_started lang KeyFits RecordFits IsGood s.graph s.operators s.partitions s.stored old new last starts are tasks take task r is
+  abbrev at_task : (task : ℕ) (r : Role) → slice_get s.graph.tasks task ≡ Some r → Started rules s.graph s.operators s.partitions s.stored old new last starts are tasks take task r
+  at_task task r is = task_started rules s.graph s.operators s.partitions s.stored old new last starts are tasks take task r is
 
   -- a part of the last complete checkpoint is what its task has taken
   pub record Said (task : ℕ) (p : durable.Part R K S) : Type 0 where
@@ -186,69 +187,69 @@ module _ {R K S O : Type 0} (lang : Language R K S O) (KeyFits : K → Type 0) (
     pub h : Holding K S
     pub there : slice_get tasks task ≡ Some h
     pub taken : IsTaken st h
-    pub is : p ≡ part_view lang.cmp (part_for st)
+    pub is : p ≡ part_view rules.lang.cmp (part_for st)
 
-  said : (n task : ℕ) (r : Role) (p : durable.Part R K S) → last ≡ Some n → slice_get s.graph.tasks task ≡ Some r → part_in lang (part_of s.stored n task) ≡ Some p → Said task p
+  said : (n task : ℕ) (r : Role) (p : durable.Part R K S) → last ≡ Some n → slice_get s.graph.tasks task ≡ Some r → part_in rules.lang (part_of s.stored n task) ≡ Some p → Said task p
   said n task r p e is copy =
       let x = at_task task r is in
-      let from_part : IsInPart lang KeyFits RecordFits IsGood s.graph s.operators s.partitions s.stored n task r x.st = subst (λ (o : Option ℕ). IsStart lang KeyFits RecordFits IsGood s.graph s.operators s.partitions s.stored o task r x.st) e (are.each task r x.st is x.at) in
+      let from_part : IsInPart rules s.graph s.operators s.partitions s.stored n task r x.st = subst (λ (o : Option ℕ). IsStart rules s.graph s.operators s.partitions s.stored o task r x.st) e (are.each task r x.st is x.at) in
       record {
         st = x.st;
         at = x.at;
         h = x.h;
         there = x.there;
         taken = x.taken;
-        is = same_Some p (part_view lang.cmp (part_for x.st)) (sym copy ∙ part_said lang s.stored n task from_part.bytes (part_for x.st) from_part.is_part from_part.reads);
+        is = same_Some p (part_view rules.lang.cmp (part_for x.st)) (sym copy ∙ part_said rules.lang s.stored n task from_part.bytes (part_for x.st) from_part.is_part from_part.reads);
       }
 
-  pub seen_restored : IsSeenRestored (job_of lang s) (devices_with lang s.graph s.stored new) base
+  pub seen_restored : IsSeenRestored (job_of rules.lang s) (devices_with rules.lang s.graph s.stored new) base
   seen_restored = record {
     parts = λ front n e.
         let is_last = latest_last s.stored last front n numbered are.latest e in
         record {
           offsets = λ task p kind is copy.
-              let r = role_of lang s expanded operators task kind is in
+              let r = role_of rules.lang s expanded operators task kind is in
               let x = said n task r.0 p is_last r.1 copy in
-              ap (λ (o : Option (Holding K S)). (held_state {R = R} lang.cmp o).offset) x.there ∙ same_offset lang x.st x.h x.taken ∙ sym (ap (λ (q : durable.Part R K S). q.offset) x.is);
+              ap (λ (o : Option (Holding K S)). (held_state {R = R} rules.lang.cmp o).offset) x.there ∙ same_offset rules.lang x.st x.h x.taken ∙ sym (ap (λ (q : durable.Part R K S). q.offset) x.is);
           states = λ task p kind is copy.
-              let r = role_of lang s expanded operators task kind is in
+              let r = role_of rules.lang s expanded operators task kind is in
               let x = said n task r.0 p is_last r.1 copy in
-              ap (λ (o : Option (Holding K S)). (held_state {R = R} lang.cmp o).states) x.there ∙ same_states lang x.st x.h x.taken ∙ sym (ap (λ (q : durable.Part R K S). q.states) x.is);
+              ap (λ (o : Option (Holding K S)). (held_state {R = R} rules.lang.cmp o).states) x.there ∙ same_states rules.lang x.st x.h x.taken ∙ sym (ap (λ (q : durable.Part R K S). q.states) x.is);
           channels = λ number channel p is copy.
               let r = (expanded.joined number channel is).receiver in
               let x = said n channel.receiver r.role p is_last r.is copy in
-              openings_at lang KeyFits RecordFits IsGood s.graph s.operators s.partitions s.stored last starts are number channel x.st is x.at ∙ view_logs lang.cmp x.st number ∙ sym (ap (λ (q : durable.Part R K S). q.logs number) x.is);
+              openings_at rules s.graph s.operators s.partitions s.stored last starts are number channel x.st is x.at ∙ view_logs rules.lang.cmp x.st number ∙ sym (ap (λ (q : durable.Part R K S). q.logs number) x.is);
         };
     from_start = λ e.
         let is_none = latest_none s.stored last numbered are.latest e in
         ap (λ (f : ℕ → TaskState R K S). (let c : Configuration R K S = record { tasks = f; channels = λ number. opened (openings_of starts) number } in c)) (fun_ext (λ task. fresh_at is_none task))
-        ∙ ap (λ (g : ℕ → List R). (let c : Configuration R K S = record { tasks = λ task. fresh_task; channels = g } in c)) (fun_ext (λ number. openings_first lang KeyFits RecordFits IsGood s.graph s.operators s.partitions s.stored last starts are is_none number));
+        ∙ ap (λ (g : ℕ → List R). (let c : Configuration R K S = record { tasks = λ task. fresh_task; channels = g } in c)) (fun_ext (λ number. openings_first rules s.graph s.operators s.partitions s.stored last starts are is_none number));
     tasks = λ task none.
-        ap (held_state lang.cmp) (past_end tasks task
-        (let long = one_each lang KeyFits RecordFits IsGood s.graph s.operators s.partitions s.stored old new last starts are tasks take in
+        ap (held_state rules.lang.cmp) (past_end tasks task
+        (let long = one_each rules s.graph s.operators s.partitions s.stored old new last starts are tasks take in
         let past = none_within s.graph.tasks task (no_role task none) in
         omega (arith, long, past)));
-    outputs = λ task. no_output lang (slice_get tasks task);
-    channels = λ number none. openings_past lang KeyFits RecordFits IsGood s.graph s.operators s.partitions s.stored last starts are number (no_channel number none);
+    outputs = λ task. no_output rules.lang (slice_get tasks task);
+    channels = λ number none. openings_past rules s.graph s.operators s.partitions s.stored last starts are number (no_channel number none);
   }
     where
-      no_channel : (number : ℕ) → slice_get (job_of lang s).graph.channels number ≡ None → slice_get s.graph.channels number ≡ None
+      no_channel : (number : ℕ) → slice_get (job_of rules.lang s).graph.channels number ≡ None → slice_get s.graph.channels number ≡ None
       no_channel number none = none
 
-      no_role : (task : ℕ) → slice_get (job_of lang s).graph.tasks task ≡ None → slice_get s.graph.tasks task ≡ None
+      no_role : (task : ℕ) → slice_get (job_of rules.lang s).graph.tasks task ≡ None → slice_get s.graph.tasks task ≡ None
       no_role task none = by (slice_get s.graph.tasks task) refl
         where
           by : (o : Option Role) → slice_get s.graph.tasks task ≡ o → slice_get s.graph.tasks task ≡ None
           by None e = e
           by (Some r) e = absurd (none-some (task_of s.operators r) (sym none ∙ tasks-graph_of s.graph s.operators task ∙ ap (option_map (task_of s.operators)) e))
 
-      fresh_at : last ≡ None → (task : ℕ) → held_state {R = R} lang.cmp (slice_get tasks task) ≡ fresh_task
+      fresh_at : last ≡ None → (task : ℕ) → held_state {R = R} rules.lang.cmp (slice_get tasks task) ≡ fresh_task
       fresh_at is_none task = by (slice_get tasks task) refl
         where
-          by : (o : Option (Holding K S)) → slice_get tasks task ≡ o → held_state {R = R} lang.cmp (slice_get tasks task) ≡ fresh_task
-          by None e = ap (held_state lang.cmp) e
+          by : (o : Option (Holding K S)) → slice_get tasks task ≡ o → held_state {R = R} rules.lang.cmp (slice_get tasks task) ≡ fresh_task
+          by None e = ap (held_state rules.lang.cmp) e
           by (Some h) e =
-              let r = as_long tasks s.graph.tasks task h (sym (one_each lang KeyFits RecordFits IsGood s.graph s.operators s.partitions s.stored old new last starts are tasks take)) e in
+              let r = as_long tasks s.graph.tasks task h (sym (one_each rules s.graph s.operators s.partitions s.stored old new last starts are tasks take)) e in
               let x = at_task task r.0 r.1 in
-              let first : x.st ≡ first_start r.0 = subst (λ (o : Option ℕ). IsStart lang KeyFits RecordFits IsGood s.graph s.operators s.partitions s.stored o task r.0 x.st) is_none (are.each task r.0 x.st r.1 x.at) in
-              ap (held_state lang.cmp) x.there ∙ first_held lang r.0 x.h (subst (λ (y : Start R K S). IsTaken y x.h) first x.taken)
+              let first : x.st ≡ first_start r.0 = subst (λ (o : Option ℕ). IsStart rules s.graph s.operators s.partitions s.stored o task r.0 x.st) is_none (are.each task r.0 x.st r.1 x.at) in
+              ap (held_state rules.lang.cmp) x.there ∙ first_held rules.lang r.0 x.h (subst (λ (y : Start R K S). IsTaken y x.h) first x.taken)

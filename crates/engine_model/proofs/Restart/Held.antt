@@ -29,8 +29,8 @@ use Rattle.job_state.specs.declared.holding.Holding.TheVariants as holds
 use Rattle.snapshot_store.specs.Store.{Stored, IsLatest, is_complete}
 use Rattle.task_part.specs.Spelling.{Logs}
 use Rattle.task_part.specs.declared.part.Part.{Part}
+use Rattle.engine_model.specs.AllRules.{AllRules}
 use Rattle.engine_model.specs.Keeps.{HoldsAs, CopyAs, IfRecord, StandsAs, GateFits, barriers_in, Shape, RunsIn}
-use Rattle.engine_model.specs.Language.{Language}
 use Rattle.engine_model.specs.Restart.{InTurn, AreStarts, Takes, before_tasks, openings_of}
 use Rattle.engine_model.specs.State.{State}
 use Rattle.engine_model.specs.declared.start.Start.{Start}
@@ -95,14 +95,14 @@ module _ {R K S : Type 0} (graph : Expanded) (tasks : List (Holding K S)) (openi
       at_rest : StandsAs graph first task AtRest (fresh_gate graph task).inputs
       at_rest input number at = unset (length graph.channels) number false ∙ sym (ap is_some (unset (length tasks) task None))
 
-module _ {R K S O : Type 0} (lang : Language R K S O) (KeyFits : K → Type 0) (RecordFits : R → Type 0) (IsGood : O → S → Type 0) (graph : Expanded) (operators : List O) (partitions : List (List R)) (stored : Stored)
-    (old new : Ledger) (last : Option ℕ) (starts : List (Start R K S)) (are : AreStarts lang KeyFits RecordFits IsGood graph operators partitions stored last starts) (tasks : List (Holding K S))
+module _ {R K S O : Type 0} (rules : AllRules R K S O) (graph : Expanded) (operators : List O) (partitions : List (List R)) (stored : Stored)
+    (old new : Ledger) (last : Option ℕ) (starts : List (Start R K S)) (are : AreStarts rules graph operators partitions stored last starts) (tasks : List (Holding K S))
     (take : InTurn Takes starts (before_tasks old) (record { ledger = new; tasks = tasks })) where
   abbrev k : Held R K S
   k = begun graph tasks (openings_of starts) last
 
   pub for_sinks : AreFor graph 0 starts
-  for_sinks n subtask names logs at = ap (slice_get graph.tasks) (from_first n) ∙ sink_at lang KeyFits RecordFits IsGood graph operators partitions stored last starts are n subtask names logs at
+  for_sinks n subtask names logs at = ap (slice_get graph.tasks) (from_first n) ∙ sink_at rules graph operators partitions stored last starts are n subtask names logs at
 
   pub one_each : length tasks ≡ length graph.tasks
   one_each = takes_length starts (before_tasks old) (record { ledger = new; tasks = tasks }) take ∙ from_first (length starts) ∙ are.one_each
@@ -127,11 +127,11 @@ module _ {R K S O : Type 0} (lang : Language R K S O) (KeyFits : K → Type 0) (
       elim (leb_tells (length graph.channels) number) [
         | inl past ↦
             ap (λ (o : Option (List (Item R))). unwrap_or o []) (made_past (λ n. map Record (opened (openings_of starts) n)) (length graph.channels) number past.1)
-            ∙ sym (ap (map Record) (openings_past lang KeyFits RecordFits IsGood graph operators partitions stored last starts are number (past_end graph.channels number past.1)))
+            ∙ sym (ap (map Record) (openings_past rules graph operators partitions stored last starts are number (past_end graph.channels number past.1)))
         | inr within ↦ ap (λ (o : Option (List (Item R))). unwrap_or o []) (made_at (λ n. map Record (opened (openings_of starts) n)) (length graph.channels) number (let h = within.1 in omega (arith, h)))
       ]
 
-  pub shape : Shape lang.cmp RecordFits IsGood graph operators k
+  pub shape : Shape rules graph operators k
   shape = record {
     tasks = one_each;
     channels = length-map-range_with_len (λ n. map Record (opened (openings_of starts) n)) 0 (length graph.channels);
@@ -148,14 +148,14 @@ module _ {R K S O : Type 0} (lang : Language R K S O) (KeyFits : K → Type 0) (
     only_marked = λ number unmarked. unset (length graph.channels) number [];
     forms = λ task r is.
         let s = started task r is in
-        subst (λ (o : Option (Holding K S)). HoldsAs r o) (sym s.there) (holds_of_kind r s.st s.h (start_of_kind lang KeyFits RecordFits IsGood graph operators partitions stored last task r s.st (are.each task r s.st is s.at)) s.taken);
+        subst (λ (o : Option (Holding K S)). HoldsAs r o) (sym s.there) (holds_of_kind r s.st s.h (start_of_kind rules graph operators partitions stored last task r s.st (are.each task r s.st is s.at)) s.taken);
     copy_forms = λ task r is. subst (λ (o : Option (Part R K S)). CopyAs r o) (sym (unset (length tasks) task None)) (no_copy r);
-    fit = λ number. subst (All (IfRecord RecordFits)) (sym (channels_are number)) (fit_records RecordFits (opened (openings_of starts) number) (openings_fit lang KeyFits RecordFits IsGood graph operators partitions stored last starts are number));
-    logs_fit = λ number. subst (All RecordFits) (sym (unset (length graph.channels) number [])) (All-nil RecordFits);
+    fit = λ number. subst (All (IfRecord rules.RecordFits)) (sym (channels_are number)) (fit_records rules.RecordFits (opened (openings_of starts) number) (openings_fit rules graph operators partitions stored last starts are number));
+    logs_fit = λ number. subst (All rules.RecordFits) (sym (unset (length graph.channels) number [])) (All-nil rules.RecordFits);
     good = λ task number operator entries key state is at there found.
         let s = started task (role.Operator number) is in
         let same : s.h ≡ holds.Operator entries = same_Some s.h (holds.Operator entries) (sym s.there ∙ there) in
-        good_states lang KeyFits RecordFits IsGood graph operators partitions stored last task number s.st entries operator key state (are.each task (role.Operator number) s.st is s.at)
+        good_states rules graph operators partitions stored last task number s.st entries operator key state (are.each task (role.Operator number) s.st is s.at)
         (subst (Rattle.engine_model.proofs.Restart.Starts.IsTaken s.st) same s.taken) at found;
   }
     where
@@ -166,7 +166,7 @@ module _ {R K S O : Type 0} (lang : Language R K S O) (KeyFits : K → Type 0) (
     pub leaves : TakesLeave graph (before_tasks old) (record { ledger = new; tasks = tasks })
     leaves = takes_leave graph expanded starts (before_tasks old) (record { ledger = new; tasks = tasks }) for_sinks ordered (λ place subtask sink is at. absurd (none-some (holds.Sink sink) at)) take
 
-    pub runs : (s : State O R K S) → s.graph ≡ graph → s.stored ≡ stored → s.ledger ≡ new → RunsIn lang s k
+    pub runs : (s : State O R K S) → s.graph ≡ graph → s.stored ≡ stored → s.ledger ≡ new → RunsIn rules.lang s k
     runs s same_graph same_stored same_ledger = record {
       pending = tt;
       last_complete = rw same_stored (known last are.latest);

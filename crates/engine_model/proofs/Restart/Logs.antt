@@ -17,7 +17,7 @@ use Rattle.dataflow_model.specs.Graph.{Channel}
 use Rattle.job_graph.specs.Expanded.{Expanded, meets, is_input, is_marked, inputs_of}
 use Rattle.job_state.specs.Held.{marked_inputs, opened}
 use Rattle.task_part.specs.Spelling.{Logs}
-use Rattle.engine_model.specs.Language.{Language}
+use Rattle.engine_model.specs.AllRules.{AllRules}
 use Rattle.engine_model.specs.Restart.{IsInPart, IsStart, AreStarts, Suits, first_start, part_for, logs_in, openings_of}
 use Rattle.engine_model.specs.View.{log_at, part_view}
 use Rattle.engine_model.specs.declared.start.Start.{Start}
@@ -182,11 +182,11 @@ module _ {R : Type 0} (graph : Expanded) (task : ℕ) (logs : Logs R) (for : Log
             (All-weaker (λ m. meets (is_input task) graph.channels m ≡ true) (λ m. m ≡ number → ⊥) (λ m is e. off (ap (meets (is_input task) graph.channels) (sym e) ∙ is)) (marked_inputs graph task) (marked_are graph task)))
       ]
 
-module _ {R K S O : Type 0} (lang : Language R K S O) (KeyFits : K → Type 0) (RecordFits : R → Type 0) (IsGood : O → S → Type 0) (graph : Expanded) (operators : List O) (partitions : List (List R)) (stored : Stored) (last : Option ℕ)
-    (starts : List (Start R K S)) (are : AreStarts lang KeyFits RecordFits IsGood graph operators partitions stored last starts) where
+module _ {R K S O : Type 0} (rules : AllRules R K S O) (graph : Expanded) (operators : List O) (partitions : List (List R)) (stored : Stored) (last : Option ℕ)
+    (starts : List (Start R K S)) (are : AreStarts rules graph operators partitions stored last starts) where
   record Suited (task : ℕ) (st : Start R K S) : Type 0 where
     pub for : LogsFor graph task (logs_in st)
-    pub fit : All (λ log. All RecordFits log.1) (logs_in st)
+    pub fit : All (λ log. All rules.RecordFits log.1) (logs_in st)
     pub none : last ≡ None → logs_in st ≡ []
 
   suited : (task : ℕ) (st : Start R K S) → slice_get starts task ≡ Some st → Suited task st
@@ -199,8 +199,8 @@ module _ {R K S O : Type 0} (lang : Language R K S O) (KeyFits : K → Type 0) (
       first_none (role.Operator number) = refl
       first_none (role.Sink subtask) = refl
 
-      of_suits : (n : ℕ) → last ≡ Some n → (r : Role) (st : Start R K S) → Suits lang KeyFits RecordFits IsGood graph operators partitions task r st → Suited task st
-      of_suits n e (role.Source partition) (start.Source offset) suits = record { for = inl refl; fit = All-nil (λ (log : ℕ × List R). All RecordFits log.1); none = λ h. refl }
+      of_suits : (n : ℕ) → last ≡ Some n → (r : Role) (st : Start R K S) → Suits rules graph operators partitions task r st → Suited task st
+      of_suits n e (role.Source partition) (start.Source offset) suits = record { for = inl refl; fit = All-nil (λ (log : ℕ × List R). All rules.RecordFits log.1); none = λ h. refl }
       of_suits n e (role.Source partition) (start.Operator entries logs) suits = absurd suits
       of_suits n e (role.Source partition) (start.Sink number names logs) suits = absurd suits
       of_suits n e (role.Operator number) (start.Source offset) suits = absurd suits
@@ -210,13 +210,13 @@ module _ {R K S O : Type 0} (lang : Language R K S O) (KeyFits : K → Type 0) (
       of_suits n e (role.Sink subtask) (start.Operator entries logs) suits = absurd suits
       of_suits n e (role.Sink subtask) (start.Sink number names logs) suits = record { for = inr (suits.1).channels; fit = (suits.1).fit; none = λ h. absurd (none-some n (sym h ∙ e)) }
 
-      by : (o : Option ℕ) → last ≡ o → (r : Role) (st : Start R K S) → IsStart lang KeyFits RecordFits IsGood graph operators partitions stored last task r st → Suited task st
+      by : (o : Option ℕ) → last ≡ o → (r : Role) (st : Start R K S) → IsStart rules graph operators partitions stored last task r st → Suited task st
       by None e r st is =
-          let first : st ≡ first_start r = subst (λ (o : Option ℕ). IsStart lang KeyFits RecordFits IsGood graph operators partitions stored o task r st) e is in
+          let first : st ≡ first_start r = subst (λ (o : Option ℕ). IsStart rules graph operators partitions stored o task r st) e is in
           let none : logs_in st ≡ [] = ap logs_in first ∙ first_none r in
-          record { for = inl none; fit = subst (All (λ log. All RecordFits log.1)) (sym none) (All-nil (λ (log : ℕ × List R). All RecordFits log.1)); none = λ h. none }
+          record { for = inl none; fit = subst (All (λ log. All rules.RecordFits log.1)) (sym none) (All-nil (λ (log : ℕ × List R). All rules.RecordFits log.1)); none = λ h. none }
       by (Some n) e r st is =
-          let from_part : IsInPart lang KeyFits RecordFits IsGood graph operators partitions stored n task r st = subst (λ (o : Option ℕ). IsStart lang KeyFits RecordFits IsGood graph operators partitions stored o task r st) e is in
+          let from_part : IsInPart rules graph operators partitions stored n task r st = subst (λ (o : Option ℕ). IsStart rules graph operators partitions stored o task r st) e is in
           of_suits n e r st from_part.suits
 
   -- a channel holds the log of its receiver
@@ -237,5 +237,5 @@ module _ {R K S O : Type 0} (lang : Language R K S O) (KeyFits : K → Type 0) (
   pub openings_first : last ≡ None → (number : ℕ) → opened (openings_of starts) number ≡ []
   openings_first first number = none_opened number starts (λ j other there. ap (λ (l : Logs R). opened l number) ((suited j other there).none first))
 
-  pub openings_fit : (number : ℕ) → All RecordFits (opened (openings_of starts) number)
-  openings_fit number = opened_fit RecordFits (openings_of starts) number (all_openings (λ log. All RecordFits log.1) starts (λ j other there. (suited j other there).fit))
+  pub openings_fit : (number : ℕ) → All rules.RecordFits (opened (openings_of starts) number)
+  openings_fit number = opened_fit rules.RecordFits (openings_of starts) number (all_openings (λ log. All rules.RecordFits log.1) starts (λ j other there. (suited j other there).fit))

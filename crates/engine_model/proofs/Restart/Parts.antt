@@ -15,12 +15,11 @@ use Rattle.job_graph.specs.PlainGraph.{task_of, operator_task}
 use Rattle.job_graph.specs.declared.role.Role.{Role}
 use Rattle.job_graph.specs.declared.role.Role.TheVariants as role
 use Rattle.job_graph.proofs.PlainTasks.{tasks-graph_of}
-use Rattle.operators.specs.Operator.{IsGoodState}
 use Rattle.snapshot_store.specs.Store.{part_of}
 use Rattle.source_log.specs.Partitions.{records_at}
 use Rattle.task_part.specs.declared.part.Part.{Part}
+use Rattle.engine_model.specs.AllRules.{AllRules}
 use Rattle.engine_model.specs.Keeps.{PartAs, Keeps}
-use Rattle.engine_model.specs.Language.{Language}
 use Rattle.commit_sink.specs.Ledger.{Ledger}
 use Rattle.job_state.specs.Held.{Held}
 use Rattle.engine_model.specs.declared.fault.CoreFault.{CoreFault}
@@ -69,33 +68,33 @@ to_last job old (cut ∷ cuts) s =
     let rest = to_last job cut cuts s.1 in
     (s.0.0 ++ rest.0, join job s.0.0 rest.0 old cut (last_from cut cuts) s.0.1 rest.1)
 
-module _ {R K S O : Type 0} (lang : Language R K S O) (RecordFits : R → Type 0) (KeyFits : K → Type 0) (StateFits : S → Type 0) (Suits : O → S → Type 0) (s : State O R K S) (keeps : Keeps lang RecordFits (IsGoodState StateFits Suits) s) (down : s.held ≡ None) (fresh : s.is_fresh ≡ true)
-    (laws : OperatorsAreLawful lang.meaning lang.cmp RecordFits KeyFits StateFits Suits) (fit : (partition offset : ℕ) (r : R) → slice_get (records_at s.partitions partition) offset ≡ Some r → RecordFits r) where
+module _ {R K S O : Type 0} (rules : AllRules R K S O) (s : State O R K S) (keeps : Keeps rules s) (down : s.held ≡ None) (fresh : s.is_fresh ≡ true)
+    (laws : OperatorsAreLawful rules) (fit : (partition offset : ℕ) (r : R) → slice_get (records_at s.partitions partition) offset ≡ Some r → rules.RecordFits r) where
   abbrev job : Job R K S O
-  job = job_of lang s
+  job = job_of rules.lang s
 
-  abbrev held_sound : IsPrunedSound job (is_logged_in s) lang.spelling (devices_of lang s) None
-  held_sound = sound lang KeyFits RecordFits (IsGoodState StateFits Suits) s keeps down fresh
+  abbrev held_sound : IsPrunedSound job (is_logged_in s) rules.lang.spelling (devices_of rules.lang s) None
+  held_sound = sound rules s keeps down fresh
 
   module _ (last : ℕ) (front : List ℕ) (line : line_of s.stored ≡ front ++ last ∷ []) where
-    abbrev whole : IsSound job (is_logged_in s) lang.spelling (devices_of lang s) held_sound.running
+    abbrev whole : IsSound job (is_logged_in s) rules.lang.spelling (devices_of rules.lang s) held_sound.running
     whole = held_sound.sound
 
     cut : Configuration R K S
     cut = last_from start whole.cuts
 
-    parts : HasParts job (devices_of lang s).store last
+    parts : HasParts job (devices_of rules.lang s).store last
     parts = whole.legal.last_parts front last line
 
-    is_cut : IsCutOf job (devices_of lang s).store last cut
+    is_cut : IsCutOf job (devices_of rules.lang s).store last cut
     unfolding cut
     is_cut =
         let long : length whole.cuts ≡ suc (length front) = whole.legal.one_each ∙ ap length line ∙ longer front last in
         whole.legal.parts (length front) (last_from start whole.cuts) last (last_at start whole.cuts (length front) long) (ap (λ (l : List ℕ). slice_get l (length front)) line ∙ get_last front last) parts
 
-    good : IsGoodAt job lang.cmp RecordFits KeyFits StateFits Suits cut
+    good : IsGoodAt rules job.graph job.partitions cut
     unfolding cut
-    good = let reached = to_last job start whole.cuts whole.legal.successive in runs_good job lang.cmp RecordFits KeyFits StateFits Suits laws fit reached.0 (last_from start whole.cuts) reached.1
+    good = let reached = to_last job start whole.cuts whole.legal.successive in runs_good rules job.graph job.partitions laws fit reached.0 (last_from start whole.cuts) reached.1
 
     is_task_of : (task : ℕ) (r : Role) → slice_get s.graph.tasks task ≡ Some r → slice_get job.graph.tasks task ≡ Some (task_of s.operators r)
     is_task_of task r is = tasks-graph_of s.graph s.operators task ∙ ap (option_map (task_of s.operators)) is
@@ -104,21 +103,21 @@ module _ {R K S O : Type 0} (lang : Language R K S O) (RecordFits : R → Type 0
       pub bytes : List ℕ
       pub there : part_of s.stored last task ≡ Some bytes
       pub p : Part R K S
-      pub reads : Rattle.abs_codec.specs.Reading.whole_of lang.read_part bytes ≡ Ok p
-      pub form : PartAs RecordFits s.graph task r p
-      pub copy : (devices_of lang s).store.parts last task ≡ Some (part_view lang.cmp p)
+      pub reads : Rattle.abs_codec.specs.Reading.whole_of rules.lang.read_part bytes ≡ Ok p
+      pub form : PartAs rules.RecordFits s.graph task r p
+      pub copy : (devices_of rules.lang s).store.parts last task ≡ Some (part_view rules.lang.cmp p)
 
     part_there : (task : ℕ) (r : Role) → slice_get s.graph.tasks task ≡ Some r → PartThere task r
     part_there task r is = by (part_of s.stored last task) refl
       where
-        given : (x : durable.Part R K S) × (part_in lang (part_of s.stored last task) ≡ Some x)
+        given : (x : durable.Part R K S) × (part_in rules.lang (part_of s.stored last task) ≡ Some x)
         given = parts task (task_of s.operators r) (is_task_of task r is)
 
         by : (o : Option (List ℕ)) → part_of s.stored last task ≡ o → PartThere task r
-        by None none = absurd (none-some given.0 (sym (ap (part_in lang) none) ∙ given.1))
+        by None none = absurd (none-some given.0 (sym (ap (part_in rules.lang) none) ∙ given.1))
         by (Some bytes) there =
             let f = keeps.formed fresh last task r bytes is there in
-            record { bytes = bytes; there = there; p = f.0; reads = f.1; form = f.2; copy = part_said lang s.stored last task bytes f.0 there f.1 }
+            record { bytes = bytes; there = there; p = f.0; reads = f.1; form = f.2; copy = part_said rules.lang s.stored last task bytes f.0 there f.1 }
 
     -- what an operator may have is there
     operator_at : (task number : ℕ) → slice_get s.graph.tasks task ≡ Some (role.Operator number) → (operator : O) × (slice_get s.operators number ≡ Some operator)
@@ -133,13 +132,13 @@ module _ {R K S O : Type 0} (lang : Language R K S O) (RecordFits : R → Type 0
         let less = before_place is_source s.graph.tasks task (role.Source partition) refl is in
         omega (arith, n, less, keeps.partitions)
 
-    pub has_start : (task : ℕ) (r : Role) → slice_get s.graph.tasks task ≡ Some r → (st : Start R K S) × IsInPart lang KeyFits RecordFits (IsGoodState StateFits Suits) s.graph s.operators s.partitions s.stored last task r st
+    pub has_start : (task : ℕ) (r : Role) → slice_get s.graph.tasks task ≡ Some r → (st : Start R K S) × IsInPart rules s.graph s.operators s.partitions s.stored last task r st
     has_start task r is = by r is (part_there task r is)
       where
-        by : (r : Role) → slice_get s.graph.tasks task ≡ Some r → PartThere task r → (st : Start R K S) × IsInPart lang KeyFits RecordFits (IsGoodState StateFits Suits) s.graph s.operators s.partitions s.stored last task r st
+        by : (r : Role) → slice_get s.graph.tasks task ≡ Some r → PartThere task r → (st : Start R K S) × IsInPart rules s.graph s.operators s.partitions s.stored last task r st
         by (role.Source partition) is x =
             let offset = (x.form).0 in
-            let said : (cut.tasks task).offset ≡ offset = is_cut.offsets task (part_view lang.cmp x.p) (SourceTask partition) (is_task_of task (role.Source partition) is) x.copy ∙ ap (λ (q : Part R K S). (part_view lang.cmp q).offset) (x.form).1 in (
+            let said : (cut.tasks task).offset ≡ offset = is_cut.offsets task (part_view rules.lang.cmp x.p) (SourceTask partition) (is_task_of task (role.Source partition) is) x.copy ∙ ap (λ (q : Part R K S). (part_view rules.lang.cmp q).offset) (x.form).1 in (
               from.Source offset,
               record {
                 bytes = x.bytes;
@@ -152,7 +151,7 @@ module _ {R K S O : Type 0} (lang : Language R K S O) (RecordFits : R → Type 0
             let entries = (x.form).0 in
             let o = operator_at task number is in
             let kind : slice_get job.graph.tasks task ≡ Some (OperatorTask o.0) = is_task_of task (role.Operator number) is ∙ ap (λ (m : Option O). Some (operator_task m)) o.1 in
-            let said : (cut.tasks task).states ≡ value_at lang.cmp entries = is_cut.states task (part_view lang.cmp x.p) (OperatorTask o.0) kind x.copy ∙ ap (λ (q : Part R K S). (part_view lang.cmp q).states) (x.form).2 in (
+            let said : (cut.tasks task).states ≡ value_at rules.lang.cmp entries = is_cut.states task (part_view rules.lang.cmp x.p) (OperatorTask o.0) kind x.copy ∙ ap (λ (q : Part R K S). (part_view rules.lang.cmp q).states) (x.form).2 in (
               from.Operator entries (x.form).1,
               record {
                 bytes = x.bytes;
@@ -164,18 +163,18 @@ module _ {R K S O : Type 0} (lang : Language R K S O) (RecordFits : R → Type 0
         by (role.Sink subtask) is x =
             (from.Sink subtask (x.form).0 (x.form).1, record { bytes = x.bytes; is_part = x.there; reads = x.reads ∙ ap Ok (x.form).2; suits = (refl, (x.form).3) })
 
-  pub never_broken : (task : ℕ) → IsBroken lang KeyFits RecordFits (IsGoodState StateFits Suits) s.graph s.operators s.partitions s.stored task → ⊥
+  pub never_broken : (task : ℕ) → IsBroken rules s.graph s.operators s.partitions s.stored task → ⊥
   never_broken task b =
       let last_one = last_of_line s.stored b.last keeps.numbered b.latest.0 b.latest.1 in
       let st = has_start b.last last_one.0 last_one.1 task b.role b.is_task in
       b.no_start st.0 st.1
 
   -- no restart is refused for what the devices hold
-  pub never_bad : (ledger : Ledger) (result : Result (Option ℕ × Held R K S) CoreFault) → EndsRestart lang KeyFits RecordFits (IsGoodState StateFits Suits) s.graph s.operators s.partitions s.stored s.ledger ledger result → result ≢ Err BadSnapshot
+  pub never_bad : (ledger : Ledger) (result : Result (Option ℕ × Held R K S) CoreFault) → EndsRestart rules s.graph s.operators s.partitions s.stored s.ledger ledger result → result ≢ Err BadSnapshot
   never_bad ledger result ends e =
-      let bad : EndsRestart lang KeyFits RecordFits (IsGoodState StateFits Suits) s.graph s.operators s.partitions s.stored s.ledger ledger (Err BadSnapshot) =
-      subst (EndsRestart lang KeyFits RecordFits (IsGoodState StateFits Suits) s.graph s.operators s.partitions s.stored s.ledger ledger) e ends in
+      let bad : EndsRestart rules s.graph s.operators s.partitions s.stored s.ledger ledger (Err BadSnapshot) =
+      subst (EndsRestart rules s.graph s.operators s.partitions s.stored s.ledger ledger) e ends in
       elim bad [
         | inl broken ↦ never_broken broken.0.0 broken.0.1
-        | inr p ↦ never_until lang KeyFits RecordFits (IsGoodState StateFits Suits) s keeps down fresh p.last p.starts ledger p.are p.then_ends
+        | inr p ↦ never_until rules s keeps down fresh p.last p.starts ledger p.are p.then_ends
       ]

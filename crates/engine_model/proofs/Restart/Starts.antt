@@ -3,8 +3,8 @@ use Rattle.std.proofs.Common.{◌≡◌, ◌+◌, ◌<◌, Option, Some, None, s
 use Rattle.std.proofs.lemmas.List.{length-append}
 use Rattle.std.proofs.lemmas.Option.{none-some, same_Some, slice_get_within}
 use Rattle.abs_codec.specs.Entries.{value_at}
+use Rattle.engine_model.specs.AllRules.{AllRules, IsGood}
 use Rattle.engine_model.specs.Keeps.{HoldsAs}
-use Rattle.engine_model.specs.Language.{Language}
 use Rattle.engine_model.specs.Restart.{InTurn, IsStart, AreStarts, first_start, Suits, Takes, Settling}
 use Rattle.engine_model.specs.declared.start.Start.{Start}
 use Rattle.engine_model.specs.declared.start.Start.TheVariants as start
@@ -39,8 +39,8 @@ in_front (y ∷ xs) (suc k) x ys at = in_front xs k x ys at
 same_entries : {K S : Type 0} (a b : List (K × S)) → ◌≡◌ {A = Holding K S} (holds.Operator a) (holds.Operator b) → a ≡ b
 same_entries a b e = cc
 
-module _ {R K S O : Type 0} (lang : Language R K S O) (KeyFits : K → Type 0) (RecordFits : R → Type 0) (IsGood : O → S → Type 0) (graph : Expanded) (operators : List O) (partitions : List (List R)) (stored : Stored) where
-  sink_role : (last : Option ℕ) (task : ℕ) (r : Role) (subtask : ℕ) (names : List ℕ) (logs : Logs R) → IsStart lang KeyFits RecordFits IsGood graph operators partitions stored last task r (start.Sink subtask names logs) → r ≡ role.Sink subtask
+module _ {R K S O : Type 0} (rules : AllRules R K S O) (graph : Expanded) (operators : List O) (partitions : List (List R)) (stored : Stored) where
+  sink_role : (last : Option ℕ) (task : ℕ) (r : Role) (subtask : ℕ) (names : List ℕ) (logs : Logs R) → IsStart rules graph operators partitions stored last task r (start.Sink subtask names logs) → r ≡ role.Sink subtask
   sink_role None task (role.Source p) subtask names logs e = absurd cc
   sink_role None task (role.Operator n) subtask names logs e = absurd cc
   sink_role None task (role.Sink s) subtask names logs e = let same : subtask ≡ s = cc in ap role.Sink (sym same)
@@ -49,7 +49,7 @@ module _ {R K S O : Type 0} (lang : Language R K S O) (KeyFits : K → Type 0) (
   sink_role (Some n) task (role.Sink s) subtask names logs is = ap role.Sink (sym (is.suits).0)
 
   -- a start of a sink is for the task of its subtask
-  pub sink_at : (last : Option ℕ) (starts : List (Start R K S)) → AreStarts lang KeyFits RecordFits IsGood graph operators partitions stored last starts
+  pub sink_at : (last : Option ℕ) (starts : List (Start R K S)) → AreStarts rules graph operators partitions stored last starts
       → (task subtask : ℕ) (names : List ℕ) (logs : Logs R) → slice_get starts task ≡ Some (start.Sink subtask names logs) → slice_get graph.tasks task ≡ Some (role.Sink subtask)
   sink_at last starts are task subtask names logs at =
       let r = as_long starts graph.tasks task (start.Sink subtask names logs) (sym are.one_each) at in
@@ -128,8 +128,8 @@ first_of_kind R K S (role.Source partition) = tt
 first_of_kind R K S (role.Operator number) = tt
 first_of_kind R K S (role.Sink subtask) = refl
 
-module _ {R K S O : Type 0} (lang : Language R K S O) (KeyFits : K → Type 0) (RecordFits : R → Type 0) (IsGood : O → S → Type 0) (graph : Expanded) (operators : List O) (partitions : List (List R)) where
-  suits_of_kind : (task : ℕ) (r : Role) (st : Start R K S) → Suits lang KeyFits RecordFits IsGood graph operators partitions task r st → IsOfKind r st
+module _ {R K S O : Type 0} (rules : AllRules R K S O) (graph : Expanded) (operators : List O) (partitions : List (List R)) where
+  suits_of_kind : (task : ℕ) (r : Role) (st : Start R K S) → Suits rules graph operators partitions task r st → IsOfKind r st
   suits_of_kind task (role.Source partition) (start.Source offset) suits = tt
   suits_of_kind task (role.Source partition) (start.Operator entries logs) suits = absurd suits
   suits_of_kind task (role.Source partition) (start.Sink number names logs) suits = absurd suits
@@ -141,21 +141,21 @@ module _ {R K S O : Type 0} (lang : Language R K S O) (KeyFits : K → Type 0) (
   suits_of_kind task (role.Sink subtask) (start.Sink number names logs) suits = suits.0
 
   module _ (stored : Stored) where
-    pub start_of_kind : (last : Option ℕ) (task : ℕ) (r : Role) (st : Start R K S) → IsStart lang KeyFits RecordFits IsGood graph operators partitions stored last task r st → IsOfKind r st
+    pub start_of_kind : (last : Option ℕ) (task : ℕ) (r : Role) (st : Start R K S) → IsStart rules graph operators partitions stored last task r st → IsOfKind r st
     start_of_kind None task r st e = subst (IsOfKind r) (sym e) (first_of_kind R K S r)
     start_of_kind (Some number) task r st is = suits_of_kind task r st is.suits
 
     -- an operator can go on from the states that its task holds
-    pub good_states : (last : Option ℕ) (task number : ℕ) (st : Start R K S) (entries : List (K × S)) (operator : O) (key : K) (state : S) → IsStart lang KeyFits RecordFits IsGood graph operators partitions stored last task (role.Operator number) st
-        → IsTaken st (holds.Operator entries) → slice_get operators number ≡ Some operator → value_at lang.cmp entries key ≡ Some state → IsGood operator state
+    pub good_states : (last : Option ℕ) (task number : ℕ) (st : Start R K S) (entries : List (K × S)) (operator : O) (key : K) (state : S) → IsStart rules graph operators partitions stored last task (role.Operator number) st
+        → IsTaken st (holds.Operator entries) → slice_get operators number ≡ Some operator → value_at rules.lang.cmp entries key ≡ Some state → IsGood rules operator state
     good_states None task number st entries operator key state e taken at found =
         let now : IsTaken {R = R} (start.Operator [] []) (holds.Operator entries) = subst (λ (x : Start R K S). IsTaken x (holds.Operator entries)) e taken in
         let none : entries ≡ [] = same_entries entries [] now in
-        absurd (none-some state (ap (λ (l : List (K × S)). value_at lang.cmp l key) (sym none) ∙ found))
+        absurd (none-some state (ap (λ (l : List (K × S)). value_at rules.lang.cmp l key) (sym none) ∙ found))
     good_states (Some n) task number (start.Source offset) entries operator key state is taken at found = absurd is.suits
     good_states (Some n) task number (start.Operator others logs) entries operator key state is taken at found =
         let same : entries ≡ others = same_entries entries others taken in
         let good = is.suits in
         let one : good.0 ≡ operator = same_Some good.0 operator (sym good.1 ∙ at) in
-        subst (λ (o : O). IsGood o state) one ((good.2 key state (ap (λ (l : List (K × S)). value_at lang.cmp l key) (sym same) ∙ found)).1)
+        subst (λ (o : O). IsGood rules o state) one ((good.2 key state (ap (λ (l : List (K × S)). value_at rules.lang.cmp l key) (sym same) ∙ found)).1)
     good_states (Some n) task number (start.Sink subtask names logs) entries operator key state is taken at found = absurd is.suits

@@ -1,5 +1,5 @@
 -- What a running job holds keeps its shape.
-use Rattle.std.proofs.Common.{◌≡◌, ◌<◌, inl, inr, All, Option, Some, None, is_some, unwrap_or, replicate, slice_get, slice_set, length, ℕ, zero, suc, Bool, true, false, List, [], refl, sym, ap, subst, ◌∙◌, Ordering}
+use Rattle.std.proofs.Common.{◌≡◌, ◌<◌, inl, inr, All, Option, Some, None, is_some, unwrap_or, replicate, slice_get, slice_set, length, ℕ, zero, suc, Bool, true, false, List, [], refl, sym, ap, subst, ◌∙◌}
 use Rattle.std.proofs.lemmas.Bool.Decides.{eqb_tells}
 use Rattle.std.proofs.lemmas.Option.{same_Some, none-some, slice_get_within}
 use Rattle.alignment.specs.Table.{Alignment}
@@ -15,6 +15,7 @@ use Rattle.job_state.specs.Sending.{items_at}
 use Rattle.job_state.specs.declared.holding.Holding.{Holding}
 use Rattle.job_state.specs.declared.holding.Holding.TheVariants as holds
 use Rattle.task_part.specs.declared.part.Part.{Part}
+use Rattle.engine_model.specs.AllRules.{AllRules, IsGood}
 use Rattle.engine_model.specs.Keeps.{HoldsAs, CopyAs, IfRecord, GateFits, AreHeld, AllFit, LogsFit, BarriersStand, CameAfter, Shape}
 use Rattle.std.proofs.lemmas.List.Elements.{All-from_recursion}
 use Rattle.engine_model.proofs.Shape.GatesKept.{fits_same, fits_rest}
@@ -30,7 +31,7 @@ replicate_at (suc n) zero x = refl
 replicate_at (suc n) (suc i) x = replicate_at n i x
 
 -- What a running job holds, but for the barriers in its channels.
-pub record Frame {R K S O : Type 0} (cmp : K → K → Ordering) (RecordFits : R → Type 0) (IsGood : O → S → Type 0) (graph : Expanded) (operators : List O) (held : Held R K S) : Type 0 where
+pub record Frame {R K S O : Type 0} (rules : AllRules R K S O) (graph : Expanded) (operators : List O) (held : Held R K S) : Type 0 where
   pub tasks : length held.tasks ≡ length graph.tasks
   pub channels : length held.channels ≡ length graph.channels
   pub copies : length held.copies ≡ length graph.tasks
@@ -44,13 +45,13 @@ pub record Frame {R K S O : Type 0} (cmp : K → K → Ordering) (RecordFits : R
   pub only_marked : (number : ℕ) → meets is_marked graph.channels number ≡ false → logged_at held number ≡ []
   pub forms : AreHeld graph held
   pub copy_forms : (task : ℕ) (r : Role) → slice_get graph.tasks task ≡ Some r → CopyAs r (copy_at held task)
-  pub fit : AllFit RecordFits held
-  pub logs_fit : LogsFit RecordFits held
+  pub fit : AllFit rules.RecordFits held
+  pub logs_fit : LogsFit rules.RecordFits held
   pub good : (task number : ℕ) (operator : O) (entries : List (K × S)) (key : K) (state : S) → slice_get graph.tasks task ≡ Some (role.Operator number) → slice_get operators number ≡ Some operator
-      → slice_get held.tasks task ≡ Some (holds.Operator entries) → value_at cmp entries key ≡ Some state → IsGood operator state
+      → slice_get held.tasks task ≡ Some (holds.Operator entries) → value_at rules.lang.cmp entries key ≡ Some state → IsGood rules operator state
 
-module _ {R K S O : Type 0} (cmp : K → K → Ordering) (RecordFits : R → Type 0) (IsGood : O → S → Type 0) (graph : Expanded) (operators : List O) (held : Held R K S) where
-  pub frame_of : Shape cmp RecordFits IsGood graph operators held → Frame cmp RecordFits IsGood graph operators held
+module _ {R K S O : Type 0} (rules : AllRules R K S O) (graph : Expanded) (operators : List O) (held : Held R K S) where
+  pub frame_of : Shape rules graph operators held → Frame rules graph operators held
   frame_of shape = record {
     tasks = shape.tasks;
     channels = shape.channels;
@@ -70,7 +71,7 @@ module _ {R K S O : Type 0} (cmp : K → K → Ordering) (RecordFits : R → Typ
     good = shape.good;
   }
 
-  pub shape_with : Frame cmp RecordFits IsGood graph operators held → BarriersStand graph held → CameAfter graph held → Shape cmp RecordFits IsGood graph operators held
+  pub shape_with : Frame rules graph operators held → BarriersStand graph held → CameAfter graph held → Shape rules graph operators held
   shape_with frame barriers came_after = record {
     tasks = frame.tasks;
     channels = frame.channels;
@@ -92,13 +93,13 @@ module _ {R K S O : Type 0} (cmp : K → K → Ordering) (RecordFits : R → Typ
     good = frame.good;
   }
 
-module _ {R K S O : Type 0} (cmp : K → K → Ordering) (RecordFits : R → Type 0) (IsGood : O → S → Type 0) (graph : Expanded) (operators : List O) where
+module _ {R K S O : Type 0} (rules : AllRules R K S O) (graph : Expanded) (operators : List O) where
   abbrev IsShape : Held R K S → Type 0
-  IsShape held = Frame cmp RecordFits IsGood graph operators held
+  IsShape held = Frame rules graph operators held
 
   -- a holding whose states an operator can go on from
   abbrev pub HoldsGood : Role → Holding K S → Type 0
-  HoldsGood r holding = (number : ℕ) (operator : O) (entries : List (K × S)) (key : K) (state : S) → r ≡ role.Operator number → slice_get operators number ≡ Some operator → holding ≡ holds.Operator entries → value_at cmp entries key ≡ Some state → IsGood operator state
+  HoldsGood r holding = (number : ℕ) (operator : O) (entries : List (K × S)) (key : K) (state : S) → r ≡ role.Operator number → slice_get operators number ≡ Some operator → holding ≡ holds.Operator entries → value_at rules.lang.cmp entries key ≡ Some state → IsGood rules operator state
 
   module _ (old : Held R K S) (shape : IsShape old) where
     -- another task's holding
@@ -139,7 +140,7 @@ module _ {R K S O : Type 0} (cmp : K → K → Ordering) (RecordFits : R → Typ
         }
 
     -- other channels
-    pub shape_channels : (channels : List (List (Item R))) → length channels ≡ length old.channels → ((number : ℕ) → All (IfRecord RecordFits) (items_at channels number)) → IsShape (record old { channels = channels })
+    pub shape_channels : (channels : List (List (Item R))) → length channels ≡ length old.channels → ((number : ℕ) → All (IfRecord rules.RecordFits) (items_at channels number)) → IsShape (record old { channels = channels })
     shape_channels channels same fit = record {
       tasks = shape.tasks;
       channels = same ∙ shape.channels;
@@ -161,7 +162,7 @@ module _ {R K S O : Type 0} (cmp : K → K → Ordering) (RecordFits : R → Typ
 
     -- the log of a channel with one record more
     pub shape_logs : (logs : List (List R)) → length logs ≡ length old.logs → ((number : ℕ) → meets is_marked graph.channels number ≡ false → unwrap_or (slice_get logs number) [] ≡ [])
-        → ((number : ℕ) → All RecordFits (unwrap_or (slice_get logs number) [])) → IsShape (record old { logs = logs })
+        → ((number : ℕ) → All rules.RecordFits (unwrap_or (slice_get logs number) [])) → IsShape (record old { logs = logs })
     shape_logs logs same marked fits = record {
       tasks = shape.tasks;
       channels = shape.channels;
@@ -261,6 +262,6 @@ module _ {R K S O : Type 0} (cmp : K → K → Ordering) (RecordFits : R → Typ
       forms = shape.forms;
       copy_forms = λ t r at. rw (replicate_at {A = Option (Part R K S)} (length old.copies) t None) tt;
       fit = shape.fit;
-      logs_fit = λ number. rw (replicate_at {A = List R} (length old.logs) number []) (All-from_recursion RecordFits [] tt);
+      logs_fit = λ number. rw (replicate_at {A = List R} (length old.logs) number []) (All-from_recursion rules.RecordFits [] tt);
       good = shape.good;
     }

@@ -11,16 +11,16 @@ use Rattle.job_graph.specs.declared.role.Role.{Role}
 use Rattle.snapshot_store.specs.Store.{Stored, key_cmp, blank, part_of, with_part, discarded_below}
 use Rattle.snapshot_store.specs.StoreLaws.{part_of-with_part}
 use Rattle.task_part.specs.declared.part.Part.{Part}
+use Rattle.engine_model.specs.AllRules.{AllRules}
 use Rattle.engine_model.specs.Calls.{tidied}
 use Rattle.engine_model.specs.Keeps.{PartAs, PartsAreFormed}
-use Rattle.engine_model.specs.Language.{Language}
 use Rattle.engine_model.proofs.Store.Trigger.{part_of-discarded}
 
-module _ {R K S O : Type 0} (lang : Language R K S O) (RecordFits : R → Type 0) (graph : Expanded) where
-  pub formed_blank : (tasks : ℕ) → PartsAreFormed lang RecordFits graph (blank tasks)
+module _ {R K S O : Type 0} (rules : AllRules R K S O) (graph : Expanded) where
+  pub formed_blank : (tasks : ℕ) → PartsAreFormed rules graph (blank tasks)
   formed_blank tasks n task r bytes is there = absurd (none-some bytes (sym (fin.get-empty key_cmp (n, task)) ∙ there))
 
-  formed_discarded : (stored : Stored) (last : ℕ) → PartsAreFormed lang RecordFits graph stored → PartsAreFormed lang RecordFits graph (discarded_below stored last)
+  formed_discarded : (stored : Stored) (last : ℕ) → PartsAreFormed rules graph stored → PartsAreFormed rules graph (discarded_below stored last)
   formed_discarded stored last formed n task r bytes is there =
       let kept = sym (part_of-discarded stored last n task) ∙ there in
       elim (cases_Bool (nat_lt n last)) [
@@ -28,18 +28,18 @@ module _ {R K S O : Type 0} (lang : Language R K S O) (RecordFits : R → Type 0
         | inr stays ↦ formed n task r bytes is (ap (λ (b : Bool). if b then None else part_of stored n task) (sym stays) ∙ kept)
       ]
 
-  pub formed_tidied : (last : Option ℕ) (stored : Stored) → PartsAreFormed lang RecordFits graph stored → PartsAreFormed lang RecordFits graph (tidied last stored)
+  pub formed_tidied : (last : Option ℕ) (stored : Stored) → PartsAreFormed rules graph stored → PartsAreFormed rules graph (tidied last stored)
   formed_tidied None stored formed = formed
   formed_tidied (Some last) stored formed = formed_discarded stored last formed
 
-  pub formed_put : (stored : Stored) (checkpoint put : ℕ) (bytes : List ℕ) (p : Part R K S) → whole_of lang.read_part bytes ≡ Ok p → ((r : Role) → slice_get graph.tasks put ≡ Some r → PartAs RecordFits graph put r p)
-      → PartsAreFormed lang RecordFits graph stored → PartsAreFormed lang RecordFits graph (with_part stored checkpoint put bytes)
+  pub formed_put : (stored : Stored) (checkpoint put : ℕ) (bytes : List ℕ) (p : Part R K S) → whole_of rules.lang.read_part bytes ≡ Ok p → ((r : Role) → slice_get graph.tasks put ≡ Some r → PartAs rules.RecordFits graph put r p)
+      → PartsAreFormed rules graph stored → PartsAreFormed rules graph (with_part stored checkpoint put bytes)
   formed_put stored checkpoint put bytes p reads form formed n task r found is there =
       let now : cond ((n == checkpoint) && (task == put)) (Some bytes) (part_of stored n task) ≡ Some found = sym (part_of-with_part stored checkpoint put bytes n task) ∙ there in
       elim (cases_Bool ((n == checkpoint) && (task == put))) [
         | inl here ↦
             let same : bytes ≡ found = same_Some bytes found (ap (λ (b : Bool). cond b (Some bytes) (part_of stored n task)) (sym here) ∙ now) in
-            (p, ap (whole_of lang.read_part) (sym same) ∙ reads, subst (λ (t : ℕ). PartAs RecordFits graph t r p) (sym (same_task here)) (form r (ap (slice_get graph.tasks) (sym (same_task here)) ∙ is)))
+            (p, ap (whole_of rules.lang.read_part) (sym same) ∙ reads, subst (λ (t : ℕ). PartAs rules.RecordFits graph t r p) (sym (same_task here)) (form r (ap (slice_get graph.tasks) (sym (same_task here)) ∙ is)))
         | inr off ↦ formed n task r found is (ap (λ (b : Bool). cond b (Some bytes) (part_of stored n task)) (sym off) ∙ now)
       ]
     where

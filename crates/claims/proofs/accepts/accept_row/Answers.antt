@@ -18,4 +18,4 @@ pub put_bytes-requires-clause-logs : goal.put_bytes-requires-clause-logs
 put_bytes-requires-clause-logs g c = channel_in c.args.graph.now c.args.task c.args.input c.in-Some.channel c.args.attempt.now.logs c.in-Some.ensures.some.leads c.requires.serves.1.shape.logs
 
 pub put_bytes-requires-clause-holds : goal.put_bytes-requires-clause-holds
-put_bytes-requires-clause-holds g c = holds_sink _ _ _ _ _ _ _ c.requires.serves.1 c.args.task c.in-Some.ensures.some.subtask c.in-Some.ensures.some.is_sink
+put_bytes-requires-clause-holds g c = holds_sink _ _ _ _ _ c.requires.serves.1 c.args.task c.in-Some.ensures.some.subtask c.in-Some.ensures.some.is_sink

@@ -1,16 +1,15 @@
 use Rattle.std.proofs.Common.{◌≡◌, ◌<◌, ◌+◌, ℕ, List, length}
-use Rattle.abs_codec.specs.Spelling.{Fits}
-use Rattle.engine_model.specs.Language.{language}
 use Rattle.engine.specs.Readers.{pending_in}
 use Rattle.dataflow_model.specs.Machine.{Move}
 use Rattle.engine_rounds.specs.Idle.{IsIdleIn}
 use Rattle.engine_rounds.specs.Turns.{Made}
 use Rattle.engine_rounds.proofs.rounding.round.Given as goal
+use Rattle.engine_model.proofs.RulesOf.{rules_of}
 
 -- as many plain steps were made as turns were taken; and while none was, no task so far has one to make
 abbrev pub invariant-loop-task : goal.invariant-loop-task
 invariant-loop-task g l = record {
-  made : (moves : List Move) × (length moves + l.left ≡ l.fn.left) × Made (language g.O.Operator.meaning g.O.Key.Ord.cmp g.O.Record.Codec.spelling g.O.Record.Codec.reading g.O.Key.Codec.reading g.O.State.Codec.reading) (Fits g.O.Record.Codec.HasSpelling g.O.Record.Codec.spelling) l.fn.engine l.engine moves;
+  made : (moves : List Move) × (length moves + l.left ≡ l.fn.left) × Made (rules_of g.O.Operator g.O.Key.Ord g.O.Record.Codec g.O.Key.Codec g.O.State.Codec) l.fn.engine l.engine moves;
   idle : l.left ≡ l.fn.left → (l.engine ≡ l.fn.engine) × ((t : ℕ) → t < l.task → IsIdleIn l.fn.engine t);
   faults : l.engine.faults ≡ l.fn.engine.faults;
   pending : pending_in l.engine.held ≡ pending_in l.fn.engine.held;

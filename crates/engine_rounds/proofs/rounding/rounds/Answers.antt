@@ -1,23 +1,21 @@
 use Rattle.std.proofs.Common.{◌∙◌, refl}
-use Rattle.abs_codec.specs.Spelling.{Fits}
-use Rattle.engine_model.specs.Language.{language}
 use Rattle.engine_rounds.proofs.Taking.{took_none, took_on, took_round, stopped_on}
+use Rattle.engine_model.proofs.RulesOf.{rules_of}
 use Rattle.engine_rounds.proofs.rounding.rounds.Goals as goal
 
 pub spending-init : goal.spending-init
 spending-init g c = record {
-  made = took_none (language g.O.Operator.meaning g.O.Key.Ord.cmp g.O.Record.Codec.spelling g.O.Record.Codec.reading g.O.Key.Codec.reading g.O.State.Codec.reading) (Fits g.O.Record.Codec.HasSpelling g.O.Record.Codec.spelling) c.args.engine.now c.args.turns c.requires.running;
+  made = took_none (rules_of g.O.Operator g.O.Key.Ord g.O.Record.Codec g.O.Key.Codec g.O.State.Codec) c.args.engine.now c.args.turns c.requires.running;
   faults = refl;
   pending = refl;
 }
 
 pub spending-preserved : goal.spending-preserved
 spending-preserved g c =
-    let lang = language g.O.Operator.meaning g.O.Key.Ord.cmp g.O.Record.Codec.spelling g.O.Record.Codec.reading g.O.Key.Codec.reading g.O.State.Codec.reading in
-    let fits = Fits g.O.Record.Codec.HasSpelling g.O.Record.Codec.spelling in
-    let one = took_round lang fits c.spending.engine c.round.new.engine c.spending.left c.round.new.left c.in-Ok-true.field-0 c.in-Ok-true.field-0-test c.in-Ok-true.ensures.ends in
+    let all = rules_of g.O.Operator g.O.Key.Ord g.O.Record.Codec g.O.Key.Codec g.O.State.Codec in
+    let one = took_round all c.spending.engine c.round.new.engine c.spending.left c.round.new.left c.in-Ok-true.field-0 c.in-Ok-true.field-0-test c.in-Ok-true.ensures.ends in
     record {
-      made = took_on lang fits c.args.engine.now c.spending.engine c.round.new.engine c.args.turns c.spending.left c.round.new.left c.spending.invariant.made one;
+      made = took_on all c.args.engine.now c.spending.engine c.round.new.engine c.args.turns c.spending.left c.round.new.left c.spending.invariant.made one;
       faults = c.in-Ok-true.ensures.counted ∙ c.spending.invariant.faults;
       pending = c.in-Ok-true.ensures.pending ∙ c.spending.invariant.pending;
     }
@@ -25,5 +23,5 @@ spending-preserved g c =
 pub returns-in-Err-clause-ends : goal.returns-in-Err-clause-ends
 returns-in-Err-clause-ends g c =
     let ends = c.in-Err.ensures.ends in
-    stopped_on (language g.O.Operator.meaning g.O.Key.Ord.cmp g.O.Record.Codec.spelling g.O.Record.Codec.reading g.O.Key.Codec.reading g.O.State.Codec.reading) (Fits g.O.Record.Codec.HasSpelling g.O.Record.Codec.spelling) c.args.engine.now c.spending.engine c.round.new.engine c.args.turns c.spending.left c.in-Err.fault
+    stopped_on (rules_of g.O.Operator g.O.Key.Ord g.O.Record.Codec g.O.Key.Codec g.O.State.Codec) c.args.engine.now c.spending.engine c.round.new.engine c.args.turns c.spending.left c.in-Err.fault
     c.spending.invariant.made ends.0 ends.1 ends.2 ends.3

@@ -1,10 +1,10 @@
 use Rattle.std.proofs.Common.{ap}
-use Rattle.abs_codec.specs.Spelling.{Fits}
 use Rattle.commit_sink.specs.Ledger.{Ledger, committed_rows}
 use Rattle.engine_model.specs.Language.{language}
 use Rattle.engine_rounds.proofs.Many.{begins_same}
 use Rattle.engine_rounds.proofs.Turning.{read_turns}
 use Rattle.engine_rounds.proofs.Waiting.{read_turn_waits}
+use Rattle.engine_model.proofs.RulesOf.{rules_of}
 use Rattle.engine_rounds.proofs.turns.read_turn.Goals as goal
 
 pub returns-clause-ends : goal.returns-clause-ends
@@ -13,7 +13,7 @@ returns-clause-ends g c =
     let old = c.args.engine.now in
     let new = c.read.new.self in
     rw c.turned.ensures
-    (read_turns lang (Fits g.O.Record.Codec.HasSpelling g.O.Record.Codec.spelling) old new c.args.task
+    (read_turns (rules_of g.O.Operator g.O.Key.Ord g.O.Record.Codec g.O.Key.Codec g.O.State.Codec) old new c.args.task
     (record {
       goes = c.read.ensures.goes;
       sound = c.read.ensures.sound;

@@ -3,7 +3,7 @@ use Rattle.commit_sink.specs.Ledger.{Ledger, committed_rows}
 use Rattle.engine_rounds.proofs.Many.{begins_same}
 use Rattle.engine_settling.proofs.Bringing.{counted_done}
 use Rattle.engine_settling.proofs.Parts.{inject_part}
-use Rattle.engine_settling.proofs.Rules.{rules_of}
+use Rattle.engine_model.proofs.RulesOf.{rules_of}
 use Rattle.engine_settling.proofs.injecting.inject_source.Goals as goal
 
 pub returns-clause-ends : goal.returns-clause-ends
@@ -12,8 +12,7 @@ returns-clause-ends g c =
     let old = c.args.engine.now in
     let new = c.inject.new.self in
     rw c.done.ensures
-    (inject_part rules.lang rules.RecordFits
-    rules.IsGood old new c.is_fresh.ensures.kept
+    (inject_part rules old new c.is_fresh.ensures.kept
     (record {
       goes = c.inject.ensures.goes;
       sound = c.inject.ensures.sound;

@@ -2,7 +2,7 @@ use Rattle.std.proofs.Common.{ap}
 use Rattle.commit_sink.specs.Ledger.{Ledger, committed_rows}
 use Rattle.engine_rounds.proofs.Many.{begins_same}
 use Rattle.engine_settling.proofs.Ending.{complete_done, complete_fails}
-use Rattle.engine_settling.proofs.Rules.{rules_of}
+use Rattle.engine_model.proofs.RulesOf.{rules_of}
 use Rattle.engine_settling.proofs.putting.complete.Goals as goal
 
 pub returns-in-Ok-clause-ends : goal.returns-in-Ok-clause-ends
@@ -10,7 +10,7 @@ returns-in-Ok-clause-ends g c =
     let rules = rules_of g.O.Operator g.O.Key.Ord g.O.Record.Codec g.O.Key.Codec g.O.State.Codec in
     let old = c.args.engine.now in
     let new = c.complete.new.self in
-    complete_done rules.lang rules.RecordFits rules.IsGood old new c.is_fresh.ensures.kept
+    complete_done rules old new c.is_fresh.ensures.kept
     (record {
       goes = c.in-Ok.ensures.goes;
       sound = c.in-Ok.ensures.sound;
@@ -23,7 +23,7 @@ returns-in-Err-clause-ends g c =
     let rules = rules_of g.O.Operator g.O.Key.Ord g.O.Record.Codec g.O.Key.Codec g.O.State.Codec in
     let old = c.args.engine.now in
     let new = c.complete.new.self in
-    complete_fails rules.lang rules.RecordFits rules.IsGood old new c.is_fresh.ensures.kept
+    complete_fails rules old new c.is_fresh.ensures.kept
     (record {
       goes = c.in-Err.ensures.goes;
       sound = c.in-Err.ensures.sound;

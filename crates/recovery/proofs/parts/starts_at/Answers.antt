@@ -1,11 +1,9 @@
 use Rattle.std.proofs.Common.{rules, arith, length, get_or, ap, [], ◌∷◌}
 use Rattle.std.proofs.lemmas.List.{length-append}
 use Rattle.std.proofs.lemmas.Option.{slice_get-get_or}
-use Rattle.abs_codec.specs.Spelling.{Fits}
 use Rattle.job_graph.specs.declared.role.Role.TheVariants.{Source}
-use Rattle.operators.specs.Operator.{IsGoodState}
-use Rattle.engine_model.specs.Language.{language}
 use Rattle.recovery.proofs.Starting.{task_stops, starts_more}
+use Rattle.engine_model.proofs.RulesOf.{rules_of}
 use Rattle.recovery.proofs.parts.starts_at.Goals as goal
 
 pub loop-task-preserved : goal.loop-task-preserved
@@ -14,7 +12,7 @@ loop-task-preserved g c =
     let st = c.in_ok-start.start in
     record {
       len = omega (arith, ap length c.in_ok-push.ensures.items, length-append starts (st ∷ []), c.loop-task.invariant.len);
-      each = rw c.in_ok-push.ensures.items (starts_more (language g.O.Operator.meaning g.O.Key.Ord.cmp g.O.Record.Codec.spelling g.O.Record.Codec.reading g.O.Key.Codec.reading g.O.State.Codec.reading) (Fits g.O.Key.Codec.HasSpelling g.O.Key.Codec.spelling) (Fits g.O.Record.Codec.HasSpelling g.O.Record.Codec.spelling) (IsGoodState (Fits g.O.State.Codec.HasSpelling g.O.State.Codec.spelling) g.O.Operator.Suits) c.args.graph.now c.args.operators.now (g.P.Partitions.records c.args.log.now) (g.S.SnapshotStore.state c.args.store.now) c.args.last starts c.loop-task.task st c.loop-task.invariant.len c.loop-task.invariant.each (λ q is. let ends = c.in_ok-start.ensures.ends q is in search (rules, ends)));
+      each = rw c.in_ok-push.ensures.items (starts_more (rules_of g.O.Operator g.O.Key.Ord g.O.Record.Codec g.O.Key.Codec g.O.State.Codec) c.args.graph.now c.args.operators.now (g.P.Partitions.records c.args.log.now) (g.S.SnapshotStore.state c.args.store.now) c.args.last starts c.loop-task.task st c.loop-task.invariant.len c.loop-task.invariant.each (λ q is. let ends = c.in_ok-start.ensures.ends q is in search (rules, ends)));
       same = search rules;
       counted = search rules;
     }
@@ -26,5 +24,5 @@ returns-in_err-start-clause-ends g c =
     let r = get_or tasks c.loop-task.task (Source 0) in
     let is = slice_get-get_or tasks c.loop-task.task (Source 0) (omega (arith, as_many)) in
     let ends = c.in_err-start.ensures.ends r is in
-    let stops = task_stops (language g.O.Operator.meaning g.O.Key.Ord.cmp g.O.Record.Codec.spelling g.O.Record.Codec.reading g.O.Key.Codec.reading g.O.State.Codec.reading) (Fits g.O.Key.Codec.HasSpelling g.O.Key.Codec.spelling) (Fits g.O.Record.Codec.HasSpelling g.O.Record.Codec.spelling) (IsGoodState (Fits g.O.State.Codec.HasSpelling g.O.State.Codec.spelling) g.O.Operator.Suits) c.args.graph.now c.args.operators.now (g.P.Partitions.records c.args.log.now) (g.S.SnapshotStore.state c.args.store.now) c.args.last c.loop-task.task r c.in_err-start.field-0.0 c.requires is (search (rules, ends)) in
+    let stops = task_stops (rules_of g.O.Operator g.O.Key.Ord g.O.Record.Codec g.O.Key.Codec g.O.State.Codec) c.args.graph.now c.args.operators.now (g.P.Partitions.records c.args.log.now) (g.S.SnapshotStore.state c.args.store.now) c.args.last c.loop-task.task r c.in_err-start.field-0.0 c.requires is (search (rules, ends)) in
     search (rules, stops)

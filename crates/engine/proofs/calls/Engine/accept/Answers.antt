@@ -10,22 +10,22 @@ use Rattle.engine.proofs.calls.Engine.accept.Goals as goal
 pub invariant_of-self-2 : goal.invariant_of-self-2
 invariant_of-self-2 g c =
     rw c.leave.ensures.left
-    (accept_kept _ _ _ _ c.self.invariant c.in-Some.attempt c.accept-outcome.new.attempt c.in-Some.is (g.X.Transactions.state c.accept-outcome.new.transactions) c.args.task c.args.input c.args.worked c.accept-outcome.result (λ operator. goes_on_of _ _ _ _ g.met.O.Operator.fresh_is_good g.met.O.Operator.state_stays_good g.met.O.Operator.sent_fits operator) _ (rw (← c.deref.ensures.value) c.accept-outcome.ensures.ends) (g.met.X.Transactions.ordered c.accept-outcome.new.transactions)).0
+    (accept_kept _ _ c.self.invariant c.in-Some.attempt c.accept-outcome.new.attempt c.in-Some.is (g.X.Transactions.state c.accept-outcome.new.transactions) c.args.task c.args.input c.args.worked c.accept-outcome.result (λ operator. goes_on_of _ g.met.O.Operator.fresh_is_good g.met.O.Operator.state_stays_good g.met.O.Operator.sent_fits operator) _ (rw (← c.deref.ensures.value) c.accept-outcome.ensures.ends) (g.met.X.Transactions.ordered c.accept-outcome.new.transactions)).0
 
 pub returns-clause-goes : goal.returns-clause-goes
 returns-clause-goes g c =
     rw (← c.self.view_is, c.leave.ensures.left)
-    (accept_kept _ _ _ _ c.self.invariant c.in-Some.attempt c.accept-outcome.new.attempt c.in-Some.is (g.X.Transactions.state c.accept-outcome.new.transactions) c.args.task c.args.input c.args.worked c.accept-outcome.result (λ operator. goes_on_of _ _ _ _ g.met.O.Operator.fresh_is_good g.met.O.Operator.state_stays_good g.met.O.Operator.sent_fits operator) 0 (rw (← c.deref.ensures.value) c.accept-outcome.ensures.ends) (g.met.X.Transactions.ordered c.accept-outcome.new.transactions)).1
+    (accept_kept _ _ c.self.invariant c.in-Some.attempt c.accept-outcome.new.attempt c.in-Some.is (g.X.Transactions.state c.accept-outcome.new.transactions) c.args.task c.args.input c.args.worked c.accept-outcome.result (λ operator. goes_on_of _ g.met.O.Operator.fresh_is_good g.met.O.Operator.state_stays_good g.met.O.Operator.sent_fits operator) 0 (rw (← c.deref.ensures.value) c.accept-outcome.ensures.ends) (g.met.X.Transactions.ordered c.accept-outcome.new.transactions)).1
 
 pub returns-clause-plain : goal.returns-clause-plain
 returns-clause-plain g c =
     rw (← c.self.view_is, c.leave.ensures.left, c.leave.ensures.answer)
-    (accept_is_plain _ _ _ _ c.self.invariant c.in-Some.attempt c.accept-outcome.new.attempt c.in-Some.is (g.X.Transactions.state c.accept-outcome.new.transactions) c.args.task c.args.input c.args.worked c.accept-outcome.result (λ operator. goes_on_of _ _ _ _ g.met.O.Operator.fresh_is_good g.met.O.Operator.state_stays_good g.met.O.Operator.sent_fits operator) _ (rw (← c.deref.ensures.value) c.accept-outcome.ensures.ends))
+    (accept_is_plain _ _ c.self.invariant c.in-Some.attempt c.accept-outcome.new.attempt c.in-Some.is (g.X.Transactions.state c.accept-outcome.new.transactions) c.args.task c.args.input c.args.worked c.accept-outcome.result (λ operator. goes_on_of _ g.met.O.Operator.fresh_is_good g.met.O.Operator.state_stays_good g.met.O.Operator.sent_fits operator) _ (rw (← c.deref.ensures.value) c.accept-outcome.ensures.ends))
 
 pub returns-clause-begins : goal.returns-clause-begins
 returns-clause-begins g c =
     rw (← c.self.view_is)
-    (withdraws _ _ _ _ c.self.invariant (g.X.Transactions.state c.accept-outcome.new.transactions) _ 0 (g.met.X.Transactions.ordered c.accept-outcome.new.transactions) (accept_kept _ _ _ _ c.self.invariant c.in-Some.attempt c.accept-outcome.new.attempt c.in-Some.is (g.X.Transactions.state c.accept-outcome.new.transactions) c.args.task c.args.input c.args.worked c.accept-outcome.result (λ operator. goes_on_of _ _ _ _ g.met.O.Operator.fresh_is_good g.met.O.Operator.state_stays_good g.met.O.Operator.sent_fits operator) 0 (rw (← c.deref.ensures.value) c.accept-outcome.ensures.ends) (g.met.X.Transactions.ordered c.accept-outcome.new.transactions)).1)
+    (withdraws _ _ c.self.invariant (g.X.Transactions.state c.accept-outcome.new.transactions) _ 0 (g.met.X.Transactions.ordered c.accept-outcome.new.transactions) (accept_kept _ _ c.self.invariant c.in-Some.attempt c.accept-outcome.new.attempt c.in-Some.is (g.X.Transactions.state c.accept-outcome.new.transactions) c.args.task c.args.input c.args.worked c.accept-outcome.result (λ operator. goes_on_of _ g.met.O.Operator.fresh_is_good g.met.O.Operator.state_stays_good g.met.O.Operator.sent_fits operator) 0 (rw (← c.deref.ensures.value) c.accept-outcome.ensures.ends) (g.met.X.Transactions.ordered c.accept-outcome.new.transactions)).1)
 
 pub returns-in_default-clause-begins : goal.returns-in_default-clause-begins
 returns-in_default-clause-begins g c =
@@ -35,7 +35,7 @@ returns-in_default-clause-begins g c =
 pub returns-clause-sound : goal.returns-clause-sound
 returns-clause-sound g c =
     rw (← c.self.view_is, c.leave.ensures.left)
-    (λ sound. sound_as_fresh _ _ _ _ (accept_kept _ _ _ _ (keeps_as_fresh _ _ _ _ c.self.invariant sound) c.in-Some.attempt c.accept-outcome.new.attempt c.in-Some.is (g.X.Transactions.state c.accept-outcome.new.transactions) c.args.task c.args.input c.args.worked c.accept-outcome.result (λ operator. goes_on_of _ _ _ _ g.met.O.Operator.fresh_is_good g.met.O.Operator.state_stays_good g.met.O.Operator.sent_fits operator) _ (rw (← c.deref.ensures.value) c.accept-outcome.ensures.ends) (g.met.X.Transactions.ordered c.accept-outcome.new.transactions)).0)
+    (λ sound. sound_as_fresh _ _ (accept_kept _ _ (keeps_as_fresh _ _ c.self.invariant sound) c.in-Some.attempt c.accept-outcome.new.attempt c.in-Some.is (g.X.Transactions.state c.accept-outcome.new.transactions) c.args.task c.args.input c.args.worked c.accept-outcome.result (λ operator. goes_on_of _ g.met.O.Operator.fresh_is_good g.met.O.Operator.state_stays_good g.met.O.Operator.sent_fits operator) _ (rw (← c.deref.ensures.value) c.accept-outcome.ensures.ends) (g.met.X.Transactions.ordered c.accept-outcome.new.transactions)).0)
 
 pub returns-clause-counted : goal.returns-clause-counted
 returns-clause-counted g c =

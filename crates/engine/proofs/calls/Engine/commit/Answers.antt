@@ -10,32 +10,32 @@ use Rattle.engine.proofs.calls.Engine.commit.Goals as goal
 pub invariant_of-self-2 : goal.invariant_of-self-2
 invariant_of-self-2 g c =
     rw c.leave.ensures.left
-    (keeps_commit _ _ _ _ c.self.invariant c.in-Some.attempt c.in-Some.is c.args.sink c.commit-outcome.new.attempt (g.X.Transactions.state c.commit-outcome.new.transactions) _ c.commit-outcome.result c.commit-outcome.ensures.ends).0
+    (keeps_commit _ _ c.self.invariant c.in-Some.attempt c.in-Some.is c.args.sink c.commit-outcome.new.attempt (g.X.Transactions.state c.commit-outcome.new.transactions) _ c.commit-outcome.result c.commit-outcome.ensures.ends).0
 
 pub returns-clause-goes : goal.returns-clause-goes
 returns-clause-goes g c =
     rw (← c.self.view_is, c.leave.ensures.left)
-    (keeps_commit _ _ _ _ c.self.invariant c.in-Some.attempt c.in-Some.is c.args.sink c.commit-outcome.new.attempt (g.X.Transactions.state c.commit-outcome.new.transactions) 0 c.commit-outcome.result c.commit-outcome.ensures.ends).1
+    (keeps_commit _ _ c.self.invariant c.in-Some.attempt c.in-Some.is c.args.sink c.commit-outcome.new.attempt (g.X.Transactions.state c.commit-outcome.new.transactions) 0 c.commit-outcome.result c.commit-outcome.ensures.ends).1
 
 pub returns-clause-stays : goal.returns-clause-stays
 returns-clause-stays g c =
     rw (← c.self.view_is, c.leave.ensures.left)
-    (plain_commit _ _ _ _ c.in-Some.attempt c.commit-outcome.new.attempt 0 c.args.sink (g.X.Transactions.state c.commit-outcome.new.transactions) c.self.invariant c.in-Some.is c.commit-outcome.result c.commit-outcome.ensures.ends)
+    (plain_commit _ _ c.in-Some.attempt c.commit-outcome.new.attempt 0 c.args.sink (g.X.Transactions.state c.commit-outcome.new.transactions) c.self.invariant c.in-Some.is c.commit-outcome.result c.commit-outcome.ensures.ends)
 
 pub returns-clause-reaches : goal.returns-clause-reaches
 returns-clause-reaches g c =
     rw (← c.self.view_is, c.leave.ensures.answer)
-    (λ sound. reaches _ _ _ _ c.self.invariant c.in-Some.attempt c.in-Some.is sound c.args.sink c.commit-outcome.new.attempt (g.X.Transactions.state c.commit-outcome.new.transactions) c.commit-outcome.result c.commit-outcome.ensures.ends)
+    (λ sound. reaches _ _ c.self.invariant c.in-Some.attempt c.in-Some.is sound c.args.sink c.commit-outcome.new.attempt (g.X.Transactions.state c.commit-outcome.new.transactions) c.commit-outcome.result c.commit-outcome.ensures.ends)
 
 pub returns-clause-begins : goal.returns-clause-begins
 returns-clause-begins g c =
     rw (← c.self.view_is)
-    (withdraws _ _ _ _ c.self.invariant (g.X.Transactions.state c.commit-outcome.new.transactions) _ 0 (g.met.X.Transactions.ordered c.commit-outcome.new.transactions) (keeps_commit _ _ _ _ c.self.invariant c.in-Some.attempt c.in-Some.is c.args.sink c.commit-outcome.new.attempt (g.X.Transactions.state c.commit-outcome.new.transactions) 0 c.commit-outcome.result c.commit-outcome.ensures.ends).1)
+    (withdraws _ _ c.self.invariant (g.X.Transactions.state c.commit-outcome.new.transactions) _ 0 (g.met.X.Transactions.ordered c.commit-outcome.new.transactions) (keeps_commit _ _ c.self.invariant c.in-Some.attempt c.in-Some.is c.args.sink c.commit-outcome.new.attempt (g.X.Transactions.state c.commit-outcome.new.transactions) 0 c.commit-outcome.result c.commit-outcome.ensures.ends).1)
 
 pub returns-clause-sound : goal.returns-clause-sound
 returns-clause-sound g c =
     rw (← c.self.view_is, c.leave.ensures.left)
-    (λ sound. sound_as_fresh _ _ _ _ (keeps_commit _ _ _ _ (keeps_as_fresh _ _ _ _ c.self.invariant sound) c.in-Some.attempt c.in-Some.is c.args.sink c.commit-outcome.new.attempt (g.X.Transactions.state c.commit-outcome.new.transactions) _ c.commit-outcome.result c.commit-outcome.ensures.ends).0)
+    (λ sound. sound_as_fresh _ _ (keeps_commit _ _ (keeps_as_fresh _ _ c.self.invariant sound) c.in-Some.attempt c.in-Some.is c.args.sink c.commit-outcome.new.attempt (g.X.Transactions.state c.commit-outcome.new.transactions) _ c.commit-outcome.result c.commit-outcome.ensures.ends).0)
 
 pub returns-clause-counted : goal.returns-clause-counted
 returns-clause-counted g c =

@@ -10,7 +10,7 @@ use Rattle.engine.proofs.Counting.{complete_counted}
 use Rattle.engine.proofs.calls.Engine.complete.Goals as goal
 
 pub complete-outcome-requires-clause-may : goal.complete-outcome-requires-clause-may
-complete-outcome-requires-clause-may g c = completes _ _ _ _ c.self.invariant c.in-Some.attempt c.in-Some.is
+complete-outcome-requires-clause-may g c = completes _ _ c.self.invariant c.in-Some.attempt c.in-Some.is
 
 pub complete-outcome-requires-clause-ready : goal.complete-outcome-requires-clause-ready
 complete-outcome-requires-clause-ready g c = λ n pending ready. coordinator_completes (c.in-Some.attempt).coordination n pending ready
@@ -18,30 +18,30 @@ complete-outcome-requires-clause-ready g c = λ n pending ready. coordinator_com
 pub invariant_of-self-2 : goal.invariant_of-self-2
 invariant_of-self-2 g c =
     rw c.leave.ensures.left
-    (keeps_complete _ _ _ _ c.self.invariant c.in-Some.attempt c.in-Some.is c.complete-outcome.new.attempt (g.S.SnapshotStore.state c.complete-outcome.new.store) _ (g.met.S.SnapshotStore.numbered c.complete-outcome.new.store) c.complete-outcome.result c.complete-outcome.ensures.ends).0
+    (keeps_complete _ _ c.self.invariant c.in-Some.attempt c.in-Some.is c.complete-outcome.new.attempt (g.S.SnapshotStore.state c.complete-outcome.new.store) _ (g.met.S.SnapshotStore.numbered c.complete-outcome.new.store) c.complete-outcome.result c.complete-outcome.ensures.ends).0
 
 pub returns-clause-goes : goal.returns-clause-goes
 returns-clause-goes g c =
     rw (← c.self.view_is, c.leave.ensures.left)
-    (keeps_complete _ _ _ _ c.self.invariant c.in-Some.attempt c.in-Some.is c.complete-outcome.new.attempt (g.S.SnapshotStore.state c.complete-outcome.new.store) 0 (g.met.S.SnapshotStore.numbered c.complete-outcome.new.store) c.complete-outcome.result c.complete-outcome.ensures.ends).1
+    (keeps_complete _ _ c.self.invariant c.in-Some.attempt c.in-Some.is c.complete-outcome.new.attempt (g.S.SnapshotStore.state c.complete-outcome.new.store) 0 (g.met.S.SnapshotStore.numbered c.complete-outcome.new.store) c.complete-outcome.result c.complete-outcome.ensures.ends).1
 
 pub returns-clause-stays : goal.returns-clause-stays
 returns-clause-stays g c =
     rw (← c.self.view_is, c.leave.ensures.left)
-    (complete_stays _ _ _ _ c.self.invariant c.in-Some.attempt c.complete-outcome.new.attempt c.in-Some.is (g.S.SnapshotStore.state c.complete-outcome.new.store) c.complete-outcome.result c.complete-outcome.ensures.ends)
+    (complete_stays _ _ c.self.invariant c.in-Some.attempt c.complete-outcome.new.attempt c.in-Some.is (g.S.SnapshotStore.state c.complete-outcome.new.store) c.complete-outcome.result c.complete-outcome.ensures.ends)
 
 pub returns-clause-whole : goal.returns-clause-whole
-returns-clause-whole g c = rw c.leave.ensures.answer (whole _ _ _ _ c.self.invariant c.in-Some.attempt c.in-Some.is (g.S.SnapshotStore.state c.complete-outcome.new.store) c.complete-outcome.new.attempt c.complete-outcome.result c.complete-outcome.ensures.ends)
+returns-clause-whole g c = rw c.leave.ensures.answer (whole _ _ c.self.invariant c.in-Some.attempt c.in-Some.is (g.S.SnapshotStore.state c.complete-outcome.new.store) c.complete-outcome.new.attempt c.complete-outcome.result c.complete-outcome.ensures.ends)
 
 pub returns-clause-cut : goal.returns-clause-cut
 returns-clause-cut g c =
     rw (← c.self.view_is, c.leave.ensures.answer)
-    (cut_if_ok _ _ _ _ c.self.invariant c.in-Some.attempt c.in-Some.is c.complete-outcome.new.attempt (g.S.SnapshotStore.state c.complete-outcome.new.store) c.complete-outcome.result c.complete-outcome.ensures.ends)
+    (cut_if_ok _ _ c.self.invariant c.in-Some.attempt c.in-Some.is c.complete-outcome.new.attempt (g.S.SnapshotStore.state c.complete-outcome.new.store) c.complete-outcome.result c.complete-outcome.ensures.ends)
 
 pub returns-clause-sound : goal.returns-clause-sound
 returns-clause-sound g c =
     rw (← c.self.view_is, c.leave.ensures.left)
-    (λ sound. sound_as_fresh _ _ _ _ (keeps_complete _ _ _ _ (keeps_as_fresh _ _ _ _ c.self.invariant sound) c.in-Some.attempt c.in-Some.is c.complete-outcome.new.attempt (g.S.SnapshotStore.state c.complete-outcome.new.store) _ (g.met.S.SnapshotStore.numbered c.complete-outcome.new.store) c.complete-outcome.result c.complete-outcome.ensures.ends).0)
+    (λ sound. sound_as_fresh _ _ (keeps_complete _ _ (keeps_as_fresh _ _ c.self.invariant sound) c.in-Some.attempt c.in-Some.is c.complete-outcome.new.attempt (g.S.SnapshotStore.state c.complete-outcome.new.store) _ (g.met.S.SnapshotStore.numbered c.complete-outcome.new.store) c.complete-outcome.result c.complete-outcome.ensures.ends).0)
 
 pub returns-clause-counted : goal.returns-clause-counted
 returns-clause-counted g c =
@@ -57,4 +57,4 @@ returns-clause-counted g c =
 pub returns-clause-reached : goal.returns-clause-reached
 returns-clause-reached g c =
     rw (← c.self.view_is, c.leave.ensures.answer)
-    (λ sound. reached_if_ok _ _ _ _ (keeps_as_fresh _ _ _ _ c.self.invariant sound) refl c.in-Some.attempt c.in-Some.is c.complete-outcome.new.attempt (g.S.SnapshotStore.state c.complete-outcome.new.store) (g.met.S.SnapshotStore.numbered c.complete-outcome.new.store) c.complete-outcome.result c.complete-outcome.ensures.ends)
+    (λ sound. reached_if_ok _ _ (keeps_as_fresh _ _ c.self.invariant sound) refl c.in-Some.attempt c.in-Some.is c.complete-outcome.new.attempt (g.S.SnapshotStore.state c.complete-outcome.new.store) (g.met.S.SnapshotStore.numbered c.complete-outcome.new.store) c.complete-outcome.result c.complete-outcome.ensures.ends)

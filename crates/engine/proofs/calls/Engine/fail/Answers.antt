@@ -3,7 +3,7 @@ use Rattle.engine_model.proofs.Sounds.{keeps_as_fresh, sound_as_fresh}
 use Rattle.engine.proofs.calls.Engine.fail.Goals as goal
 
 pub returns-clause-goes : goal.returns-clause-goes
-returns-clause-goes g c = rw (← c.self.view_is) (keeps_fail _ _ _ _ c.self.invariant 0).1
+returns-clause-goes g c = rw (← c.self.view_is) (keeps_fail _ _ c.self.invariant 0).1
 
 pub returns-clause-sound : goal.returns-clause-sound
-returns-clause-sound g c = rw (← c.self.view_is) (λ sound. sound_as_fresh _ _ _ _ (keeps_fail _ _ _ _ (keeps_as_fresh _ _ _ _ c.self.invariant sound) _).0)
+returns-clause-sound g c = rw (← c.self.view_is) (λ sound. sound_as_fresh _ _ (keeps_fail _ _ (keeps_as_fresh _ _ c.self.invariant sound) _).0)

@@ -8,17 +8,17 @@ use Rattle.engine.proofs.calls.Engine.inject.Goals as goal
 pub invariant_of-self-2 : goal.invariant_of-self-2
 invariant_of-self-2 g c =
     rw c.leave.ensures.left
-    (keeps_inject _ _ _ _ c.in-Some.attempt c.inject-outcome.new.attempt _ c.args.task c.self.invariant c.in-Some.is c.inject-outcome.result c.inject-outcome.ensures).0
+    (keeps_inject _ _ c.in-Some.attempt c.inject-outcome.new.attempt _ c.args.task c.self.invariant c.in-Some.is c.inject-outcome.result c.inject-outcome.ensures).0
 
 pub returns-clause-goes : goal.returns-clause-goes
 returns-clause-goes g c =
     rw (← c.self.view_is, c.leave.ensures.left)
-    (keeps_inject _ _ _ _ c.in-Some.attempt c.inject-outcome.new.attempt 0 c.args.task c.self.invariant c.in-Some.is c.inject-outcome.result c.inject-outcome.ensures).1
+    (keeps_inject _ _ c.in-Some.attempt c.inject-outcome.new.attempt 0 c.args.task c.self.invariant c.in-Some.is c.inject-outcome.result c.inject-outcome.ensures).1
 
 pub returns-clause-stays : goal.returns-clause-stays
 returns-clause-stays g c =
     rw (← c.self.view_is, c.leave.ensures.left)
-    (plain_inject _ _ _ _ c.in-Some.attempt c.inject-outcome.new.attempt 0 c.args.task c.self.invariant c.in-Some.is c.inject-outcome.result c.inject-outcome.ensures)
+    (plain_inject _ _ c.in-Some.attempt c.inject-outcome.new.attempt 0 c.args.task c.self.invariant c.in-Some.is c.inject-outcome.result c.inject-outcome.ensures)
 
 pub returns-clause-ends : goal.returns-clause-ends
 returns-clause-ends g c =
@@ -28,7 +28,7 @@ returns-clause-ends g c =
 pub returns-clause-sound : goal.returns-clause-sound
 returns-clause-sound g c =
     rw (← c.self.view_is, c.leave.ensures.left)
-    (λ sound. sound_as_fresh _ _ _ _ (keeps_inject _ _ _ _ c.in-Some.attempt c.inject-outcome.new.attempt _ c.args.task (keeps_as_fresh _ _ _ _ c.self.invariant sound) c.in-Some.is c.inject-outcome.result c.inject-outcome.ensures).0)
+    (λ sound. sound_as_fresh _ _ (keeps_inject _ _ c.in-Some.attempt c.inject-outcome.new.attempt _ c.args.task (keeps_as_fresh _ _ c.self.invariant sound) c.in-Some.is c.inject-outcome.result c.inject-outcome.ensures).0)
 
 pub returns-clause-counted : goal.returns-clause-counted
 returns-clause-counted g c =

@@ -9,22 +9,22 @@ use Rattle.engine.proofs.calls.Engine.persist.Goals as goal
 pub invariant_of-self-2 : goal.invariant_of-self-2
 invariant_of-self-2 g c =
     rw c.leave.ensures.left
-    (keeps_persist _ _ _ _ c.self.invariant c.in-Some.attempt c.in-Some.is c.args.task c.persist-outcome.new.attempt (g.S.SnapshotStore.state c.persist-outcome.new.store) _ (part_spelling g.O.Record.Codec.spelling g.O.Key.Codec.spelling g.O.State.Codec.spelling) (g.met.S.SnapshotStore.numbered c.persist-outcome.new.store) c.persist-outcome.result c.persist-outcome.ensures.readable c.persist-outcome.ensures.ends).0
+    (keeps_persist _ _ c.self.invariant c.in-Some.attempt c.in-Some.is c.args.task c.persist-outcome.new.attempt (g.S.SnapshotStore.state c.persist-outcome.new.store) _ (part_spelling g.O.Record.Codec.spelling g.O.Key.Codec.spelling g.O.State.Codec.spelling) (g.met.S.SnapshotStore.numbered c.persist-outcome.new.store) c.persist-outcome.result c.persist-outcome.ensures.readable c.persist-outcome.ensures.ends).0
 
 pub returns-clause-goes : goal.returns-clause-goes
 returns-clause-goes g c =
     rw (← c.self.view_is, c.leave.ensures.left)
-    (keeps_persist _ _ _ _ c.self.invariant c.in-Some.attempt c.in-Some.is c.args.task c.persist-outcome.new.attempt (g.S.SnapshotStore.state c.persist-outcome.new.store) 0 (part_spelling g.O.Record.Codec.spelling g.O.Key.Codec.spelling g.O.State.Codec.spelling) (g.met.S.SnapshotStore.numbered c.persist-outcome.new.store) c.persist-outcome.result c.persist-outcome.ensures.readable c.persist-outcome.ensures.ends).1
+    (keeps_persist _ _ c.self.invariant c.in-Some.attempt c.in-Some.is c.args.task c.persist-outcome.new.attempt (g.S.SnapshotStore.state c.persist-outcome.new.store) 0 (part_spelling g.O.Record.Codec.spelling g.O.Key.Codec.spelling g.O.State.Codec.spelling) (g.met.S.SnapshotStore.numbered c.persist-outcome.new.store) c.persist-outcome.result c.persist-outcome.ensures.readable c.persist-outcome.ensures.ends).1
 
 pub returns-clause-stays : goal.returns-clause-stays
 returns-clause-stays g c =
     rw (← c.self.view_is, c.leave.ensures.left)
-    (persist_stays _ _ _ _ c.self.invariant c.in-Some.attempt c.persist-outcome.new.attempt c.in-Some.is (g.S.SnapshotStore.state c.persist-outcome.new.store) c.args.task (part_spelling g.O.Record.Codec.spelling g.O.Key.Codec.spelling g.O.State.Codec.spelling) c.persist-outcome.result c.persist-outcome.ensures.ends)
+    (persist_stays _ _ c.self.invariant c.in-Some.attempt c.persist-outcome.new.attempt c.in-Some.is (g.S.SnapshotStore.state c.persist-outcome.new.store) c.args.task (part_spelling g.O.Record.Codec.spelling g.O.Key.Codec.spelling g.O.State.Codec.spelling) c.persist-outcome.result c.persist-outcome.ensures.ends)
 
 pub returns-clause-sound : goal.returns-clause-sound
 returns-clause-sound g c =
     rw (← c.self.view_is, c.leave.ensures.left)
-    (λ sound. sound_as_fresh _ _ _ _ (keeps_persist _ _ _ _ (keeps_as_fresh _ _ _ _ c.self.invariant sound) c.in-Some.attempt c.in-Some.is c.args.task c.persist-outcome.new.attempt (g.S.SnapshotStore.state c.persist-outcome.new.store) _ (part_spelling g.O.Record.Codec.spelling g.O.Key.Codec.spelling g.O.State.Codec.spelling) (g.met.S.SnapshotStore.numbered c.persist-outcome.new.store) c.persist-outcome.result c.persist-outcome.ensures.readable c.persist-outcome.ensures.ends).0)
+    (λ sound. sound_as_fresh _ _ (keeps_persist _ _ (keeps_as_fresh _ _ c.self.invariant sound) c.in-Some.attempt c.in-Some.is c.args.task c.persist-outcome.new.attempt (g.S.SnapshotStore.state c.persist-outcome.new.store) _ (part_spelling g.O.Record.Codec.spelling g.O.Key.Codec.spelling g.O.State.Codec.spelling) (g.met.S.SnapshotStore.numbered c.persist-outcome.new.store) c.persist-outcome.result c.persist-outcome.ensures.readable c.persist-outcome.ensures.ends).0)
 
 pub returns-clause-ends : goal.returns-clause-ends
 returns-clause-ends g c =

@@ -8,22 +8,22 @@ use Rattle.engine.proofs.Counting.{read_counted}
 use Rattle.engine.proofs.calls.Engine.read.Goals as goal
 
 pub read_next-outcome-requires-clause-partitions : goal.read_next-outcome-requires-clause-partitions
-read_next-outcome-requires-clause-partitions g c = partitions_there _ _ _ _ c.self.invariant c.in-Some.attempt c.in-Some.is
+read_next-outcome-requires-clause-partitions g c = partitions_there _ _ c.self.invariant c.in-Some.attempt c.in-Some.is
 
 pub invariant_of-self-2 : goal.invariant_of-self-2
 invariant_of-self-2 g c =
     rw (c.read_next-outcome.ensures.same, c.leave.ensures.left)
-    (keeps_read _ _ _ _ c.in-Some.attempt c.read_next-outcome.new.attempt _ c.args.task c.self.invariant c.in-Some.is c.read_next-outcome.result c.read_next-outcome.ensures.fits c.read_next-outcome.ensures.ends).0
+    (keeps_read _ _ c.in-Some.attempt c.read_next-outcome.new.attempt _ c.args.task c.self.invariant c.in-Some.is c.read_next-outcome.result c.read_next-outcome.ensures.fits c.read_next-outcome.ensures.ends).0
 
 pub returns-clause-goes : goal.returns-clause-goes
 returns-clause-goes g c =
     rw (← c.self.view_is, c.leave.ensures.left)
-    (keeps_read _ _ _ _ c.in-Some.attempt c.read_next-outcome.new.attempt 0 c.args.task c.self.invariant c.in-Some.is c.read_next-outcome.result c.read_next-outcome.ensures.fits c.read_next-outcome.ensures.ends).1
+    (keeps_read _ _ c.in-Some.attempt c.read_next-outcome.new.attempt 0 c.args.task c.self.invariant c.in-Some.is c.read_next-outcome.result c.read_next-outcome.ensures.fits c.read_next-outcome.ensures.ends).1
 
 pub returns-clause-plain : goal.returns-clause-plain
 returns-clause-plain g c =
     rw (← c.self.view_is, c.read_next-outcome.ensures.same, c.leave.ensures.left, c.leave.ensures.answer)
-    (read_is_plain _ _ _ _ c.self.invariant c.in-Some.attempt c.read_next-outcome.new.attempt c.in-Some.is _ c.args.task c.read_next-outcome.result c.read_next-outcome.ensures.ends)
+    (read_is_plain _ _ c.self.invariant c.in-Some.attempt c.read_next-outcome.new.attempt c.in-Some.is _ c.args.task c.read_next-outcome.result c.read_next-outcome.ensures.ends)
 
 pub returns-clause-ends : goal.returns-clause-ends
 returns-clause-ends g c =
@@ -33,7 +33,7 @@ returns-clause-ends g c =
 pub returns-clause-sound : goal.returns-clause-sound
 returns-clause-sound g c =
     rw (← c.self.view_is, c.read_next-outcome.ensures.same, c.leave.ensures.left)
-    (λ sound. sound_as_fresh _ _ _ _ (keeps_read _ _ _ _ c.in-Some.attempt c.read_next-outcome.new.attempt _ c.args.task (keeps_as_fresh _ _ _ _ c.self.invariant sound) c.in-Some.is c.read_next-outcome.result c.read_next-outcome.ensures.fits c.read_next-outcome.ensures.ends).0)
+    (λ sound. sound_as_fresh _ _ (keeps_read _ _ c.in-Some.attempt c.read_next-outcome.new.attempt _ c.args.task (keeps_as_fresh _ _ c.self.invariant sound) c.in-Some.is c.read_next-outcome.result c.read_next-outcome.ensures.fits c.read_next-outcome.ensures.ends).0)
 
 pub returns-clause-counted : goal.returns-clause-counted
 returns-clause-counted g c =

@@ -1,12 +1,10 @@
 use Rattle.std.proofs.Common.{◌<◌, ◌+◌, arith, sym, subst, ◌∙◌}
-use Rattle.abs_codec.specs.Spelling.{Fits}
 use Rattle.engine_model.proofs.Numbers.{sink_within}
 use Rattle.engine_model.proofs.Calls.Restarts.{restart_withdraws}
-use Rattle.engine_model.specs.Language.{language}
 use Rattle.engine_model.specs.RestartLaws.{OperatorsAreLawful}
-use Rattle.operators.specs.Operator.{IsGoodState}
 use Rattle.engine.proofs.Raising.{none_is, raised_by, number_bad, restart_kept, restart_sound, restart_goes_on, cut_by, not_bad}
 use Rattle.engine.proofs.Counting.{restart_counted}
+use Rattle.engine_model.proofs.RulesOf.{rules_of}
 use Rattle.engine.proofs.calls.Engine.restart.Goals as goal
 
 pub restarted-outcome-requires : goal.restarted-outcome-requires
@@ -19,44 +17,44 @@ invariant_of-self g c =
     let down = none_is c.self.inside.attempt (sym c.is_some.ensures ∙ c.if-is_some.false) in
     let ledger = g.X.Transactions.state c.restarted-outcome.new.transactions in
     rw (c.restarted-outcome.ensures.same, c.raise.ensures.holds, raised_by c.restarted-outcome.result c.self.inside.attempt down)
-    (restart_kept _ (Fits g.O.Key.Codec.HasSpelling g.O.Key.Codec.spelling) _ _ _ c.self.invariant down ledger _ _ c.restarted-outcome.result (rw (← c.deref.ensures.value) c.restarted-outcome.ensures.ends))
+    (restart_kept (rules_of g.O.Operator g.O.Key.Ord g.O.Record.Codec g.O.Key.Codec g.O.State.Codec) _ c.self.invariant down ledger _ _ c.restarted-outcome.result (rw (← c.deref.ensures.value) c.restarted-outcome.ensures.ends))
 
 pub returns-clause-sound : goal.returns-clause-sound
 returns-clause-sound g c =
     let down = none_is c.self.inside.attempt (sym c.is_some.ensures ∙ c.if-is_some.false) in
     let ledger = g.X.Transactions.state c.restarted-outcome.new.transactions in
     rw (← c.self.view_is, c.restarted-outcome.ensures.same, c.raise.ensures.holds, raised_by c.restarted-outcome.result c.self.inside.attempt down)
-    (λ sound. restart_sound _ (Fits g.O.Key.Codec.HasSpelling g.O.Key.Codec.spelling) _ _ _ c.self.invariant down ledger _ _ sound c.restarted-outcome.result (rw (← c.deref.ensures.value) c.restarted-outcome.ensures.ends))
+    (λ sound. restart_sound (rules_of g.O.Operator g.O.Key.Ord g.O.Record.Codec g.O.Key.Codec g.O.State.Codec) _ c.self.invariant down ledger _ _ sound c.restarted-outcome.result (rw (← c.deref.ensures.value) c.restarted-outcome.ensures.ends))
 
 pub returns-clause-goes : goal.returns-clause-goes
 returns-clause-goes g c =
     let down = none_is c.self.inside.attempt (sym c.is_some.ensures ∙ c.if-is_some.false) in
     let ledger = g.X.Transactions.state c.restarted-outcome.new.transactions in
     rw (← c.self.view_is, c.restarted-outcome.ensures.same, c.raise.ensures.holds, raised_by c.restarted-outcome.result c.self.inside.attempt down)
-    (λ sound. restart_goes_on _ (Fits g.O.Key.Codec.HasSpelling g.O.Key.Codec.spelling) _ _ _ c.self.invariant down ledger 0 0 sound c.restarted-outcome.result (rw (← c.deref.ensures.value) c.restarted-outcome.ensures.ends))
+    (λ sound. restart_goes_on (rules_of g.O.Operator g.O.Key.Ord g.O.Record.Codec g.O.Key.Codec g.O.State.Codec) _ c.self.invariant down ledger 0 0 sound c.restarted-outcome.result (rw (← c.deref.ensures.value) c.restarted-outcome.ensures.ends))
 
 pub returns-clause-begins : goal.returns-clause-begins
 returns-clause-begins g c = λ subtask.
     rw (← c.self.view_is)
-    (restart_withdraws _ (Fits g.O.Key.Codec.HasSpelling g.O.Key.Codec.spelling) _ _ _ c.self.invariant (g.X.Transactions.state c.restarted-outcome.new.transactions) c.restarted-outcome.result subtask (rw (← c.deref.ensures.value) c.restarted-outcome.ensures.ends))
+    (restart_withdraws (rules_of g.O.Operator g.O.Key.Ord g.O.Record.Codec g.O.Key.Codec g.O.State.Codec) _ c.self.invariant (g.X.Transactions.state c.restarted-outcome.new.transactions) c.restarted-outcome.result subtask (rw (← c.deref.ensures.value) c.restarted-outcome.ensures.ends))
 
 pub returns-clause-cut : goal.returns-clause-cut
 returns-clause-cut g c =
     let down = none_is c.self.inside.attempt (sym c.is_some.ensures ∙ c.if-is_some.false) in
     let ledger = g.X.Transactions.state c.restarted-outcome.new.transactions in
     rw (← c.self.view_is, c.restarted-outcome.ensures.same, c.raise.ensures.number, c.raise.ensures.holds, raised_by c.restarted-outcome.result c.self.inside.attempt down)
-    (λ sound. cut_by _ (Fits g.O.Key.Codec.HasSpelling g.O.Key.Codec.spelling) _ _ _ c.self.invariant down ledger _ _ sound c.restarted-outcome.result (rw (← c.deref.ensures.value) c.restarted-outcome.ensures.ends))
+    (λ sound. cut_by (rules_of g.O.Operator g.O.Key.Ord g.O.Record.Codec g.O.Key.Codec g.O.State.Codec) _ c.self.invariant down ledger _ _ sound c.restarted-outcome.result (rw (← c.deref.ensures.value) c.restarted-outcome.ensures.ends))
 
 pub returns-clause-good : goal.returns-clause-good
 returns-clause-good g c =
     let down = none_is c.self.inside.attempt (sym c.is_some.ensures ∙ c.if-is_some.false) in
     let ledger = g.X.Transactions.state c.restarted-outcome.new.transactions in
     let o = g.met.O.Operator in
-    let laws : OperatorsAreLawful g.O.Operator.meaning g.O.Key.Ord.cmp (Fits g.O.Record.Codec.HasSpelling g.O.Record.Codec.spelling) (Fits g.O.Key.Codec.HasSpelling g.O.Key.Codec.spelling) (Fits g.O.State.Codec.HasSpelling g.O.State.Codec.spelling) g.O.Operator.Suits =
+    let laws : OperatorsAreLawful (rules_of g.O.Operator g.O.Key.Ord g.O.Record.Codec g.O.Key.Codec g.O.State.Codec) =
     record { same_key = o.same_key; exact = o.key_is_exact; keys = o.key_fits; fresh = o.fresh_is_good; states = o.state_stays_good; sent = o.sent_fits } in
     rw (← c.self.view_is, c.raise.ensures.number)
     (λ sound. number_bad c.restarted-outcome.result
-    (not_bad _ _ (Fits g.O.Key.Codec.HasSpelling g.O.Key.Codec.spelling) (Fits g.O.State.Codec.HasSpelling g.O.State.Codec.spelling) g.O.Operator.Suits _ c.self.invariant down sound laws c.count.ensures.fit ledger c.restarted-outcome.result (rw (← c.deref.ensures.value) c.restarted-outcome.ensures.ends)))
+    (not_bad (rules_of g.O.Operator g.O.Key.Ord g.O.Record.Codec g.O.Key.Codec g.O.State.Codec) _ c.self.invariant down sound laws c.count.ensures.fit ledger c.restarted-outcome.result (rw (← c.deref.ensures.value) c.restarted-outcome.ensures.ends)))
 
 pub returns-clause-counted : goal.returns-clause-counted
 returns-clause-counted g c =
@@ -66,6 +64,6 @@ returns-clause-counted g c =
     let s = c.self.inside in
     let new = c.restarted-outcome.new in
     rw (← c.self.view_is, c.raise.ensures.number)
-    (restart_counted (language g.O.Operator.meaning g.O.Key.Ord.cmp g.O.Record.Codec.spelling g.O.Record.Codec.reading g.O.Key.Codec.reading g.O.State.Codec.reading) (Fits g.O.Key.Codec.HasSpelling g.O.Key.Codec.spelling) (Fits g.O.Record.Codec.HasSpelling g.O.Record.Codec.spelling) (IsGoodState (Fits g.O.State.Codec.HasSpelling g.O.State.Codec.spelling) g.O.Operator.Suits) s.graph s.operators.items (P.records s.log) (S.state s.store) (X.state s.transactions) (X.state new.transactions)
+    (restart_counted (rules_of g.O.Operator g.O.Key.Ord g.O.Record.Codec g.O.Key.Codec g.O.State.Codec) s.graph s.operators.items (P.records s.log) (S.state s.store) (X.state s.transactions) (X.state new.transactions)
     (P.fault_count s.log + S.fault_count s.store + X.fault_count s.transactions) (P.fault_count s.log + S.fault_count new.store + X.fault_count new.transactions) c.restarted-outcome.result (rw (← c.deref.ensures.value) c.restarted-outcome.ensures.ends)
     (λ is. omega (arith, c.restarted-outcome.ensures.counted is)) (λ other. (let told = c.restarted-outcome.ensures.told other in omega (arith, told.0, told.1))))

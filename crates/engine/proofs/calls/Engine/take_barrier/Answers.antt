@@ -8,27 +8,27 @@ use Rattle.engine.proofs.calls.Engine.take_barrier.Goals as goal
 pub invariant_of-self-2 : goal.invariant_of-self-2
 invariant_of-self-2 g c =
     rw c.leave.ensures.left
-    (barrier_kept _ _ _ _ c.self.invariant c.in-Some.attempt c.take_barrier-outcome.new.attempt c.in-Some.is (g.X.Transactions.state c.take_barrier-outcome.new.transactions) c.args.task c.args.input c.take_barrier-outcome.result c.take_barrier-outcome.ensures.ends _ (g.met.X.Transactions.ordered c.take_barrier-outcome.new.transactions)).0
+    (barrier_kept _ _ c.self.invariant c.in-Some.attempt c.take_barrier-outcome.new.attempt c.in-Some.is (g.X.Transactions.state c.take_barrier-outcome.new.transactions) c.args.task c.args.input c.take_barrier-outcome.result c.take_barrier-outcome.ensures.ends _ (g.met.X.Transactions.ordered c.take_barrier-outcome.new.transactions)).0
 
 pub returns-clause-goes : goal.returns-clause-goes
 returns-clause-goes g c =
     rw (← c.self.view_is, c.leave.ensures.left)
-    (barrier_kept _ _ _ _ c.self.invariant c.in-Some.attempt c.take_barrier-outcome.new.attempt c.in-Some.is (g.X.Transactions.state c.take_barrier-outcome.new.transactions) c.args.task c.args.input c.take_barrier-outcome.result c.take_barrier-outcome.ensures.ends 0 (g.met.X.Transactions.ordered c.take_barrier-outcome.new.transactions)).1
+    (barrier_kept _ _ c.self.invariant c.in-Some.attempt c.take_barrier-outcome.new.attempt c.in-Some.is (g.X.Transactions.state c.take_barrier-outcome.new.transactions) c.args.task c.args.input c.take_barrier-outcome.result c.take_barrier-outcome.ensures.ends 0 (g.met.X.Transactions.ordered c.take_barrier-outcome.new.transactions)).1
 
 pub returns-clause-sound : goal.returns-clause-sound
 returns-clause-sound g c =
     rw (← c.self.view_is, c.leave.ensures.left)
-    (λ sound. sound_as_fresh _ _ _ _ (barrier_kept _ _ _ _ (keeps_as_fresh _ _ _ _ c.self.invariant sound) c.in-Some.attempt c.take_barrier-outcome.new.attempt c.in-Some.is (g.X.Transactions.state c.take_barrier-outcome.new.transactions) c.args.task c.args.input c.take_barrier-outcome.result c.take_barrier-outcome.ensures.ends _ (g.met.X.Transactions.ordered c.take_barrier-outcome.new.transactions)).0)
+    (λ sound. sound_as_fresh _ _ (barrier_kept _ _ (keeps_as_fresh _ _ c.self.invariant sound) c.in-Some.attempt c.take_barrier-outcome.new.attempt c.in-Some.is (g.X.Transactions.state c.take_barrier-outcome.new.transactions) c.args.task c.args.input c.take_barrier-outcome.result c.take_barrier-outcome.ensures.ends _ (g.met.X.Transactions.ordered c.take_barrier-outcome.new.transactions)).0)
 
 pub returns-clause-stays : goal.returns-clause-stays
 returns-clause-stays g c =
     rw (← c.self.view_is, c.leave.ensures.left)
-    (barrier_stays _ _ _ _ c.self.invariant c.in-Some.attempt c.take_barrier-outcome.new.attempt c.in-Some.is (g.X.Transactions.state c.take_barrier-outcome.new.transactions) c.args.task c.args.input c.take_barrier-outcome.result c.take_barrier-outcome.ensures.ends)
+    (barrier_stays _ _ c.self.invariant c.in-Some.attempt c.take_barrier-outcome.new.attempt c.in-Some.is (g.X.Transactions.state c.take_barrier-outcome.new.transactions) c.args.task c.args.input c.take_barrier-outcome.result c.take_barrier-outcome.ensures.ends)
 
 pub returns-clause-begins : goal.returns-clause-begins
 returns-clause-begins g c =
     rw (← c.self.view_is)
-    (withdraws _ _ _ _ c.self.invariant (g.X.Transactions.state c.take_barrier-outcome.new.transactions) _ 0 (g.met.X.Transactions.ordered c.take_barrier-outcome.new.transactions) (barrier_kept _ _ _ _ c.self.invariant c.in-Some.attempt c.take_barrier-outcome.new.attempt c.in-Some.is (g.X.Transactions.state c.take_barrier-outcome.new.transactions) c.args.task c.args.input c.take_barrier-outcome.result c.take_barrier-outcome.ensures.ends 0 (g.met.X.Transactions.ordered c.take_barrier-outcome.new.transactions)).1)
+    (withdraws _ _ c.self.invariant (g.X.Transactions.state c.take_barrier-outcome.new.transactions) _ 0 (g.met.X.Transactions.ordered c.take_barrier-outcome.new.transactions) (barrier_kept _ _ c.self.invariant c.in-Some.attempt c.take_barrier-outcome.new.attempt c.in-Some.is (g.X.Transactions.state c.take_barrier-outcome.new.transactions) c.args.task c.args.input c.take_barrier-outcome.result c.take_barrier-outcome.ensures.ends 0 (g.met.X.Transactions.ordered c.take_barrier-outcome.new.transactions)).1)
 
 pub returns-clause-counted : goal.returns-clause-counted
 returns-clause-counted g c =

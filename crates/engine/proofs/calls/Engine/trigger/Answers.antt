@@ -8,22 +8,22 @@ use Rattle.engine.proofs.calls.Engine.trigger.Goals as goal
 pub invariant_of-self-2 : goal.invariant_of-self-2
 invariant_of-self-2 g c =
     rw c.leave.ensures.left
-    (keeps_trigger _ _ _ _ c.self.invariant c.in-Some.attempt c.in-Some.is c.trigger-outcome.new.attempt (g.S.SnapshotStore.state c.trigger-outcome.new.store) _ (g.met.S.SnapshotStore.numbered c.trigger-outcome.new.store) c.trigger-outcome.result c.trigger-outcome.ensures.ends).0
+    (keeps_trigger _ _ c.self.invariant c.in-Some.attempt c.in-Some.is c.trigger-outcome.new.attempt (g.S.SnapshotStore.state c.trigger-outcome.new.store) _ (g.met.S.SnapshotStore.numbered c.trigger-outcome.new.store) c.trigger-outcome.result c.trigger-outcome.ensures.ends).0
 
 pub returns-clause-goes : goal.returns-clause-goes
 returns-clause-goes g c =
     rw (← c.self.view_is, c.leave.ensures.left)
-    (keeps_trigger _ _ _ _ c.self.invariant c.in-Some.attempt c.in-Some.is c.trigger-outcome.new.attempt (g.S.SnapshotStore.state c.trigger-outcome.new.store) 0 (g.met.S.SnapshotStore.numbered c.trigger-outcome.new.store) c.trigger-outcome.result c.trigger-outcome.ensures.ends).1
+    (keeps_trigger _ _ c.self.invariant c.in-Some.attempt c.in-Some.is c.trigger-outcome.new.attempt (g.S.SnapshotStore.state c.trigger-outcome.new.store) 0 (g.met.S.SnapshotStore.numbered c.trigger-outcome.new.store) c.trigger-outcome.result c.trigger-outcome.ensures.ends).1
 
 pub returns-clause-stays : goal.returns-clause-stays
 returns-clause-stays g c =
     rw (← c.self.view_is, c.leave.ensures.left)
-    (trigger_stays _ _ _ _ c.self.invariant c.in-Some.attempt c.trigger-outcome.new.attempt c.in-Some.is (g.S.SnapshotStore.state c.trigger-outcome.new.store) c.trigger-outcome.result c.trigger-outcome.ensures.ends)
+    (trigger_stays _ _ c.self.invariant c.in-Some.attempt c.trigger-outcome.new.attempt c.in-Some.is (g.S.SnapshotStore.state c.trigger-outcome.new.store) c.trigger-outcome.result c.trigger-outcome.ensures.ends)
 
 pub returns-clause-sound : goal.returns-clause-sound
 returns-clause-sound g c =
     rw (← c.self.view_is, c.leave.ensures.left)
-    (λ sound. sound_as_fresh _ _ _ _ (keeps_trigger _ _ _ _ (keeps_as_fresh _ _ _ _ c.self.invariant sound) c.in-Some.attempt c.in-Some.is c.trigger-outcome.new.attempt (g.S.SnapshotStore.state c.trigger-outcome.new.store) _ (g.met.S.SnapshotStore.numbered c.trigger-outcome.new.store) c.trigger-outcome.result c.trigger-outcome.ensures.ends).0)
+    (λ sound. sound_as_fresh _ _ (keeps_trigger _ _ (keeps_as_fresh _ _ c.self.invariant sound) c.in-Some.attempt c.in-Some.is c.trigger-outcome.new.attempt (g.S.SnapshotStore.state c.trigger-outcome.new.store) _ (g.met.S.SnapshotStore.numbered c.trigger-outcome.new.store) c.trigger-outcome.result c.trigger-outcome.ensures.ends).0)
 
 pub returns-clause-counted : goal.returns-clause-counted
 returns-clause-counted g c =

@@ -3,4 +3,4 @@ use Rattle.thread_runner.proofs.Keeping.{call_kept}
 use Rattle.thread_runner.proofs.station.Station.commit.Goals as goal
 
 pub invariant_of-self : goal.invariant_of-self
-invariant_of-self g c = call_kept _ _ _ _ _ _ c.commit.ensures.claims (of_step _ _ _ _ c.commit.ensures.step) c.self.invariant
+invariant_of-self g c = call_kept _ _ _ _ _ c.commit.ensures.claims (of_step _ _ _ c.commit.ensures.step) c.self.invariant
