@@ -235,8 +235,8 @@ fn run_line<'a>(alloc: Global, matches: &ArgMatches<'a>) -> Result<Line<'a>, Err
     })
 }
 
-/// What the words ask for, the program's own name first. An `Err` is clap's: its `exit_code` is 2 for
-/// a wrong line and 0 for help, and its `print` writes the text to the right place.
+/// What the words ask for, the program's own name first. An `Err` is clap's: its `exit_code` is 2
+/// for a wrong line and 0 for help, and its `print` writes the text to the right place.
 pub fn parse_line<'a>(alloc: Global, words: &'a [&'a str]) -> Result<Line<'a>, Error>
     ensures { IfOk result AsksInRange }
 {

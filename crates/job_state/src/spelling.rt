@@ -76,7 +76,8 @@ impl<O: Operator> Attempt<O> {
             × (bytes.now ≡ part_spelling O.Record.spelling O.Key.spelling O.State.spelling
             (with_logs (logs_of graph.now self.old task) p))) }
         ensures* stays { sem 𝓛 (Rests (the_row O.row O.Record.row O.Key.row O.State.row
-            (record { meaning = O.meaning; Suits = O.Suits }) (record { eq = O.eq }) O.Record.Codec (record { eq = O.Record.eq }) O.Key.Codec
+            (record { meaning = O.meaning; Suits = O.Suits }) (record { eq = O.eq })
+            O.Record.Codec (record { eq = O.Record.eq }) O.Key.Codec
             (record { cmp = O.Key.cmp }) (record { eq = O.Key.eq })
             (record { partial_cmp = O.Key.partial_cmp }) O.State.Codec
             (record { eq = O.State.eq })) self.entry (λ new. new ≡ self.old)) }

@@ -37,8 +37,8 @@ fn take_all<R: Drop>(
     }
 }
 
-/// Takes the first records of a channel, logs them, if they are to be logged, and puts each of these
-/// items last in its channel. It takes no memory.
+/// Takes the first records of a channel, logs them, if they are to be logged, and puts each of
+/// these items last in its channel. It takes no memory.
 pub(crate) fn pass_on_all<R: Drop>(
     channels: &mut [Channel<R>],
     logs: &mut Logs<R>,

@@ -1,18 +1,11 @@
 -- What a reader knows after a look.
-use Rattle.std.proofs.Common.{◌≡◌, ◌≢◌, ℕ, ◌+◌, ◌<◌, ◌≤◌, List, [], ◌∷◌, ◌++◌, map, take, length, get_or, set, sym, ap, ◌∙◌, subst}
-use Rattle.std.proofs.lemmas.List.{take_more, get_or-map, get_or-set_other, get_or-set_same, length-map}
+use Rattle.std.proofs.Common.{◌≡◌, ◌≢◌, ℕ, ◌<◌, ◌≤◌, List, take, length, get_or, set, sym, ap, ◌∙◌, subst}
+use Rattle.std.proofs.lemmas.List.{get_or-set_other, get_or-set_same}
 use Rattle.std.proofs.Math.Seq.{take-length}
-use Rattle.output_readers.specs.Beginnings.{IsBeginning, longer}
-use Rattle.output_readers.specs.Rows.{rows_of, EachBegins, each_take}
-use Rattle.output_readers.proofs.Beginnings.{begins_take, take_of_more, begins_length, begins_trans, begins_longer, longer_assoc, longer_first}
-use Rattle.output_readers.proofs.EachRow.{rows_of-each_take, length-each_take}
-
-module _ {X A : Type 0} (f : X → A) where
-  pub map-take_more : (xs : List X) (i : ℕ) (x : X) (y : A) (ys : List A) → i < length xs → x ≡ get_or xs i x → y ≡ f x → ys ≡ take i (map f xs) → ys ++ y ∷ [] ≡ take (i + 1) (map f xs)
-  map-take_more xs i x y ys lt at same so_far =
-      let here : get_or (map f xs) i y ≡ y = get_or-map f xs i x y lt ∙ (ap f (sym at) ∙ sym same) in
-      let within : i < length (map f xs) = subst (λ n. i < n) (sym (length-map xs f)) lt in
-      ap (λ l. l ++ y ∷ []) so_far ∙ (ap (λ z. take i (map f xs) ++ z ∷ []) (sym here) ∙ sym (take_more (map f xs) i y within))
+use Rattle.published_lists.specs.Beginnings.{IsBeginning, longer}
+use Rattle.published_lists.specs.Rows.{rows_of, EachBegins, each_take}
+use Rattle.published_lists.proofs.Beginnings.{begins_take, take_of_more, begins_length, begins_trans, begins_longer, longer_assoc, longer_first}
+use Rattle.published_lists.proofs.EachRow.{rows_of-each_take, length-each_take}
 
 module _ {A : Type 0} (ns : List ℕ) (before after told : List (List A)) (grows : EachBegins before after) (inside : (s : ℕ) → get_or ns s 0 ≤ length (rows_of before s)) where
   -- what was read stays what it was, though more is found

@@ -1,9 +1,3 @@
-pub mod Beginnings
-pub mod EachRow
-pub mod Histories
-pub mod Growing
-pub mod Adding
 pub mod Knowing
-pub mod RowLists
 pub mod Opening
 pub mod Writing

@@ -2,12 +2,12 @@
 use Rattle.std.proofs.Common.{◌≡◌, ℕ, ◌≤◌, ◌<◌, true, false, leb, List, [], length, replicate, get_or, take, refl, sym, ap, ◌∙◌, subst, ⊎_elim}
 use Rattle.std.proofs.lemmas.List.{get_or-replicate, get_or_past, length-replicate}
 use Rattle.std.proofs.lemmas.Bool.Decides.{leb_tells}
-use Rattle.output_readers.specs.Beginnings.{longer}
-use Rattle.output_readers.specs.Editions.{Edition}
-use Rattle.output_readers.specs.Rows.{rows_of, each_take}
+use Rattle.published_lists.specs.Beginnings.{longer}
+use Rattle.published_lists.specs.Editions.{Edition}
+use Rattle.published_lists.specs.Rows.{rows_of, each_take}
 use Rattle.output_readers.specs.Seeing.{IsOpening}
-use Rattle.output_readers.proofs.Beginnings.{take_of_none}
-use Rattle.output_readers.proofs.EachRow.{rows_of-each_take, length-each_take}
+use Rattle.published_lists.proofs.Beginnings.{take_of_none}
+use Rattle.published_lists.proofs.EachRow.{rows_of-each_take, length-each_take}
 
 no_rows : (n s : ℕ) → rows_of {A = List ℕ} (replicate n []) s ≡ []
 no_rows n s = ⊎_elim

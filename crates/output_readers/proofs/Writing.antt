@@ -2,12 +2,12 @@
 use Rattle.std.proofs.Common.{◌≡◌, List, Option, Some, ℕ, length, sym, ap, ◌∙◌, subst}
 use Rattle.std.specs.List.{All}
 use Rattle.logbook.specs.Pages.{Book}
-use Rattle.output_readers.specs.Editions.{Edition, Follows}
-use Rattle.output_readers.specs.Holding.{Held, IsSealed}
-use Rattle.output_readers.specs.Rows.{EachBegins, Counts}
+use Rattle.published_lists.specs.Editions.{Edition, Follows}
+use Rattle.published_lists.specs.Holding.{Held, IsSealed}
+use Rattle.published_lists.specs.Rows.{EachBegins, Counts}
 use Rattle.output_readers.specs.Seeing.{Knowledge, IsOpening, IsWriting}
-use Rattle.output_readers.proofs.EachRow.{each_self, each_trans}
-use Rattle.output_readers.proofs.Growing.{follows_self}
+use Rattle.published_lists.proofs.EachRow.{each_self, each_trans}
+use Rattle.published_lists.proofs.Growing.{follows_self}
 
 -- an edition that names all that was handed in follows the one that is shown
 pub follows_shown : (shown next : Held) (last new : Edition) → Follows shown.edition last → EachBegins last.lists next.lists → new.history ≡ last.history → new.lists ≡ next.lists → Follows shown.edition new

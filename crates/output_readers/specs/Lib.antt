@@ -1,7 +1,1 @@
-pub mod Beginnings
-pub mod Rows
-pub mod Editions
-pub mod Holding
-pub mod Operations
-pub mod Rule
 pub mod Seeing

@@ -2,10 +2,10 @@
 use Rattle.std.specs.Prelude.{◌≡◌, ℕ, ◌≤◌, List, Option, Some, [], length, slice_index}
 use Rattle.std.specs.List.{All}
 use Rattle.logbook.specs.Pages.{Book}
-use Rattle.output_readers.specs.Beginnings.{longer}
-use Rattle.output_readers.specs.Editions.{Edition, Follows}
-use Rattle.output_readers.specs.Holding.{Held, IsSealed}
-use Rattle.output_readers.specs.Rows.{rows_of, EachBegins, Counts}
+use Rattle.published_lists.specs.Beginnings.{longer}
+use Rattle.published_lists.specs.Editions.{Edition, Follows}
+use Rattle.published_lists.specs.Holding.{Held, IsSealed}
+use Rattle.published_lists.specs.Rows.{rows_of, EachBegins, Counts}
 
 -- whose history it is, the lists that readers can see, all that was handed in, and how many readers are not handed out
 pub record Output : Type 0 where

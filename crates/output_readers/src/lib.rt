@@ -25,13 +25,9 @@
 //! writer stands under a lock, a proof knows that of what was had under one guard.
 #![tactic(auto)]
 
-mod edition;
-mod fault;
-mod lists;
-mod naming;
 mod output_reader;
 mod output_writer;
 
-pub use fault::OutputFault;
-pub use output_reader::{OutputReader, Told};
+pub use output_reader::OutputReader;
 pub use output_writer::OutputWriter;
+pub use published_lists::{OutputFault, Told};

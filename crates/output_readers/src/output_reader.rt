@@ -1,39 +1,14 @@
-//! The readers, and what the writer tells them.
+//! The readers.
 ghost use Rattle.std.specs.Prelude.{◌≡◌, ◌≢◌, ℕ, ◌<◌, [], map, length, replicate, slice_set, IfOk, OnErr};
-ghost use Rattle.output_readers.specs.Beginnings.{IsBeginning, longer};
-ghost use Rattle.output_readers.specs.Rows.{rows_of, EachBegins};
-ghost use Rattle.output_readers.specs.Editions.{Edition as Named, Follows};
+ghost use Rattle.published_lists.specs.Beginnings.{IsBeginning, longer};
+ghost use Rattle.published_lists.specs.Rows.{rows_of, EachBegins};
+ghost use Rattle.published_lists.specs.Editions.{Edition as Named, Follows};
 ghost use Rattle.output_readers.specs.Seeing.{IsOpening, view_of};
 
-use crate::edition::Edition;
-use crate::fault::OutputFault;
-use crate::lists::{Lists, OnlyGrows, Sees};
 use core::mem::replace_with;
-use left_right::reader::Reader;
+use published_lists::{Edition, OutputFault, Told, look};
 use std::alloc::{AllocError, Global};
 use std::marker::Model;
-
-pub(crate) type ListReader = Reader<Lists, Option<Edition>, OnlyGrows>;
-
-/// Names the lists that stood when it was made. It carries no rows: it is a place of its own among
-/// the readers, which knows them.
-#[derive(Drop)]
-pub struct Told {
-    pub(crate) reader: ListReader,
-    pub(crate) edition: Edition,
-}
-
-impl Model for Told {
-    ghost use Rattle.std.specs.Prelude.{◌≡◌, Some};
-    ghost use Rattle.left_right.specs.Sides.{view as known};
-    ghost use Rattle.output_readers.specs.Editions.{Edition as Named};
-
-    ghost Value = { Named };
-
-    ghost view = { λ t. t.edition };
-
-    ghost invariant = { λ t. known t.reader.place ≡ Some t.edition };
-}
 
 /// Reads the published lists, and never waits.
 #[derive(Drop)]
@@ -48,7 +23,7 @@ pub struct OutputReader {
 }
 
 impl Model for OutputReader {
-    ghost use Rattle.output_readers.specs.Rows.{each_take};
+    ghost use Rattle.published_lists.specs.Rows.{each_take};
     ghost use Rattle.output_readers.specs.Seeing.{Knowledge, IsReading};
 
     ghost Value = { Knowledge };
@@ -63,38 +38,13 @@ impl Model for OutputReader {
     ghost invariant = { λ r. IsReading r.told r.place r.read.items };
 }
 
-// Copies the rows of a subtask that are then published.
-fn look(place: Told, ask: (Global, usize)) -> (Told, Result<Vec<Vec<u8>>, OutputFault>)
+// `look`, by a name of this crate.
+fn looked(place: Told, ask: (Global, usize)) -> (Told, Result<Vec<Vec<u8>>, OutputFault>)
     ensures grows { Follows place result.0 }
     ensures rows { IfOk result.1 (λ rows.
         map (λ row. row.items) rows.items ≡ rows_of result.0.lists ask.1) }
 {
-    let (alloc, subtask) = ask;
-    let Told { reader, edition } = place;
-    match reader.enter_as::<Sees>() {
-        Ok(reading) => {
-            let edition = reading.get().edition();
-            let rows = copy(alloc, reading.get().rows(subtask));
-            let place = Told {
-                reader: reading.leave(),
-                edition,
-            };
-            (place, rows.map_err(|_| OutputFault::Memory))
-        }
-        Err(reader) => (Told { reader, edition }, Err(OutputFault::Closed)),
-    }
-}
-
-// A copy of these rows.
-fn copy(alloc: Global, rows: &[Vec<u8>]) -> Result<Vec<Vec<u8>>, AllocError>
-    ensures { IfOk result (λ copy.
-        map (λ row. row.items) copy.items ≡ map (λ row. row.items) rows.now) }
-{
-    let mut all = Vec::new(alloc);
-    for row in rows {
-        all.push(Vec::from_slice(alloc, row.as_slice())?)?;
-    }
-    Ok(all)
+    look(place, ask)
 }
 
 // Of two editions of one history the one that follows the other.
@@ -116,7 +66,7 @@ fn sit(place: Told, told: Told) -> (Told, ())
     ensures grows { Follows place result.0 }
     ensures told { Follows told result.0 }
 {
-    if place.edition.begins(&told.edition) {
+    if place.edition().begins(told.edition()) {
         return (told, ());
     }
     (place, ())
@@ -143,7 +93,7 @@ impl OutputReader {
     {
         let read = Vec::from_elem(alloc, 0usize, subtasks)?;
         Ok(OutputReader {
-            told: place.edition.again(),
+            told: place.edition().again(),
             place,
             read,
             alloc,
@@ -165,7 +115,7 @@ impl OutputReader {
         ensures subtasks { length self.new.read ≡ length self.old.read }
         ensures history { self.new.history ≡ self.old.history }
     {
-        let rows = replace_with(&mut self.place, (self.alloc, subtask), look)?;
+        let rows = replace_with(&mut self.place, (self.alloc, subtask), looked)?;
         note(self.read.as_mut_slice(), subtask, rows.len());
         Ok(rows)
     }
@@ -179,7 +129,7 @@ impl OutputReader {
         ensures subtasks { length self.new.read ≡ length self.old.read }
         ensures history { self.new.history ≡ self.old.history }
     {
-        self.told = later(&self.told, &told.edition);
+        self.told = later(&self.told, told.edition());
         replace_with(&mut self.place, told, sit);
     }
 }

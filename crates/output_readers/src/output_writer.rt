@@ -2,20 +2,20 @@
 ghost use Rattle.std.specs.Prelude.{◌≡◌, ℕ, ◌+◌, ◌<◌, [], ◌∷◌, ◌++◌, drop, length, replicate, vec_len, Some, All, IfOk, IfErr, MatchResult};
 ghost use Rattle.std.specs.Arc.{arc_value};
 ghost use Rattle.left_right.specs.Sides.{view};
-ghost use Rattle.output_readers.specs.Rows.{rows_of, with_row, EachBegins};
-ghost use Rattle.output_readers.specs.Editions.{Follows};
-ghost use Rattle.output_readers.specs.Holding.{IsSealed};
-ghost use Rattle.output_readers.specs.Operations.{staged};
+ghost use Rattle.published_lists.specs.Rows.{rows_of, with_row, EachBegins};
+ghost use Rattle.published_lists.specs.Editions.{Follows};
+ghost use Rattle.published_lists.specs.Holding.{IsSealed};
+ghost use Rattle.published_lists.specs.Operations.{staged};
 ghost use Rattle.output_readers.specs.Seeing.{IsOpening};
 
-use crate::edition::{Edition, Head};
-use crate::fault::OutputFault;
-use crate::lists::{Learns, Lists, Notes, OnlyGrows, Operation, Sees};
-use crate::naming::{ListWriter, named};
-use crate::output_reader::{ListReader, OutputReader, Told, note};
+use crate::output_reader::{OutputReader, note};
 use core::mem::replace_with;
 use left_right::reader::Factory;
 use left_right::writer::Writer;
+use published_lists::{
+    Edition, Head, Learns, ListReader, ListWriter, Lists, Notes, OnlyGrows, Operation, OutputFault,
+    Sees, Told, named,
+};
 use std::alloc::{AllocError, Global};
 use std::marker::Model;
 use std::sync::Wait;
@@ -160,7 +160,7 @@ fn opening_reader<R: Wait>(
 {
     let edition = writer.published().edition();
     let reader = relay(rt, writer);
-    OutputReader::new(alloc, subtasks, Told { reader, edition })
+    OutputReader::new(alloc, subtasks, Told::new(reader, edition))
 }
 
 // All the readers of a writer that shows empty lists of so many subtasks.
@@ -203,7 +203,7 @@ pub struct OutputWriter<R: Wait + Drop> {
 impl<R: Wait + Drop> Model for OutputWriter<R> {
     ghost use Rattle.std.specs.Prelude.{vec_len};
     ghost use Rattle.left_right.specs.Sides.{view as known};
-    ghost use Rattle.output_readers.specs.Operations.{staged};
+    ghost use Rattle.published_lists.specs.Operations.{staged};
     ghost use Rattle.output_readers.specs.Seeing.{Output, IsWriting};
 
     ghost Value = { Output };
@@ -325,7 +325,7 @@ impl<R: Wait + Drop> OutputWriter<R> {
         self.last = edition.again();
         replace_with(&mut self.writer, (&self.rt, edition.again()), announce::<R>)?;
         let reader = relay(&self.rt, &mut self.writer);
-        Ok(Told { reader, edition })
+        Ok(Told::new(reader, edition))
     }
 }
 

@@ -11,10 +11,10 @@ use Rattle.dataflow_core.specs.Steps.{Preserves}
 use Rattle.dataflow_model.specs.Graph.{Begins}
 use Rattle.job_graph.specs.Expanded.{Expanded, is_sink}
 use Rattle.job_graph.specs.declared.role.Role.TheVariants as role
-use Rattle.output_readers.specs.Beginnings.{IsBeginning}
-use Rattle.output_readers.specs.Rows.{rows_of, with_row, EachBegins}
+use Rattle.published_lists.specs.Beginnings.{IsBeginning}
+use Rattle.published_lists.specs.Rows.{rows_of, with_row, EachBegins}
 use Rattle.output_readers.specs.Seeing.{Output}
-use Rattle.output_readers.proofs.EachRow.{length-with_row}
+use Rattle.published_lists.proofs.EachRow.{length-with_row}
 use Rattle.row_publishing.specs.Showing.{Begin, BeginCommitted, AreCommitted, Shows}
 
 begins_on : {A : Type 0} (xs ys zs : List A) → Begins xs ys → Begins ys zs → Begins xs zs

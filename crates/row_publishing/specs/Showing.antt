@@ -5,7 +5,7 @@ use Rattle.engine_model.specs.State.{State}
 use Rattle.dataflow_model.specs.Graph.{Begins}
 use Rattle.job_graph.specs.Expanded.{is_sink}
 use Rattle.job_graph.specs.declared.role.Role.TheVariants as role
-use Rattle.output_readers.specs.Rows.{rows_of}
+use Rattle.published_lists.specs.Rows.{rows_of}
 use Rattle.output_readers.specs.Seeing.{Output}
 
 module _ {R K S O : Type 0} (lists : List (List (List ℕ))) (engine : State O R K S) where

@@ -4,7 +4,7 @@ ghost use Rattle.std.specs.Prelude.{◌≡◌, ◌<◌, ◌≢◌, ℕ, IfOk, If
 ghost use Rattle.commit_sink.specs.Ledger.{committed_rows};
 ghost use Rattle.job_graph.specs.Expanded.{is_sink};
 ghost use Rattle.job_graph.specs.declared.role.Role.TheVariants as role;
-ghost use Rattle.output_readers.specs.Rows.{rows_of};
+ghost use Rattle.published_lists.specs.Rows.{rows_of};
 ghost use Rattle.row_publishing.specs.Showing.{BeginCommitted, AreCommitted};
 
 use commit_sink::Transactions;

@@ -1,4 +1,4 @@
-use Rattle.output_readers.proofs.Growing.{admits}
+use Rattle.published_lists.proofs.Growing.{admits}
 use Rattle.output_readers.proofs.output_writer.place.Goals as goal
 
 pub reader-requires : goal.reader-requires

@@ -1,4 +1,4 @@
-use Rattle.output_readers.proofs.Growing.{forks, merges}
+use Rattle.published_lists.proofs.Growing.{forks, merges}
 use Rattle.output_readers.proofs.output_writer.relay.Goals as goal
 
 pub learn-requires-clause-rule : goal.learn-requires-clause-rule

@@ -1,4 +1,4 @@
-use Rattle.output_readers.proofs.Growing.{looks_at}
+use Rattle.published_lists.proofs.Growing.{looks_at}
 use Rattle.output_readers.proofs.output_writer.show.Goals as goal
 
 pub publish_as-requires : goal.publish_as-requires

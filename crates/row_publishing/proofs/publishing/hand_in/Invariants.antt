@@ -1,7 +1,7 @@
 use Rattle.std.proofs.Common.{◌≡◌, ◌<◌, ℕ, Some, slice_get}
 use Rattle.commit_sink.specs.Ledger.{committed_rows}
 use Rattle.job_graph.specs.declared.role.Role.TheVariants as role
-use Rattle.output_readers.specs.Rows.{rows_of}
+use Rattle.published_lists.specs.Rows.{rows_of}
 use Rattle.row_publishing.specs.Showing.{BeginCommitted}
 use Rattle.row_publishing.proofs.publishing.hand_in.Given as goal
 

@@ -2,7 +2,7 @@ use Rattle.std.proofs.Common.{◌≡◌, ◌+◌, ◌<◌, ◌≤◌, ℕ, Some,
 use Rattle.commit_sink.specs.Ledger.{committed_rows}
 use Rattle.engine_model.specs.State.{State}
 use Rattle.job_graph.specs.Expanded.{is_sink}
-use Rattle.output_readers.specs.Rows.{rows_of, with_row}
+use Rattle.published_lists.specs.Rows.{rows_of, with_row}
 use Rattle.row_publishing.specs.Showing.{BeginCommitted}
 use Rattle.row_publishing.proofs.Shown.{row_kept, all_there, count-same, rows_of-other}
 use Rattle.row_publishing.proofs.publishing.hand_in_of.Goals as goal

@@ -1,5 +1,5 @@
 use Rattle.std.proofs.Common.{◌≡◌, ◌≢◌, ℕ, length}
-use Rattle.output_readers.specs.Rows.{rows_of}
+use Rattle.published_lists.specs.Rows.{rows_of}
 use Rattle.row_publishing.specs.Showing.{BeginCommitted}
 use Rattle.row_publishing.proofs.publishing.hand_in_of.Given as goal
 

@@ -1,10 +1,10 @@
 use Rattle.std.proofs.Common.{rules, ◌≡◌, ℕ, ◌<◌, map, length, set, ap, sym, ◌∙◌, Vec, Global, subst}
 use Rattle.std.specs.Vec.{with_items}
 use Rattle.std.proofs.lemmas.List.{with_items_is, length-map, length-set}
-use Rattle.output_readers.specs.Beginnings.{longer}
-use Rattle.output_readers.specs.Rows.{rows_of, EachBegins, each_take}
+use Rattle.published_lists.specs.Beginnings.{longer}
+use Rattle.published_lists.specs.Rows.{rows_of, EachBegins, each_take}
 use Rattle.output_readers.specs.Seeing.{Knowledge}
-use Rattle.output_readers.proofs.EachRow.{each_trans, length-each_take}
+use Rattle.published_lists.proofs.EachRow.{each_trans, length-each_take}
 use Rattle.output_readers.proofs.Knowing.{same_view, other_view, view_begins, own_view}
 use Rattle.output_readers.proofs.output_reader.OutputReader.read.Goals as goal
 

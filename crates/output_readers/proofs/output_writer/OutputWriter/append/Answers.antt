@@ -3,15 +3,15 @@ use Rattle.std.specs.Vec.{with_items}
 use Rattle.std.specs.List.{All}
 use Rattle.std.proofs.lemmas.List.{with_items_is, length-set}
 use Rattle.std.proofs.lemmas.List.Sums.{fold-append}
-use Rattle.output_readers.specs.declared.lists.Operation.{Operation}
-use Rattle.output_readers.specs.declared.lists.Operation.TheVariants.{Append}
+use Rattle.published_lists.specs.declared.lists.Operation.{Operation}
+use Rattle.published_lists.specs.declared.lists.Operation.TheVariants.{Append}
 use Rattle.left_right.specs.Sides.{view}
-use Rattle.output_readers.specs.Rows.{with_row, rows_of, EachBegins, Counts}
-use Rattle.output_readers.specs.Editions.{Follows}
-use Rattle.output_readers.specs.Holding.{Held, IsSealed}
-use Rattle.output_readers.specs.Operations.{after, after_all, staged}
+use Rattle.published_lists.specs.Rows.{with_row, rows_of, EachBegins, Counts}
+use Rattle.published_lists.specs.Editions.{Follows}
+use Rattle.published_lists.specs.Holding.{Held, IsSealed}
+use Rattle.published_lists.specs.Operations.{after, after_all, staged}
 use Rattle.output_readers.specs.Seeing.{Output, IsOpening}
-use Rattle.output_readers.proofs.EachRow.{counts-with_row, with_row-begins, each_trans}
+use Rattle.published_lists.proofs.EachRow.{counts-with_row, with_row-begins, each_trans}
 use Rattle.output_readers.proofs.output_writer.OutputWriter.append.Goals as goal
 
 pub invariant_of-self-2 : goal.invariant_of-self-2

@@ -1,7 +1,7 @@
 use Rattle.std.proofs.Common.{◌≡◌, [], drop, sym, ap, ◌∙◌, subst}
-use Rattle.output_readers.specs.Editions.{Edition}
-use Rattle.output_readers.specs.Operations.{after_all, staged}
-use Rattle.output_readers.proofs.Growing.{admits}
+use Rattle.published_lists.specs.Editions.{Edition}
+use Rattle.published_lists.specs.Operations.{after_all, staged}
+use Rattle.published_lists.proofs.Growing.{admits}
 use Rattle.output_readers.proofs.Writing.{follows_shown, refused, accepted}
 use Rattle.output_readers.proofs.output_writer.OutputWriter.publish.Goals as goal
 

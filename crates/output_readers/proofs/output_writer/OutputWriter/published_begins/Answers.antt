@@ -1,7 +1,7 @@
 use Rattle.std.proofs.Common.{subst}
-use Rattle.output_readers.specs.Rows.{EachBegins}
-use Rattle.output_readers.specs.Operations.{staged}
-use Rattle.output_readers.proofs.EachRow.{each_trans}
+use Rattle.published_lists.specs.Rows.{EachBegins}
+use Rattle.published_lists.specs.Operations.{staged}
+use Rattle.published_lists.proofs.EachRow.{each_trans}
 use Rattle.output_readers.proofs.output_writer.OutputWriter.published_begins.Goals as goal
 
 pub returns : goal.returns

@@ -1,6 +1,6 @@
 use Rattle.std.proofs.Common.{Option, MatchOption, subst, sym}
 use Rattle.std.specs.Prelude.{⊤}
-use Rattle.output_readers.specs.Rows.{EachBegins}
+use Rattle.published_lists.specs.Rows.{EachBegins}
 use Rattle.output_readers.specs.Seeing.{Output}
 use Rattle.row_publishing.proofs.Shown.{published_kept}
 use Rattle.thread_runner.proofs.station.Station.published_begins.Goals as goal
