@@ -1,5 +1,5 @@
-//! The program `absflow`: `script FILE` runs a script, `run JOB INPUT..` runs a job over its inputs, `check JOB` judges a job file, and no
-//! word at all runs the script on standard input.
+//! The program `absflow`: `script FILE` runs a script, `run JOB INPUT..` runs a job over its
+//! inputs, `check JOB` judges a job file, and no word at all runs the script on standard input.
 #![tactic(auto)]
 
 ghost use Rattle.command_line.specs.Line.{AsksInRange};

@@ -1,8 +1,8 @@
 //! The program's command line: its three commands, read by `clap`. Proved: each number of the
 //! command line is in its range.
 //!
-//! [`parse_line`] answers what the words ask for, or clap's own error, which says what is wrong or is
-//! the help that was asked for. A number in a [`Line`] is in its range, whoever made the words.
+//! [`parse_line`] answers what the words ask for, or clap's own error, which says what is wrong or
+//! is the help that was asked for. A number in a [`Line`] is in its range, whoever made the words.
 #![tactic(auto)]
 
 ghost use Rattle.std.specs.Prelude.{◌≤◌, IfOk};

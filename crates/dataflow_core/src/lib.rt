@@ -9,8 +9,8 @@
 //! the task would do now (`K7` where not). A core over new devices is exactly once, whatever calls
 //! were made on it (`is_fresh`).
 //!
-//! A task's part is put in the store in one call (`persist`), or the work on it is done some entries
-//! a call, between other calls (`persist_some`); a part's bytes are the same.
+//! A task's part is put in the store in one call (`persist`), or the work on it is done some
+//! entries a call, between other calls (`persist_some`); a part's bytes are the same.
 //!
 //! `settle` and `drain` make many steps in one call, without claims: `settle` completes the pending
 //! checkpoint, and is refused only where memory is or a device fails; `drain` brings the job to

@@ -1,12 +1,13 @@
 //! The states of an operator, and its copy for the checkpoint that is pending. Proved: the part
-//! that is spelled, a few entries a call, is the one spelling of the states when it copied, whatever
-//! was written meanwhile.
+//! that is spelled, a few entries a call, is the one spelling of the states when it copied,
+//! whatever was written meanwhile.
 //!
 //! An [`OperatorState`] is a `keyed_state::KeyedState` and a vector of bytes. `copy` freezes the
 //! map: no entry is copied for it. `spell_some` appends the spelling of the next entries of the
 //! frozen map to the vector, in the order of their keys, and after the last of them the map is
 //! thawed. What was written since is merged by `merge_some`. `spell_logs` puts the logs behind the
-//! entries, so that a part is held once, and a later call puts others there. `part` gives the bytes.
+//! entries, so that a part is held once, and a later call puts others there. `part` gives the
+//! bytes.
 //!
 //! With n entries:
 //!
@@ -15,8 +16,8 @@
 //! - `spell_some` of k entries takes k times a time logarithmic in n, the time and memory of their
 //!   spelling, and one copy of a key. What a call cannot spell in full, it takes back;
 //! - `spell_logs` takes the time and memory of the spelling of the logs;
-//! - `get`, `set`, `set_all` and `merge_some` are those of `KeyedState`, and all else takes constant
-//!   time and no memory.
+//! - `get`, `set`, `set_all` and `merge_some` are those of `KeyedState`, and all else takes
+//!   constant time and no memory.
 #![tactic(auto)]
 
 mod operator_state;

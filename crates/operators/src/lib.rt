@@ -8,8 +8,8 @@
 //! ports; records with one key have one lane; what compares equal is the same value. So a record
 //! that is worked off again after a failure, in the state of then, gives the same again.
 //!
-//! There are nine operators on rows ([`RowOp`]), whose words, numbers, parameters and ports one table
-//! has ([`RowKind`]).
+//! There are nine operators on rows ([`RowOp`]), whose words, numbers, parameters and ports one
+//! table has ([`RowKind`]).
 #![tactic(auto)]
 
 mod operator;

@@ -1,8 +1,8 @@
-//! What publishing costs. The words are how many writers there are, and how often each publishes 100
-//! rows; the writers work one after the other, and all are kept. Standard output says how many rows
-//! are read afterwards, and is the same each time; the microseconds go to standard error.
-//! `tests/bench_readers.sh` compares 10 writers that publish 100 times with one that publishes 1,000
-//! times: as many rows and as much memory.
+//! What publishing costs. The words are how many writers there are, and how often each publishes
+//! 100 rows; the writers work one after the other, and all are kept. Standard output says how many
+//! rows are read afterwards, and is the same each time; the microseconds go to standard error.
+//! `tests/bench_readers.sh` compares 10 writers that publish 100 times with one that publishes
+//! 1,000 times: as many rows and as much memory.
 #![tactic(auto)]
 
 use output_readers::{OutputFault, OutputWriter};

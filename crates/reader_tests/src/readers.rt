@@ -114,7 +114,8 @@ fn show_all<R: Wait + Drop>(alloc: Global, writer: &mut OutputWriter<R>, rows: u
     true
 }
 
-// What two readers found on another thread: one of a row that it was told, and one beside the writer.
+// What two readers found on another thread: one of a row that it was told, and one beside the
+// writer.
 fn seen_there<R: Threads + Wait + Sync, W: Wait + Drop + Send>(
     rt: &R,
     alloc: Global,
@@ -142,7 +143,8 @@ fn served<R: Wait + Drop>(
     (kept, seen, handed_out(writer, 17))
 }
 
-// There are 48 places for what is told, beside 16 readers; each is free again once its owner has gone.
+// There are 48 places for what is told, beside 16 readers; each is free again once its owner has
+// gone.
 #[test]
 fn places_and_readers_run_out_and_no_read_follows_the_end(rt: HostRuntime) -> Result<(), Fail> {
     let mut writer = OutputWriter::new(&rt, rt.alloc(), 2).map_err(|_| AllocError)?;
