@@ -6,7 +6,7 @@ use crate::patience::Patience;
 use crate::pause::Pause;
 use crate::station::{Next, Station};
 use commit_sink::Transactions;
-use dataflow_core::Job;
+use dataflow_core::{Done, Job};
 use operators::Operator;
 use run_schedule::RunFault;
 use snapshot_store::SnapshotStore;
@@ -16,7 +16,7 @@ use std::sync::ledger::{Ledger, Share};
 use std::sync::{Mutex, Wait};
 use std::thread;
 use std::thread::Threads;
-use std::time::Clock;
+use std::time::{Clock, Instant};
 
 /// What a run did.
 #[derive(Clone, Copy, PartialEq, Eq, Debug)]
@@ -155,10 +155,29 @@ impl<L: Ledger> Worker<L> {
             }
         }
         let done = job.run();
-        let records = done.records();
         pause.after_run(attempt, serial);
         let ended = self.patience.now(rt);
         self.patience.ran_job(begun, ended);
+        self.hand_in(rt, station, task, done, ended);
+    }
+
+    /// Hands in what was done of a task's job, which ended then.
+    fn hand_in<
+        O: Operator,
+        S: SnapshotStore + Drop,
+        X: Transactions + Drop,
+        P: Partitions<Record = O::Record> + Drop,
+        W: Wait + Drop,
+        R: Wait + Clock,
+    >(
+        &mut self,
+        rt: &R,
+        station: &Mutex<Station<O, S, X, P, L, W>>,
+        task: u32,
+        done: Done<O>,
+        ended: Option<Instant>,
+    ) {
+        let records = done.records();
         let Worker {
             share,
             finished,
