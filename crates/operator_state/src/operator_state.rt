@@ -22,7 +22,6 @@ use task_part::{write_count, write_logs};
 /// The states of an operator by key, and its copy for the pending checkpoint.
 #[derive(Drop)]
 pub struct OperatorState<K: Codec + Ord, S: Codec> {
-    alloc: Global,
     /// Frozen while entries of the copy are left to be spelled.
     states: KeyedState<K, S>,
     has_copied: bool,
@@ -130,7 +129,6 @@ impl<K: Codec + Ord, S: Codec> OperatorState<K, S> {
         } }
     {
         OperatorState {
-            alloc,
             states: KeyedState::from_map(alloc, map),
             has_copied: false,
             last: None,
@@ -213,7 +211,8 @@ impl<K: Codec + Ord, S: Codec> OperatorState<K, S> {
         self.has_copied
     }
 
-    /// Forgets the copy, if there is one. It takes no memory.
+    /// Forgets the copy, if there is one. It takes no memory, and keeps the room of the part for the
+    /// next one.
     pub fn forget(&mut self)
         ensures { self.new ≡ record self.old {
           copy = None;
@@ -225,7 +224,7 @@ impl<K: Codec + Ord, S: Codec> OperatorState<K, S> {
         self.has_copied = false;
         self.last = None;
         self.left = 0;
-        self.bytes = Vec::new(self.alloc);
+        self.bytes.clear();
         self.end = 0;
     }
 
