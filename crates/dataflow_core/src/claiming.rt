@@ -45,6 +45,7 @@ impl<O: Operator, S: SnapshotStore, X: Transactions, P: Partitions<Record = O::R
         ensures made { self.now.serials ≤ 2 ^ 63 }
         ensures out { length self.now.claims ≤ self.now.serials }
     {
+        // (brings into the proof what every core keeps)
         let _ = &self.serials;
     }
 

@@ -136,6 +136,7 @@ impl<O: Operator, S: SnapshotStore, X: Transactions, P: Partitions<Record = O::R
     {
         let mut replies = Vec::new(self.alloc);
         if replies.reserve(steps.len()).is_err() {
+            // (brings into the proof what every core keeps)
             self.is_fresh();
             return Err(CoreFault::Memory);
         }
@@ -143,6 +144,7 @@ impl<O: Operator, S: SnapshotStore, X: Transactions, P: Partitions<Record = O::R
             let reply = self.step(desk, step);
             replies.push_reserved(reply);
         }
+        // (brings into the proof what every core keeps)
         self.is_fresh();
         Ok(replies)
     }

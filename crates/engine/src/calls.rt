@@ -199,6 +199,7 @@ impl<O: Operator, S: SnapshotStore, X: Transactions, P: Partitions<Record = O::R
             ↔ ((S.state store ≡ stores.blank (length graph.tasks))
             × (X.state transactions ≡ ledgers.blank (count_by is_sink graph.tasks))) }
     {
+        // (brings into the proof what every graph keeps)
         let _ = graph.tasks();
         let is_fresh = are_new(&store, &transactions);
         Engine {

@@ -22,6 +22,7 @@ impl<S: SnapshotStore, X: Transactions, P: Partitions<Record = Row>> Engine<RowO
             → slice_get self.now.operators 0 ≡ Some (RowOp.Add n)
             → CommitsABeginning row_language self.now (λ rows. map (added n) rows) }
     {
+        // (brings into the proof what every engine keeps)
         let _ = &self.is_fresh;
     }
 }

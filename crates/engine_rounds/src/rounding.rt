@@ -99,6 +99,7 @@ pub fn idle_engines_rest<
     ensures { IsSound ⟦<O as Rules>⟧.all engine.now → pending_in engine.now.held ≡ None
         → AreIdle engine.now → IsResting ⟦<O as Rules>⟧.lang engine.now }
 {
+    // (brings into the proof what every engine keeps)
     engine.is_fresh();
 }
 

@@ -74,6 +74,7 @@ fn work_turn<O: Operator, S: SnapshotStore, X: Transactions, P: Partitions<Recor
     ensures counted { IsCounted engine.old.faults engine.new.faults result }
     ensures pending { OnOk result (pending_in engine.new.held ≡ pending_in engine.old.held) }
 {
+    // (brings into the proof what every graph keeps)
     let _ = engine.graph().tasks();
     let inputs = engine.graph().inputs(task).len() as u32;
     for input in 0..inputs {

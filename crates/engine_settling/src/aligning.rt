@@ -41,6 +41,7 @@ pub(crate) fn copy_tasks<
             Ok(()) => {}
             Err(fault) => return Err(fault),
         }
+        // (brings into the proof what every engine keeps)
         engine.is_fresh();
     }
     Ok(())
@@ -64,6 +65,7 @@ pub(crate) fn close_logs<
             Err(fault) => return Err(fault),
         }
     }
+    // (brings into the proof what every engine keeps)
     engine.is_fresh();
     Ok(())
 }

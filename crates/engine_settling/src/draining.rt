@@ -45,6 +45,7 @@ fn end_at_rest<O: Operator, S: SnapshotStore, X: Transactions, P: Partitions<Rec
     ensures ends { EndsAtRest ⟦<O as Rules>⟧.all engine.old engine.new result }
     ensures counted { IsCounted engine.old.faults engine.new.faults result }
 {
+    // (brings into the proof what every engine keeps)
     engine.is_fresh();
     match engine.trigger() {
         Ok(_) => settle(engine, alloc),
@@ -78,6 +79,7 @@ pub fn drain<O: Operator, S: SnapshotStore, X: Transactions, P: Partitions<Recor
     }
     match end_at_rest(engine, alloc) {
         Ok(()) => {
+            // (brings into the proof what every engine keeps)
             engine.is_fresh();
             Ok(Drained::AtRest)
         }

@@ -37,6 +37,7 @@ fn inject_source<O: Operator, S: SnapshotStore, X: Transactions, P: Partitions<R
         (λ _ h. copy_at h task ≢ None) result }
     ensures counted { IsCounted engine.old.faults engine.new.faults result }
 {
+    // (brings into the proof what every engine keeps)
     engine.is_fresh();
     done(engine.inject(task))
 }

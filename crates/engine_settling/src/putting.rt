@@ -27,6 +27,7 @@ fn persist_task<O: Operator, S: SnapshotStore, X: Transactions, P: Partitions<Re
         (λ _ h. has_acked h.coordination task ≡ true) result }
     ensures counted { IsCounted engine.old.faults engine.new.faults result }
 {
+    // (brings into the proof what every engine keeps)
     engine.is_fresh();
     done(engine.persist(task))
 }
@@ -62,6 +63,7 @@ pub(crate) fn complete<
     ensures ends { EndsCompletion ⟦<O as Rules>⟧.all engine.old engine.new result }
     ensures counted { IsCounted engine.old.faults engine.new.faults result }
 {
+    // (brings into the proof what every engine keeps)
     engine.is_fresh();
     match engine.complete() {
         Ok(_) => Ok(()),
@@ -78,6 +80,7 @@ fn commit_task<O: Operator, S: SnapshotStore, X: Transactions, P: Partitions<Rec
     ensures ends { EndsCommitAt ⟦<O as Rules>⟧.all engine.old engine.new task result }
     ensures counted { IsCounted engine.old.faults engine.new.faults result }
 {
+    // (brings into the proof what every engine keeps)
     engine.is_fresh();
     match engine.graph().role(task) {
         Some(Role::Sink(subtask)) => engine.commit(subtask),

@@ -82,6 +82,7 @@ pub fn settle<O: Operator, S: SnapshotStore, X: Transactions, P: Partitions<Reco
         Ok(()) => {}
         Err(fault) => return Err(fault),
     }
+    // (brings into the proof what every engine keeps)
     engine.is_fresh();
     commit_sinks(engine)
 }

@@ -33,7 +33,9 @@ fn work_first<O: Operator, S: SnapshotStore, X: Transactions, P: Partitions<Reco
         < leading_in engine.old.held channel) }
     ensures counted { IsCounted engine.old.faults engine.new.faults result }
 {
+    // (brings into the proof what every engine keeps)
     engine.is_fresh();
+    // (the clauses alone name it)
     let _ = channel;
     match engine.offer(task, input, 1) {
         Ok(work) => engine.accept(task, input, work.run(alloc)),
@@ -60,6 +62,7 @@ fn up_to_barrier<O: Operator, S: SnapshotStore, X: Transactions, P: Partitions<R
             Err(fault) => return Err(fault),
         }
     }
+    // (brings into the proof what every engine keeps)
     engine.is_fresh();
     match engine.take_barrier(task, input) {
         Ok(_) => Ok(()),
@@ -80,6 +83,7 @@ fn take_input<O: Operator, S: SnapshotStore, X: Transactions, P: Partitions<Reco
         (λ g h. HasCome g h task input marked) result }
     ensures counted { IsCounted engine.old.faults engine.new.faults result }
 {
+    // (brings into the proof what every engine keeps)
     engine.is_fresh();
     let Some(channel) = channel_of(engine.graph(), task, input) else {
         return Ok(());
@@ -105,6 +109,7 @@ pub(crate) fn take_inputs<
         (λ g h. HaveCome g h marked task) result }
     ensures counted { IsCounted engine.old.faults engine.new.faults result }
 {
+    // (brings into the proof what every engine keeps)
     engine.is_fresh();
     let inputs = engine.graph().inputs(task).len() as u32;
     for input in 0..inputs {

@@ -268,6 +268,7 @@ impl<R: Wait + Drop> OutputWriter<R> {
     pub fn published_begins(&self)
         ensures { EachBegins self.now.published self.now.appended }
     {
+        // (brings into the proof what every writer keeps)
         let _ = &self.last;
     }
 

@@ -41,6 +41,7 @@ pub fn restarted<O: Operator, S: SnapshotStore, X: Transactions, P: Partitions<R
     ensures grows { (S.fault_count store.old ≤ S.fault_count store.new)
         × (X.fault_count transactions.old ≤ X.fault_count transactions.new) }
 {
+    // (brings into the proof what every graph keeps)
     let _ = graph.tasks();
     let restored = restore::<O, S, P>(alloc, graph, operators, store, log)?;
     let number = restored.number();
