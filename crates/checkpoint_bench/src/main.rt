@@ -178,22 +178,54 @@ fn work_on<
     Some((cost, part.len()))
 }
 
-/// What so many checkpoints of so many keys cost.
-fn measure<R: Clock>(rt: &R, alloc: Global, keys: u64, checkpoints: u64) -> Option<(Cost, usize)> {
+/// The job's graph, and its operators.
+fn expanded(alloc: Global) -> Option<(Graph, Vec<RowOp>)> {
     let job = JobSpec::read(alloc, JOB.as_bytes()).ok()?;
     let graph = Graph::expand(alloc, &job).ok()?;
     let operators: Vec<RowOp> = job.operators(alloc).ok()?;
-    let mut log = MemoryLog::new(alloc, graph.sources()).ok()?;
+    Some((graph, operators))
+}
+
+/// So many partitions, with one row of each key in the first.
+fn filled(alloc: Global, partitions: u32, keys: u64) -> Option<MemoryLog<Row>> {
+    let mut log = MemoryLog::new(alloc, partitions).ok()?;
     put_rows(alloc, &mut log, keys)?;
+    Some(log)
+}
+
+/// A core over these devices, where they are the graph's.
+fn opened<
+    O: Operator,
+    S: SnapshotStore + Drop,
+    X: Transactions + Drop,
+    P: Partitions<Record = O::Record> + Drop,
+>(
+    alloc: Global,
+    graph: Graph,
+    operators: Vec<O>,
+    log: P,
+    store: S,
+    transactions: X,
+) -> Option<Core<O, S, X, P>> {
     if operators.len() != graph.operators() as usize || log.count() != graph.sources() {
         return None;
     }
+    if store.tasks() != graph.tasks() || transactions.subtasks() != graph.sinks() {
+        return None;
+    }
+    Some(Core::open(alloc, graph, operators, log, store, transactions))
+}
+
+/// What so many checkpoints of so many keys cost.
+fn measure<R: Clock>(rt: &R, alloc: Global, keys: u64, checkpoints: u64) -> Option<(Cost, usize)> {
+    let (graph, operators) = expanded(alloc)?;
     if graph.tasks() == 0 {
         return None;
     }
+    let log = filled(alloc, graph.sources(), keys)?;
     let store = MemoryStore::new(alloc, graph.tasks());
     let transactions = MemoryTransactions::new(alloc, graph.sinks());
-    let core = Core::open(alloc, graph, operators, log, store, transactions);
+    let core = opened(alloc, graph, operators, log, store, transactions)?;
     work_on(rt, alloc, core, keys, checkpoints)
 }
 
