@@ -1,22 +1,24 @@
--- Several entries that are put into a map one after another: in which order, what is taken out again, and how many there are.
+-- Several entries that are put into a map one after another: in which order, how they are undone, and how many there are.
 use Rattle.std.proofs.Common.{◌≡◌, ℕ, ◌+◌, ◌≤◌, Bool, true, false, not, cond, Option, Some, None, List, [], ◌∷◌, ◌++◌, length, filter, count_by, Ordering, append_assoc, refl, sym, ap, ◌∙◌, arith}
-use Rattle.std.specs.Prelude.{is_some, Result, Ok, Err, OnOk}
+use Rattle.std.specs.Prelude.{is_some, unwrap_or, Result, Ok, Err, OnOk}
 use Rattle.std.specs.Option.{option_or}
 use Rattle.std.specs.BTreeMap.{insert_entry, is_at}
 use Rattle.std.specs.Cmp.{IsTotalOrder, eq_by_cmp_equiv}
 use Rattle.std.specs.List.{AllByRecursion}
 use Rattle.std.specs.List.Sorted.{IsStrictlySortedBy}
-use Rattle.std.specs.Map.{keys_of, remove_entry}
+use Rattle.std.specs.Map.{keys_of, lookup, remove_entry, set_value}
 use Rattle.std.specs.Ordering.{match_ordering, is_eq}
 use Rattle.std.specs.Vec.Iter.{into_iter_items, into_iter_steps}
 use Rattle.std.specs.declared.cmp.Ordering.TheVariants.{Less, Equal, Greater}
 use Rattle.std.specs.declared.vec.IntoIter.{IntoIter}
 use Rattle.std.proofs.Common.{subst}
+use Rattle.std.proofs.lemmas.Bool.{false≢true}
 use Rattle.std.proofs.lemmas.List.Sums.{length-filter}
-use Rattle.std.proofs.lemmas.Map.{NonePasses, none_passes_from_lookup}
+use Rattle.std.proofs.lemmas.Map.{NonePasses, lookup-none, none_passes_from_lookup}
+use Rattle.std.proofs.lemmas.Map.Entries.{none_below_head}
 use Rattle.abs_codec.specs.Entries.{value_at}
 use Rattle.keyed_state.specs.Overlay.{put_over}
-use Rattle.keyed_state.specs.Putting.{has_key, AllKnown, AllNew, taken_out}
+use Rattle.keyed_state.specs.Putting.{has_key, AllKnown, with_former, undone}
 use Rattle.keyed_state.proofs.Laid.{none_is, shadowed, put_over-below, put_over-above, value_at-insert_entry, value_at-put_over, insert_entry-rises, length-insert_entry}
 
 -- an item that was taken stood first
@@ -51,10 +53,33 @@ module _ {S : Type 0} where
   some_either true v found h = refl
   some_either false v found h = h
 
-module _ {K S : Type 0} {cmp : K → K → Ordering} (order : IsTotalOrder cmp) where
-  -- ---- taken out again
+module _ {K S : Type 0} where
+  -- a state that is replaced, and put back
+  set_back : (test : K → Bool) (es : List (K × S)) (former state : S) → lookup test es ≡ Some former → set_value test (set_value test es state) former ≡ es
+  set_back test [] former state found = refl
+  set_back test (e ∷ es) former state found = by (test e.0) refl found (set_back test es former state)
+    where
+      by : (b : Bool) → test e.0 ≡ b → cond b (Some e.1) (lookup test es) ≡ Some former → (lookup test es ≡ Some former → set_value test (set_value test es state) former ≡ es)
+          → set_value test (cond b ((e.0, state) ∷ es) (e ∷ set_value test es state)) former ≡ e ∷ es
+      by true p seen rest =
+          ap (λ (b : Bool). cond b ((e.0, former) ∷ es) ((e.0, state) ∷ set_value test es former)) p ∙ ap (λ (o : Option S). (e.0, unwrap_or o former) ∷ es) (sym seen)
+      by false p seen rest =
+          ap (λ (b : Bool). cond b ((e.0, former) ∷ set_value test es state) (e ∷ set_value test (set_value test es state) former)) p ∙ ap (λ (l : List (K × S)). e ∷ l) (rest seen)
 
-  pub new_out : (es : List (K × S)) (k : K) (v : S) → value_at cmp es k ≡ None → remove_entry (is_at (cmp k)) (insert_entry cmp es k v) ≡ es
+  -- there is no state to replace
+  pub none_set : (test : K → Bool) (es : List (K × S)) (state : S) → lookup test es ≡ None → set_value test es state ≡ es
+  none_set test [] state none = refl
+  none_set test (e ∷ es) state none = by (test e.0) none (none_set test es state)
+    where
+      by : (b : Bool) → cond b (Some e.1) (lookup test es) ≡ None → (lookup test es ≡ None → set_value test es state ≡ es) → cond b ((e.0, state) ∷ es) (e ∷ set_value test es state) ≡ e ∷ es
+      by true found rest = absurd (false≢true (sym (ap is_some found)))
+      by false found rest = ap (λ (l : List (K × S)). e ∷ l) (rest found)
+
+module _ {K S : Type 0} {cmp : K → K → Ordering} (order : IsTotalOrder cmp) where
+  -- ---- undone
+
+  -- a new entry, taken out again
+  new_out : (es : List (K × S)) (k : K) (v : S) → value_at cmp es k ≡ None → remove_entry (is_at (cmp k)) (insert_entry cmp es k v) ≡ es
   new_out [] k v none = ap (λ (b : Bool). cond b [] ((k, v) ∷ [])) ((eq_by_cmp_equiv order).refl k)
   new_out (e ∷ es) k v none = by (cmp k e.0) refl (new_out es k v)
     where
@@ -65,18 +90,40 @@ module _ {K S : Type 0} {cmp : K → K → Ordering} (order : IsTotalOrder cmp) 
           let under : value_at cmp es k ≡ None = sym (ap (λ (r : Ordering). cond (is_eq r) (Some e.1) (value_at cmp es k)) p) ∙ none in
           ap (λ (r : Ordering). cond (is_eq r) (insert_entry cmp es k v) (e ∷ remove_entry (is_at (cmp k)) (insert_entry cmp es k v))) p ∙ ap (λ (l : List (K × S)). e ∷ l) (rest under)
 
-  taken_out-push : (keys : List K) (k : K) (es : List (K × S)) → taken_out cmp (keys ++ k ∷ []) es ≡ taken_out cmp keys (remove_entry (is_at (cmp k)) es)
-  taken_out-push [] k es = refl
-  taken_out-push (key ∷ keys) k es = ap (remove_entry (is_at (cmp key))) (taken_out-push keys k es)
+  -- a state that is replaced is put
+  pub set_out : (es : List (K × S)) (k : K) (former state : S) → IsStrictlySortedBy cmp (keys_of es) → value_at cmp es k ≡ Some former → set_value (is_at (cmp k)) es state ≡ insert_entry cmp es k state
+  unfolding IsStrictlySortedBy
+  set_out [] k former state rises found = absurd (false≢true (ap is_some found))
+  set_out (e ∷ es) k former state rises found = by (cmp k e.0) refl found (set_out es k former state rises.1)
+    where
+      by : (r : Ordering) → cmp k e.0 ≡ r → cond (is_eq r) (Some e.1) (value_at cmp es k) ≡ Some former → (value_at cmp es k ≡ Some former → set_value (is_at (cmp k)) es state ≡ insert_entry cmp es k state)
+          → cond (is_eq r) ((e.0, state) ∷ es) (e ∷ set_value (is_at (cmp k)) es state) ≡ match_ordering r ((k, state) ∷ e ∷ es) ((e.0, state) ∷ es) (e ∷ insert_entry cmp es k state)
+      by Less p seen rest =
+          let none : value_at cmp es k ≡ None = lookup-none (is_at (cmp k)) es (none_below_head order k e es rises p).1 in
+          absurd (false≢true (ap is_some (sym none ∙ seen)))
+      by Equal p seen rest = refl
+      by Greater p seen rest = ap (λ (l : List (K × S)). e ∷ l) (rest seen)
 
-  -- one that is put and noted is taken out first
-  pub noted_out : (keys notes : List K) (es after whole : List (K × S)) (k : K) (v : S) → notes ≡ keys ++ k ∷ [] → after ≡ insert_entry cmp es k v → value_at cmp es k ≡ None → taken_out cmp keys es ≡ whole → taken_out cmp notes after ≡ whole
-  noted_out keys notes es after whole k v noted put none back =
-      ap (λ (ks : List K). taken_out cmp ks after) noted ∙ ap (taken_out cmp (keys ++ k ∷ [])) put ∙ taken_out-push keys k (insert_entry cmp es k v) ∙ ap (taken_out cmp keys) (new_out es k v none) ∙ back
+  -- one that is put is undone
+  former_back : (es : List (K × S)) (k : K) (v : S) → IsStrictlySortedBy cmp (keys_of es) → with_former cmp (insert_entry cmp es k v) k (value_at cmp es k) ≡ es
+  former_back es k v rises = by (value_at cmp es k) refl
+    where
+      by : (former : Option S) → value_at cmp es k ≡ former → with_former cmp (insert_entry cmp es k v) k former ≡ es
+      by None p = new_out es k v p
+      by (Some former) p = ap (λ (l : List (K × S)). set_value (is_at (cmp k)) l former) (sym (set_out es k former v rises p)) ∙ set_back (is_at (cmp k)) es former v p
 
-  -- the last is taken out, and then the others
-  pub last_out : (keys rest : List K) (es after whole : List (K × S)) (k : K) → keys ≡ rest ++ k ∷ [] → after ≡ remove_entry (is_at (cmp k)) es → taken_out cmp keys es ≡ whole → taken_out cmp rest after ≡ whole
-  last_out keys rest es after whole k last out back = ap (taken_out cmp rest) out ∙ sym (taken_out-push rest k es) ∙ ap (λ (ks : List K). taken_out cmp ks es) (sym last) ∙ back
+  undone-push : (notes : List (K × Option S)) (note : K × Option S) (es : List (K × S)) → undone cmp (notes ++ note ∷ []) es ≡ undone cmp notes (with_former cmp es note.0 note.1)
+  undone-push [] note es = refl
+  undone-push (first ∷ notes) note es = ap (λ (l : List (K × S)). with_former cmp l first.0 first.1) (undone-push notes note es)
+
+  -- one that is put and noted is undone first
+  pub noted_undone : (notes more : List (K × Option S)) (es after whole : List (K × S)) (k : K) (v : S) → IsStrictlySortedBy cmp (keys_of es) → more ≡ notes ++ (k, value_at cmp es k) ∷ [] → after ≡ insert_entry cmp es k v → undone cmp notes es ≡ whole → undone cmp more after ≡ whole
+  noted_undone notes more es after whole k v rises noted put back =
+      ap (λ (ns : List (K × Option S)). undone cmp ns after) noted ∙ ap (undone cmp (notes ++ (k, value_at cmp es k) ∷ [])) put ∙ undone-push notes (k, value_at cmp es k) (insert_entry cmp es k v) ∙ ap (undone cmp notes) (former_back es k v rises) ∙ back
+
+  -- the last is undone, and then the others
+  pub last_undone : (notes rest : List (K × Option S)) (es after whole : List (K × S)) (note : K × Option S) → notes ≡ rest ++ note ∷ [] → after ≡ with_former cmp es note.0 note.1 → undone cmp notes es ≡ whole → undone cmp rest after ≡ whole
+  last_undone notes rest es after whole note last out back = ap (undone cmp rest) out ∙ sym (undone-push rest note es) ∙ ap (λ (ns : List (K × Option S)). undone cmp ns es) (sym last) ∙ back
 
   -- ---- keys that are there, and others
 
@@ -90,25 +137,8 @@ module _ {K S : Type 0} {cmp : K → K → Ordering} (order : IsTotalOrder cmp) 
   all_same es [] = tt
   all_same es (x ∷ xs) = (refl, all_same es xs)
 
-  new_from : (es0 es entries : List (K × S)) → IsStrictlySortedBy cmp (keys_of entries) → AllByRecursion (λ x. value_at cmp es x.0 ≡ value_at cmp es0 x.0) entries → AllNew cmp es (filter (λ e. not (has_key cmp es0 e)) entries)
-  unfolding IsStrictlySortedBy
-  new_from es0 es [] rises same = tt
-  new_from es0 es (e ∷ entries) rises same = by (has_key cmp es0 e) refl (new_from es0 es entries rises.1 same.1) (new_from es0 (insert_entry cmp es e.0 e.1) entries rises.1 (still es0 es e entries rises.0 same.1))
-    where
-      by : (b : Bool) → has_key cmp es0 e ≡ b → AllNew cmp es (filter (λ x. not (has_key cmp es0 x)) entries) → AllNew cmp (insert_entry cmp es e.0 e.1) (filter (λ x. not (has_key cmp es0 x)) entries)
-          → AllNew cmp es (cond (not b) (e ∷ filter (λ x. not (has_key cmp es0 x)) entries) (filter (λ x. not (has_key cmp es0 x)) entries))
-      by true h skip take = skip
-      by false h skip take = (same.0 ∙ none_is (value_at cmp es0 e.0) h, take)
-
-  pub all_new : (es entries : List (K × S)) → IsStrictlySortedBy cmp (keys_of entries) → AllNew cmp es (filter (λ e. not (has_key cmp es e)) entries)
-  all_new es entries rises = new_from es es entries rises (all_same es entries)
-
   kept_by_one : (es : List (K × S)) (k : K) (v : S) (x : K × S) → has_key cmp es x ≡ true → has_key cmp (insert_entry cmp es k v) x ≡ true
   kept_by_one es k v x h = ap is_some (value_at-insert_entry order es k v x.0) ∙ some_either (is_at (cmp k) x.0) v (value_at cmp es x.0) h
-
-  pub kept_by_all : (es later : List (K × S)) (x : K × S) → has_key cmp es x ≡ true → has_key cmp (put_over cmp es later) x ≡ true
-  kept_by_all es [] x h = h
-  kept_by_all es (e ∷ later) x h = kept_by_all (insert_entry cmp es e.0 e.1) later x (kept_by_one es e.0 e.1 x h)
 
   pub all_known : (es0 es entries : List (K × S)) → ((x : K × S) → has_key cmp es0 x ≡ true → has_key cmp es x ≡ true) → AllKnown cmp es (filter (λ e. has_key cmp es0 e) entries)
   all_known es0 es [] keeps = tt

@@ -1,12 +1,12 @@
 //! Several entries that are put into a map at once, or none of them.
 
-ghost use Rattle.std.specs.Prelude.{◌≡◌, ◌∷◌, ◌++◌, [], ◌<◌, true, None, not, filter, is_some, length, OnOk, OnErr, IfOk, IsTrue, if◌then◌else◌};
+ghost use Rattle.std.specs.Prelude.{◌≡◌, ◌∷◌, ◌++◌, ◌+◌, [], ◌<◌, true, None, not, filter, is_some, length, vec_len, vec_capacity, OnOk, OnErr, IfOk, IsTrue, if◌then◌else◌};
 ghost use Rattle.std.specs.List.Sorted.{IsStrictlySortedBy};
 ghost use Rattle.std.specs.Map.{keys_of};
 ghost use Rattle.std.specs.BTreeMap.{insert_entry};
 ghost use Rattle.abs_codec.specs.Entries.{value_at};
 ghost use Rattle.keyed_state.specs.Overlay.{put_over};
-ghost use Rattle.keyed_state.specs.Putting.{has_key, AllKnown, AllNew, taken_out};
+ghost use Rattle.keyed_state.specs.Putting.{has_key, AllKnown, with_former, undone};
 
 use abs_codec::{Codec, Map, NoMemory};
 use std::alloc::Global;
@@ -71,70 +71,75 @@ pub(crate) fn put_known<K: Ord + Drop, S: Drop>(map: &mut BTreeMap<K, S>, known:
     }
 }
 
-/// Puts an entry whose key is new, and notes the key.
+/// Gives a key its state, and notes what was there before. The key is looked up once where it is
+/// there.
 fn put_one<K: Codec + Ord, S: Drop>(
     map: &mut BTreeMap<K, S>,
-    keys: &mut Vec<K>,
+    notes: &mut Vec<(K, Option<S>)>,
     key: K,
     state: S,
 ) -> Result<(), NoMemory>
+    requires { vec_len notes.old < vec_capacity notes.old }
     ensures entries { OnOk result
         (map.new.entries ≡ insert_entry K.Ord.cmp map.old.entries key state) }
-    ensures noted { OnOk result (keys.new.items ≡ keys.old.items ++ key ∷ []) }
+    ensures noted { OnOk result (notes.new.items
+        ≡ notes.old.items ++ (key, value_at K.Ord.cmp map.old.entries key) ∷ []) }
+    ensures len { OnOk result (vec_len notes.new ≡ vec_len notes.old + 1) }
+    ensures room { vec_capacity notes.new ≡ vec_capacity notes.old }
     ensures entries_stay { OnErr result (map.new.entries ≡ map.old.entries) }
-    ensures notes_stay { OnErr result (keys.new.items ≡ keys.old.items) }
+    ensures notes_stay { OnErr result (notes.new.items ≡ notes.old.items) }
+    // The keys rise.
+    ensures ordered { IsStrictlySortedBy K.Ord.cmp (keys_of map.old.entries) }
 {
+    if let Some(seen) = map.get_mut(&key) {
+        let former = replace(seen, state);
+        notes.push_reserved((key, Some(former)));
+        return Ok(());
+    }
     let note = key.copied()?;
-    keys.reserve(1)?;
     map.insert(key, state)?;
-    keys.push_reserved(note);
+    notes.push_reserved((note, None));
     Ok(())
 }
 
-/// Puts these entries, whose keys are new, and notes their keys. At an `Err` those are noted that
-/// were put.
+/// Gives each of these keys its state, and notes what was there before. At an `Err` that is noted
+/// of those that were given theirs.
 fn put_noting<K: Codec + Ord, S: Drop>(
     map: &mut BTreeMap<K, S>,
-    keys: &mut Vec<K>,
-    fresh: Vec<(K, S)>,
+    notes: &mut Vec<(K, Option<S>)>,
+    entries: Vec<(K, S)>,
 ) -> Result<(), NoMemory>
-    requires none { keys.old.items ≡ [] }
-    requires fresh { AllNew K.Ord.cmp map.old.entries fresh.items }
-    ensures ok { OnOk result (map.new.entries ≡ put_over K.Ord.cmp map.old.entries fresh.items) }
-    ensures noted { taken_out K.Ord.cmp keys.new.items map.new.entries ≡ map.old.entries }
+    requires { notes.old.items ≡ [] }
+    ensures ok { OnOk result (map.new.entries
+        ≡ put_over K.Ord.cmp map.old.entries entries.items) }
+    ensures noted { undone K.Ord.cmp notes.new.items map.new.entries ≡ map.old.entries }
 {
-    for (key, state) in fresh {
-        put_one(map, keys, key, state)?;
+    notes.reserve(entries.len())?;
+    for (key, state) in entries {
+        put_one(map, notes, key, state)?;
     }
     Ok(())
 }
 
-/// Takes the entries at these keys out, the last first. It takes no memory.
-fn take_out<K: Ord + Drop, S: Drop>(map: &mut BTreeMap<K, S>, mut keys: Vec<K>)
-    ensures { map.new.entries ≡ taken_out K.cmp keys.items map.old.entries }
+/// Puts back what was there before at a key. It takes no memory.
+fn put_back<K: Ord + Drop, S: Drop>(map: &mut BTreeMap<K, S>, key: &K, former: Option<S>)
+    ensures { map.new.entries ≡ with_former K.cmp map.old.entries key.now former }
 {
-    while let Some(key) = keys.pop() {
-        map.remove(&key);
+    let Some(state) = former else {
+        map.remove(key);
+        return;
+    };
+    if let Some(seen) = map.get_mut(key) {
+        *seen = state;
     }
 }
 
-/// Puts these entries, whose keys are new, or none of them where memory is refused.
-fn put_fresh<K: Codec + Ord, S: Drop>(
-    alloc: Global,
-    map: &mut BTreeMap<K, S>,
-    fresh: Vec<(K, S)>,
-) -> Result<(), NoMemory>
-    requires { AllNew K.Ord.cmp map.old.entries fresh.items }
-    ensures ok { OnOk result (map.new.entries ≡ put_over K.Ord.cmp map.old.entries fresh.items) }
-    ensures err { OnErr result (map.new.entries ≡ map.old.entries) }
+/// Puts back what was there before at each of these keys, the last first. It takes no memory.
+fn undo<K: Ord + Drop, S: Drop>(map: &mut BTreeMap<K, S>, mut notes: Vec<(K, Option<S>)>)
+    ensures { map.new.entries ≡ undone K.cmp notes.items map.old.entries }
 {
-    let mut keys = Vec::new(alloc);
-    match put_noting(map, &mut keys, fresh) {
-        Ok(()) => Ok(()),
-        Err(refused) => {
-            take_out(map, keys);
-            Err(refused)
-        }
+    while let Some((key, former)) = notes.pop() {
+        put_back(map, &key, former);
     }
 }
 
@@ -149,10 +154,12 @@ pub(crate) fn put_all<K: Codec + Ord, S: Drop>(
         ≡ put_over K.Ord.cmp map.old.entries entries.items) }
     ensures err { OnErr result (map.new.entries ≡ map.old.entries) }
 {
-    let (known, fresh) = split(alloc, map, entries)?;
-    put_fresh(alloc, map, fresh)?;
-    put_known(map, known);
-    Ok(())
+    let mut notes = Vec::new(alloc);
+    let done = put_noting(map, &mut notes, entries);
+    if done.is_err() {
+        undo(map, notes);
+    }
+    done
 }
 
 /// Gives each of these keys its state, or none of them where memory is refused. The map itself is
