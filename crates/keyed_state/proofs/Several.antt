@@ -1,5 +1,5 @@
 -- Several entries that are put into a map one after another: in which order, how they are undone, and how many there are.
-use Rattle.std.proofs.Common.{◌≡◌, ℕ, ◌+◌, ◌≤◌, Bool, true, false, not, cond, Option, Some, None, List, [], ◌∷◌, ◌++◌, length, filter, count_by, Ordering, append_assoc, refl, sym, ap, ◌∙◌, arith}
+use Rattle.std.proofs.Common.{◌≡◌, ℕ, ◌+◌, ◌≤◌, Bool, true, false, not, cond, Option, Some, None, List, [], ◌∷◌, ◌++◌, length, filter, count_by, Ordering, refl, sym, ap, ◌∙◌, arith}
 use Rattle.std.specs.Prelude.{is_some, unwrap_or, Result, Ok, Err, OnOk}
 use Rattle.std.specs.Option.{option_or}
 use Rattle.std.specs.BTreeMap.{insert_entry, is_at}
@@ -14,44 +14,21 @@ use Rattle.std.specs.declared.vec.IntoIter.{IntoIter}
 use Rattle.std.proofs.Common.{subst}
 use Rattle.std.proofs.lemmas.Bool.{false≢true}
 use Rattle.std.proofs.lemmas.List.Sums.{length-filter}
-use Rattle.std.proofs.lemmas.Map.{NonePasses, lookup-none, none_passes_from_lookup}
+use Rattle.std.proofs.lemmas.Map.{lookup-none}
 use Rattle.std.proofs.lemmas.Map.Entries.{none_below_head}
 use Rattle.abs_codec.specs.Entries.{value_at}
 use Rattle.keyed_state.specs.Overlay.{put_over}
-use Rattle.keyed_state.specs.Putting.{has_key, AllKnown, with_former, undone}
-use Rattle.keyed_state.proofs.Laid.{none_is, shadowed, put_over-below, put_over-above, value_at-insert_entry, value_at-put_over, insert_entry-rises, length-insert_entry}
+use Rattle.keyed_state.specs.Putting.{has_key, with_former, undone}
+use Rattle.keyed_state.proofs.Laid.{shadowed, put_over-above, value_at-insert_entry, value_at-put_over, insert_entry-rises, length-insert_entry}
 
 -- an item that was taken stood first
 pub taken_first : {X Z : Type 0} (before after : IntoIter X Z) (taken : Option X) (x : X) → taken ≡ Some x → into_iter_steps before taken after → into_iter_items before ≡ x ∷ into_iter_items after
 taken_first before after taken x is steps = (subst (λ o. into_iter_steps before o after) is steps).0
 
--- one that passes a test goes behind those that passed it before, and another does not
-module _ {A : Type 0} (p : A → Bool) (old new before after whole : List A) (x : A) (is : before ≡ x ∷ after) (left : old ++ filter p before ≡ whole) where
-  passed : p x ≡ true → new ≡ old ++ x ∷ [] → new ++ filter p after ≡ whole
-  passed passes push =
-      ap (λ (l : List A). l ++ filter p after) push ∙ append_assoc old (x ∷ []) (filter p after)
-      ∙ sym (ap (λ (l : List A). old ++ filter p l) is ∙ ap (λ (b : Bool). old ++ cond b (x ∷ filter p after) (filter p after)) passes) ∙ left
-
-  missed : p x ≡ false → new ≡ old → new ++ filter p after ≡ whole
-  missed fails same =
-      ap (λ (l : List A). l ++ filter p after) same ∙ sym (ap (λ (l : List A). old ++ filter p l) is ∙ ap (λ (b : Bool). old ++ cond b (x ∷ filter p after) (filter p after)) fails) ∙ left
-
-  pub gone_in : (b : Bool) → p x ≡ b → new ≡ cond b (old ++ x ∷ []) old → new ++ filter p after ≡ whole
-  gone_in true passes push = passed passes push
-  gone_in false fails same = missed fails same
-
-  pub left_out : (b : Bool) → p x ≡ not b → new ≡ cond b old (old ++ x ∷ []) → new ++ filter p after ≡ whole
-  left_out true fails same = missed fails same
-  left_out false passes push = passed passes push
-
 module _ {S : Type 0} where
-  pub shadowed_or : (first second : Option S) → shadowed first second ≡ option_or first second
+  shadowed_or : (first second : Option S) → shadowed first second ≡ option_or first second
   shadowed_or None second = refl
   shadowed_or (Some v) second = refl
-
-  some_either : (b : Bool) (v : S) (found : Option S) → is_some found ≡ true → is_some (cond b (Some v) found) ≡ true
-  some_either true v found h = refl
-  some_either false v found h = h
 
 module _ {K S : Type 0} where
   -- a state that is replaced, and put back
@@ -117,9 +94,10 @@ module _ {K S : Type 0} {cmp : K → K → Ordering} (order : IsTotalOrder cmp) 
   undone-push (first ∷ notes) note es = ap (λ (l : List (K × S)). with_former cmp l first.0 first.1) (undone-push notes note es)
 
   -- one that is put and noted is undone first
-  pub noted_undone : (notes more : List (K × Option S)) (es after whole : List (K × S)) (k : K) (v : S) → IsStrictlySortedBy cmp (keys_of es) → more ≡ notes ++ (k, value_at cmp es k) ∷ [] → after ≡ insert_entry cmp es k v → undone cmp notes es ≡ whole → undone cmp more after ≡ whole
-  noted_undone notes more es after whole k v rises noted put back =
-      ap (λ (ns : List (K × Option S)). undone cmp ns after) noted ∙ ap (undone cmp (notes ++ (k, value_at cmp es k) ∷ [])) put ∙ undone-push notes (k, value_at cmp es k) (insert_entry cmp es k v) ∙ ap (undone cmp notes) (former_back es k v rises) ∙ back
+  pub noted_undone : (notes more : List (K × Option S)) (es after : List (K × S)) (k : K) (v : S) (former : Option S) → IsStrictlySortedBy cmp (keys_of es) → value_at cmp es k ≡ former → more ≡ notes ++ (k, former) ∷ [] → after ≡ insert_entry cmp es k v → undone cmp more after ≡ undone cmp notes es
+  noted_undone notes more es after k v former rises was noted put =
+      ap (λ (ns : List (K × Option S)). undone cmp ns after) noted ∙ ap (undone cmp (notes ++ (k, former) ∷ [])) put ∙ undone-push notes (k, former) (insert_entry cmp es k v)
+      ∙ ap (undone cmp notes) (ap (with_former cmp (insert_entry cmp es k v) k) (sym was) ∙ former_back es k v rises)
 
   -- the last is undone, and then the others
   pub last_undone : (notes rest : List (K × Option S)) (es after whole : List (K × S)) (note : K × Option S) → notes ≡ rest ++ note ∷ [] → after ≡ with_former cmp es note.0 note.1 → undone cmp notes es ≡ whole → undone cmp rest after ≡ whole
@@ -137,92 +115,16 @@ module _ {K S : Type 0} {cmp : K → K → Ordering} (order : IsTotalOrder cmp) 
   all_same es [] = tt
   all_same es (x ∷ xs) = (refl, all_same es xs)
 
-  kept_by_one : (es : List (K × S)) (k : K) (v : S) (x : K × S) → has_key cmp es x ≡ true → has_key cmp (insert_entry cmp es k v) x ≡ true
-  kept_by_one es k v x h = ap is_some (value_at-insert_entry order es k v x.0) ∙ some_either (is_at (cmp k) x.0) v (value_at cmp es x.0) h
-
-  pub all_known : (es0 es entries : List (K × S)) → ((x : K × S) → has_key cmp es0 x ≡ true → has_key cmp es x ≡ true) → AllKnown cmp es (filter (λ e. has_key cmp es0 e) entries)
-  all_known es0 es [] keeps = tt
-  all_known es0 es (e ∷ entries) keeps = by (has_key cmp es0 e) refl (all_known es0 es entries keeps) (all_known es0 (insert_entry cmp es e.0 e.1) entries (λ x h. kept_by_one es e.0 e.1 x (keeps x h)))
-    where
-      by : (b : Bool) → has_key cmp es0 e ≡ b → AllKnown cmp es (filter (λ x. has_key cmp es0 x) entries) → AllKnown cmp (insert_entry cmp es e.0 e.1) (filter (λ x. has_key cmp es0 x) entries)
-          → AllKnown cmp es (cond b (e ∷ filter (λ x. has_key cmp es0 x) entries) (filter (λ x. has_key cmp es0 x) entries))
-      by true h skip take = (keeps e h, take)
-      by false h skip take = skip
-
   -- ---- in which order they are put
-
-  apart : (p : K × S → Bool) (e : K × S) (entries : List (K × S)) → AllByRecursion (λ q. cmp e.0 q ≡ Less) (keys_of entries) → NonePasses (is_at (cmp e.0)) (filter p entries)
-  apart p e [] above = tt
-  apart p e (x ∷ xs) above = by (p x) (apart p e xs above.1)
-    where
-      by : (b : Bool) → NonePasses (is_at (cmp e.0)) (filter p xs) → NonePasses (is_at (cmp e.0)) (cond b (x ∷ filter p xs) (filter p xs))
-      by true rest = (ap is_eq above.0, rest)
-      by false rest = rest
-
-  -- those that pass a test go last
-  pub parted : (p : K × S → Bool) (es entries : List (K × S)) → IsStrictlySortedBy cmp (keys_of entries) → put_over cmp (put_over cmp es (filter (λ e. not (p e)) entries)) (filter (λ e. p e) entries) ≡ put_over cmp es entries
-  unfolding IsStrictlySortedBy
-  parted p es [] rises = refl
-  parted p es (e ∷ entries) rises = by (p e) (parted p (insert_entry cmp es e.0 e.1) entries rises.1)
-    where
-      others : List (K × S)
-      others = filter (λ x. not (p x)) entries
-
-      those : List (K × S)
-      those = filter (λ x. p x) entries
-
-      by : (b : Bool) → put_over cmp (put_over cmp (insert_entry cmp es e.0 e.1) others) those ≡ put_over cmp (insert_entry cmp es e.0 e.1) entries
-          → put_over cmp (put_over cmp es (cond (not b) (e ∷ others) others)) (cond b (e ∷ those) those) ≡ put_over cmp (insert_entry cmp es e.0 e.1) entries
-      by true rest = ap (λ (l : List (K × S)). put_over cmp l those) (sym (put_over-below order es others e.0 e.1 (apart (λ x. not (p x)) e entries rises.0))) ∙ rest
-      by false rest = rest
 
   above_all : (es later more : List (K × S)) → IsStrictlySortedBy cmp (keys_of later) → put_over cmp es (put_over cmp later more) ≡ put_over cmp (put_over cmp es later) more
   above_all es later [] rises = refl
   above_all es later (e ∷ more) rises =
       above_all es (insert_entry cmp later e.0 e.1) more (insert_entry-rises order later e.0 e.1 rises) ∙ ap (λ (l : List (K × S)). put_over cmp l more) (put_over-above order es later e.0 e.1 rises)
 
-  below_all : (es rest later : List (K × S)) → AllByRecursion (λ e. NonePasses (is_at (cmp e.0)) later) rest → put_over cmp (put_over cmp es rest) later ≡ put_over cmp (put_over cmp es later) rest
-  below_all es [] later apart = refl
-  below_all es (e ∷ rest) later apart =
-      below_all (insert_entry cmp es e.0 e.1) rest later apart.1 ∙ ap (λ (l : List (K × S)). put_over cmp l rest) (put_over-below order es later e.0 e.1 apart.0)
-
-  others_apart : (later entries : List (K × S)) → AllByRecursion (λ e. NonePasses (is_at (cmp e.0)) later) (filter (λ e. not (has_key cmp later e)) entries)
-  others_apart later [] = tt
-  others_apart later (e ∷ entries) = by (has_key cmp later e) refl (others_apart later entries)
-    where
-      by : (b : Bool) → has_key cmp later e ≡ b → AllByRecursion (λ x. NonePasses (is_at (cmp x.0)) later) (filter (λ x. not (has_key cmp later x)) entries)
-          → AllByRecursion (λ x. NonePasses (is_at (cmp x.0)) later) (cond (not b) (e ∷ filter (λ x. not (has_key cmp later x)) entries) (filter (λ x. not (has_key cmp later x)) entries))
-      by true h rest = rest
-      by false h rest = (none_passes_from_lookup (is_at (cmp e.0)) later (none_is (value_at cmp later e.0) h), rest)
-
   -- into the overlay alone
   pub all_above : (base overlay entries after seen : List (K × S)) → IsStrictlySortedBy cmp (keys_of overlay) → after ≡ put_over cmp overlay entries → put_over cmp base overlay ≡ seen → put_over cmp base after ≡ put_over cmp seen entries
   all_above base overlay entries after seen rises put is = ap (put_over cmp base) put ∙ above_all base overlay entries rises ∙ ap (λ (l : List (K × S)). put_over cmp l entries) is
-
-  -- into both: those whose key the overlay has go there
-  pub all_in_both : (base overlay entries : List (K × S)) → IsStrictlySortedBy cmp (keys_of overlay) → IsStrictlySortedBy cmp (keys_of entries)
-      → put_over cmp (put_over cmp base (filter (λ e. not (has_key cmp overlay e)) entries)) (put_over cmp overlay (filter (λ e. has_key cmp overlay e) entries)) ≡ put_over cmp (put_over cmp base overlay) entries
-  all_in_both base overlay entries over rises =
-      let rest = filter (λ (e : K × S). not (has_key cmp overlay e)) entries in
-      let later = filter (λ (e : K × S). has_key cmp overlay e) entries in
-      above_all (put_over cmp base rest) overlay later over ∙ ap (λ (l : List (K × S)). put_over cmp l later) (below_all base rest overlay (others_apart overlay entries)) ∙ parted (λ e. has_key cmp overlay e) (put_over cmp base overlay) entries rises
-
-  below_filtered : (p : K × S → Bool) (k : K) (entries : List (K × S)) → AllByRecursion (λ q. cmp k q ≡ Less) (keys_of entries) → AllByRecursion (λ q. cmp k q ≡ Less) (keys_of (filter p entries))
-  below_filtered p k [] above = tt
-  below_filtered p k (x ∷ xs) above = by (p x) (below_filtered p k xs above.1)
-    where
-      by : (b : Bool) → AllByRecursion (λ q. cmp k q ≡ Less) (keys_of (filter p xs)) → AllByRecursion (λ q. cmp k q ≡ Less) (keys_of (cond b (x ∷ filter p xs) (filter p xs)))
-      by true rest = (above.0, rest)
-      by false rest = rest
-
-  pub filtered_rise : (p : K × S → Bool) (entries : List (K × S)) → IsStrictlySortedBy cmp (keys_of entries) → IsStrictlySortedBy cmp (keys_of (filter p entries))
-  unfolding IsStrictlySortedBy
-  filtered_rise p [] rises = tt
-  filtered_rise p (e ∷ entries) rises = by (p e) (filtered_rise p entries rises.1)
-    where
-      by : (b : Bool) → IsStrictlySortedBy cmp (keys_of (filter p entries)) → IsStrictlySortedBy cmp (keys_of (cond b (e ∷ filter p entries) (filter p entries)))
-      by true rest = (below_filtered p e.0 entries rises.0, rest)
-      by false rest = rest
 
   -- ---- the value at a key
 
@@ -236,12 +138,6 @@ module _ {K S : Type 0} {cmp : K → K → Ordering} (order : IsTotalOrder cmp) 
   states_put (Err f) es entries after rises put = tt
 
   -- ---- how many there are
-
-  pub known_length : (es known : List (K × S)) → IsStrictlySortedBy cmp (keys_of es) → AllKnown cmp es known → length (put_over cmp es known) ≡ length es
-  known_length es [] rises all = refl
-  known_length es (e ∷ known) rises all =
-      let none : length es + 0 ≡ length es = omega arith in
-      known_length (insert_entry cmp es e.0 e.1) known (insert_entry-rises order es e.0 e.1 rises) all.1 ∙ length-insert_entry order es e.0 e.1 rises ∙ ap (λ (b : Bool). length es + cond b 0 1) all.0 ∙ none
 
   pub no_fewer : (es later : List (K × S)) → IsStrictlySortedBy cmp (keys_of es) → length es ≤ length (put_over cmp es later)
   no_fewer es [] rises = omega arith

@@ -1,6 +1,6 @@
 -- Several entries that are put into a map.
-use Rattle.std.specs.Prelude.{◌≡◌, Bool, true, List, [], ◌∷◌, Option, None, Some, is_some}
-use Rattle.std.specs.BTreeMap.{insert_entry, is_at}
+use Rattle.std.specs.Prelude.{Bool, List, [], ◌∷◌, Option, None, Some, is_some}
+use Rattle.std.specs.BTreeMap.{is_at}
 use Rattle.std.specs.Map.{remove_entry, set_value}
 use Rattle.std.specs.declared.cmp.Ordering.{Ordering}
 use Rattle.abs_codec.specs.Entries.{value_at}
@@ -9,11 +9,6 @@ module _ {K S : Type 0} (cmp : K → K → Ordering) where
   -- an entry whose key is among these entries
   abbrev pub has_key : List (K × S) → K × S → Bool
   has_key entries entry = is_some (value_at cmp entries entry.0)
-
-  -- Each key is there when its entry is put, one after another.
-  abbrev pub AllKnown : List (K × S) → List (K × S) → Type 0
-  AllKnown entries [] = Unit {0}
-  AllKnown entries (entry ∷ more) = (has_key entries entry ≡ true) × AllKnown (insert_entry cmp entries entry.0 entry.1) more
 
   -- what was there before at a key is there again: its state, or none
   abbrev pub with_former : List (K × S) → K → Option S → List (K × S)

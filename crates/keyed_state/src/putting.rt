@@ -1,75 +1,16 @@
 //! Several entries that are put into a map at once, or none of them.
 
-ghost use Rattle.std.specs.Prelude.{◌≡◌, ◌∷◌, ◌++◌, ◌+◌, [], ◌<◌, true, None, not, filter, is_some, length, vec_len, vec_capacity, OnOk, OnErr, IfOk, IsTrue, if◌then◌else◌};
+ghost use Rattle.std.specs.Prelude.{◌≡◌, ◌+◌, ◌<◌, length, vec_len, vec_capacity, OnOk, OnErr};
 ghost use Rattle.std.specs.List.Sorted.{IsStrictlySortedBy};
 ghost use Rattle.std.specs.Map.{keys_of};
 ghost use Rattle.std.specs.BTreeMap.{insert_entry};
-ghost use Rattle.abs_codec.specs.Entries.{value_at};
 ghost use Rattle.keyed_state.specs.Overlay.{put_over};
-ghost use Rattle.keyed_state.specs.Putting.{has_key, AllKnown, with_former, undone};
+ghost use Rattle.keyed_state.specs.Putting.{with_former, undone};
 
 use abs_codec::{Codec, Map, NoMemory};
 use std::alloc::Global;
 use std::collections::BTreeMap;
 use std::mem::replace;
-
-/// Puts an entry last into one of two lists.
-fn push_into<K: Drop, S: Drop>(
-    is_known: bool,
-    known: &mut Vec<(K, S)>,
-    fresh: &mut Vec<(K, S)>,
-    entry: (K, S),
-) -> Result<(), NoMemory>
-    ensures known { OnOk result (known.new.items
-        ≡ (if is_known then known.old.items ++ entry ∷ [] else known.old.items)) }
-    ensures fresh { OnOk result (fresh.new.items
-        ≡ (if is_known then fresh.old.items else fresh.old.items ++ entry ∷ [])) }
-{
-    if is_known {
-        known.push(entry)?;
-        return Ok(());
-    }
-    fresh.push(entry)?;
-    Ok(())
-}
-
-/// Those of these entries whose key is in the map, and the others.
-pub(crate) fn split<K: Ord + Drop, S: Drop>(
-    alloc: Global,
-    map: &BTreeMap<K, S>,
-    entries: Vec<(K, S)>,
-) -> Result<(Vec<(K, S)>, Vec<(K, S)>), NoMemory>
-    ensures known { IfOk result (λ parts. parts.0.items
-        ≡ filter (λ e. has_key K.cmp map.now.entries e) entries.items) }
-    ensures fresh { IfOk result (λ parts. parts.1.items
-        ≡ filter (λ e. not (has_key K.cmp map.now.entries e)) entries.items) }
-{
-    let mut known = Vec::new(alloc);
-    let mut fresh = Vec::new(alloc);
-    for (key, state) in entries {
-        let is_known = map.contains_key(&key);
-        push_into(is_known, &mut known, &mut fresh, (key, state))?;
-    }
-    Ok((known, fresh))
-}
-
-/// Replaces the state at a key. It takes no memory.
-fn put_again<K: Ord + Drop, S: Drop>(map: &mut BTreeMap<K, S>, key: K, state: S)
-    requires { IsTrue (is_some (value_at K.cmp map.old.entries key)) }
-    ensures { map.new.entries ≡ insert_entry K.cmp map.old.entries key state }
-{
-    let _replaced = map.insert(key, state);
-}
-
-/// Replaces the states at these keys, which are all in the map. It takes no memory.
-pub(crate) fn put_known<K: Ord + Drop, S: Drop>(map: &mut BTreeMap<K, S>, known: Vec<(K, S)>)
-    requires { AllKnown K.cmp map.old.entries known.items }
-    ensures { map.new.entries ≡ put_over K.cmp map.old.entries known.items }
-{
-    for (key, state) in known {
-        put_again(map, key, state);
-    }
-}
 
 /// Gives a key its state, and notes what was there before. The key is looked up once where it is
 /// there.
@@ -82,14 +23,13 @@ fn put_one<K: Codec + Ord, S: Drop>(
     requires { vec_len notes.old < vec_capacity notes.old }
     ensures entries { OnOk result
         (map.new.entries ≡ insert_entry K.Ord.cmp map.old.entries key state) }
-    ensures noted { OnOk result (notes.new.items
-        ≡ notes.old.items ++ (key, value_at K.Ord.cmp map.old.entries key) ∷ []) }
+    ensures undone { undone K.Ord.cmp notes.new.items map.new.entries
+        ≡ undone K.Ord.cmp notes.old.items map.old.entries }
     ensures len { OnOk result (vec_len notes.new ≡ vec_len notes.old + 1) }
     ensures room { vec_capacity notes.new ≡ vec_capacity notes.old }
-    ensures entries_stay { OnErr result (map.new.entries ≡ map.old.entries) }
-    ensures notes_stay { OnErr result (notes.new.items ≡ notes.old.items) }
     // The keys rise.
-    ensures ordered { IsStrictlySortedBy K.Ord.cmp (keys_of map.old.entries) }
+    ensures was_ordered { IsStrictlySortedBy K.Ord.cmp (keys_of map.old.entries) }
+    ensures ordered { IsStrictlySortedBy K.Ord.cmp (keys_of map.new.entries) }
 {
     if let Some(seen) = map.get_mut(&key) {
         let former = replace(seen, state);
@@ -109,10 +49,10 @@ fn put_noting<K: Codec + Ord, S: Drop>(
     notes: &mut Vec<(K, Option<S>)>,
     entries: Vec<(K, S)>,
 ) -> Result<(), NoMemory>
-    requires { notes.old.items ≡ [] }
     ensures ok { OnOk result (map.new.entries
         ≡ put_over K.Ord.cmp map.old.entries entries.items) }
-    ensures noted { undone K.Ord.cmp notes.new.items map.new.entries ≡ map.old.entries }
+    ensures undone { undone K.Ord.cmp notes.new.items map.new.entries
+        ≡ undone K.Ord.cmp notes.old.items map.old.entries }
 {
     notes.reserve(entries.len())?;
     for (key, state) in entries {
@@ -179,6 +119,42 @@ pub(crate) fn put_all_in<K: Codec + Ord, S: Drop>(
     done
 }
 
+/// Gives each of these keys its state, in the overlay where that has the key, else in the base, and
+/// notes in two lists what was there before. At an `Err` that is noted of those that were given
+/// theirs.
+fn put_both_noting<K: Codec + Ord, S: Drop>(
+    base: &mut BTreeMap<K, S>,
+    overlay: &mut BTreeMap<K, S>,
+    below: &mut Vec<(K, Option<S>)>,
+    above: &mut Vec<(K, Option<S>)>,
+    entries: Vec<(K, S)>,
+) -> Result<(), NoMemory>
+    requires base_rises { IsStrictlySortedBy K.Ord.cmp (keys_of base.old.entries) }
+    requires overlay_rises { IsStrictlySortedBy K.Ord.cmp (keys_of overlay.old.entries) }
+    ensures ok { OnOk result (put_over K.Ord.cmp base.new.entries overlay.new.entries ≡ put_over
+        K.Ord.cmp (put_over K.Ord.cmp base.old.entries overlay.old.entries) entries.items) }
+    ensures base_rises { OnOk result (IsStrictlySortedBy K.Ord.cmp (keys_of base.new.entries)) }
+    ensures overlay_rises { OnOk result
+        (IsStrictlySortedBy K.Ord.cmp (keys_of overlay.new.entries)) }
+    ensures overlay_grows_not { OnOk result
+        (length overlay.new.entries ≡ length overlay.old.entries) }
+    ensures base_undone { undone K.Ord.cmp below.new.items base.new.entries
+        ≡ undone K.Ord.cmp below.old.items base.old.entries }
+    ensures overlay_undone { undone K.Ord.cmp above.new.items overlay.new.entries
+        ≡ undone K.Ord.cmp above.old.items overlay.old.entries }
+{
+    below.reserve(entries.len())?;
+    above.reserve(entries.len())?;
+    for (key, state) in entries {
+        if overlay.contains_key(&key) {
+            put_one(overlay, above, key, state)?;
+        } else {
+            put_one(base, below, key, state)?;
+        }
+    }
+    Ok(())
+}
+
 /// Gives each of these keys its state, or none of them where memory is refused: in the overlay
 /// where it has the key, else in the base.
 pub(crate) fn put_in_both<K: Codec + Ord, S: Drop>(
@@ -198,8 +174,14 @@ pub(crate) fn put_in_both<K: Codec + Ord, S: Drop>(
     ensures base_stays { OnErr result (base.new ≡ base.old) }
     ensures overlay_stays { OnErr result (overlay.new.entries ≡ overlay.old.entries) }
 {
-    let (later, rest) = split(alloc, overlay, entries)?;
-    put_all_in(alloc, base, rest)?;
-    put_known(overlay, later);
-    Ok(())
+    let mut below = Vec::new(alloc);
+    let mut above = Vec::new(alloc);
+    let mut tree = replace(base, Map::new(alloc)).into_btree_map();
+    let done = put_both_noting(&mut tree, overlay, &mut below, &mut above, entries);
+    if done.is_err() {
+        undo(&mut tree, below);
+        undo(overlay, above);
+    }
+    *base = Map::from_btree_map(alloc, tree);
+    done
 }

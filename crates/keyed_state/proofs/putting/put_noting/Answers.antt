@@ -1,7 +1,7 @@
 use Rattle.std.proofs.Common.{◌≡◌, ◌+◌, length, arith, sym, ap, ◌∙◌}
 use Rattle.std.specs.Vec.Iter.{into_iter_items}
 use Rattle.keyed_state.specs.Overlay.{put_over}
-use Rattle.keyed_state.proofs.Several.{taken_first, noted_undone}
+use Rattle.keyed_state.proofs.Several.{taken_first}
 use Rattle.keyed_state.proofs.putting.put_noting.Goals as goal
 
 pub loop-key-preserved : goal.loop-key-preserved
@@ -12,6 +12,6 @@ loop-key-preserved g c =
     let more : length (into_iter_items c.loop-key.key-iterator) ≡ length rest + 1 = ap length turn ∙ omega arith in
     record {
       put = ap (λ es. put_over g.K.Ord.cmp es rest) is ∙ sym (ap (put_over g.K.Ord.cmp c.loop-key.map.entries) turn) ∙ c.loop-key.invariant.put;
-      noted = noted_undone g.met.K.Ord.total c.loop-key.notes.items c.put_one.new.notes.items c.loop-key.map.entries c.put_one.new.map.entries c.args.map.now.entries c.in-Some.key c.in-Some.state c.put_one.ensures.ordered c.in_ok-put_one.ensures.noted is c.loop-key.invariant.noted;
+      undone = c.put_one.ensures.undone ∙ c.loop-key.invariant.undone;
       room = omega (arith, c.loop-key.invariant.room, more, c.in_ok-put_one.ensures.len, c.put_one.ensures.room);
     }

@@ -8,6 +8,6 @@ use Rattle.keyed_state.proofs.putting.put_noting.Given as goal
 abbrev pub invariant-loop-key : goal.invariant-loop-key
 invariant-loop-key g l = record {
   put : put_over g.K.Ord.cmp l.map.entries (into_iter_items l.key-iterator) ≡ put_over g.K.Ord.cmp l.fn.map.entries l.fn.entries.items;
-  noted : undone g.K.Ord.cmp l.notes.items l.map.entries ≡ l.fn.map.entries;
+  undone : undone g.K.Ord.cmp l.notes.items l.map.entries ≡ undone g.K.Ord.cmp l.fn.notes.items l.fn.map.entries;
   room : vec_len l.notes + length (into_iter_items l.key-iterator) ≤ vec_capacity l.notes;
 }
