@@ -28,7 +28,6 @@ fn put_one<K: Codec + Ord, S: Drop>(
     ensures len { OnOk result (vec_len notes.new ≡ vec_len notes.old + 1) }
     ensures room { vec_capacity notes.new ≡ vec_capacity notes.old }
     // The keys rise.
-    ensures was_ordered { IsStrictlySortedBy K.Ord.cmp (keys_of map.old.entries) }
     ensures ordered { IsStrictlySortedBy K.Ord.cmp (keys_of map.new.entries) }
 {
     if let Some(seen) = map.get_mut(&key) {
