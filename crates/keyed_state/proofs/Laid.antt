@@ -33,7 +33,7 @@ module _ {K : Type 0} {cmp : K → K → Ordering} (order : IsTotalOrder cmp) wh
   further_up a b (q ∷ ks) h all = (order.trans a b q h all.0, further_up a b ks h all.1)
 
 module _ {S : Type 0} where
-  pub none_is : (found : Option S) → is_some found ≡ false → found ≡ None
+  none_is : (found : Option S) → is_some found ≡ false → found ≡ None
   none_is None h = refl
   none_is (Some v) h = absurd (false≢true (sym h))
 
@@ -93,7 +93,7 @@ module _ {K S : Type 0} {cmp : K → K → Ordering} (order : IsTotalOrder cmp) 
   -- ---- one entry more
 
   -- below, where the overlay has no entry at the key
-  pub put_over-below : (es later : List (K × S)) (k : K) (v : S) → NonePasses (is_at (cmp k)) later → put_over cmp (insert_entry cmp es k v) later ≡ insert_entry cmp (put_over cmp es later) k v
+  put_over-below : (es later : List (K × S)) (k : K) (v : S) → NonePasses (is_at (cmp k)) later → put_over cmp (insert_entry cmp es k v) later ≡ insert_entry cmp (put_over cmp es later) k v
   put_over-below es [] k v none = refl
   put_over-below es (e ∷ later) k v none =
       ap (λ (base : List (K × S)). put_over cmp base later) (swapped es k v e.0 e.1 none.0) ∙ put_over-below (insert_entry cmp es e.0 e.1) later k v none.1

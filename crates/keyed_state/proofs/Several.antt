@@ -1,60 +1,62 @@
--- Several entries that are put into a map one after another: in which order, what is taken out again, and how many there are.
-use Rattle.std.proofs.Common.{◌≡◌, ℕ, ◌+◌, ◌≤◌, Bool, true, false, not, cond, Option, Some, None, List, [], ◌∷◌, ◌++◌, length, filter, count_by, Ordering, append_assoc, refl, sym, ap, ◌∙◌, arith}
-use Rattle.std.specs.Prelude.{is_some, Result, Ok, Err, OnOk}
+-- Several entries that are put into a map one after another: in which order, how they are undone, and how many there are.
+use Rattle.std.proofs.Common.{◌≡◌, ℕ, ◌+◌, ◌≤◌, Bool, true, false, not, cond, Option, Some, None, List, [], ◌∷◌, ◌++◌, length, filter, count_by, Ordering, refl, sym, ap, ◌∙◌, arith}
+use Rattle.std.specs.Prelude.{is_some, unwrap_or, Result, Ok, Err, OnOk}
 use Rattle.std.specs.Option.{option_or}
 use Rattle.std.specs.BTreeMap.{insert_entry, is_at}
 use Rattle.std.specs.Cmp.{IsTotalOrder, eq_by_cmp_equiv}
 use Rattle.std.specs.List.{AllByRecursion}
 use Rattle.std.specs.List.Sorted.{IsStrictlySortedBy}
-use Rattle.std.specs.Map.{keys_of, remove_entry}
+use Rattle.std.specs.Map.{keys_of, lookup, remove_entry, set_value}
 use Rattle.std.specs.Ordering.{match_ordering, is_eq}
 use Rattle.std.specs.Vec.Iter.{into_iter_items, into_iter_steps}
 use Rattle.std.specs.declared.cmp.Ordering.TheVariants.{Less, Equal, Greater}
 use Rattle.std.specs.declared.vec.IntoIter.{IntoIter}
 use Rattle.std.proofs.Common.{subst}
+use Rattle.std.proofs.lemmas.Bool.{false≢true}
 use Rattle.std.proofs.lemmas.List.Sums.{length-filter}
-use Rattle.std.proofs.lemmas.Map.{NonePasses, none_passes_from_lookup}
+use Rattle.std.proofs.lemmas.Map.{lookup-none}
+use Rattle.std.proofs.lemmas.Map.Entries.{none_below_head}
 use Rattle.abs_codec.specs.Entries.{value_at}
 use Rattle.keyed_state.specs.Overlay.{put_over}
-use Rattle.keyed_state.specs.Putting.{has_key, AllKnown, AllNew, taken_out}
-use Rattle.keyed_state.proofs.Laid.{none_is, shadowed, put_over-below, put_over-above, value_at-insert_entry, value_at-put_over, insert_entry-rises, length-insert_entry}
+use Rattle.keyed_state.specs.Putting.{has_key, with_former, undone}
+use Rattle.keyed_state.proofs.Laid.{shadowed, put_over-above, value_at-insert_entry, value_at-put_over, insert_entry-rises, length-insert_entry}
 
 -- an item that was taken stood first
 pub taken_first : {X Z : Type 0} (before after : IntoIter X Z) (taken : Option X) (x : X) → taken ≡ Some x → into_iter_steps before taken after → into_iter_items before ≡ x ∷ into_iter_items after
 taken_first before after taken x is steps = (subst (λ o. into_iter_steps before o after) is steps).0
 
--- one that passes a test goes behind those that passed it before, and another does not
-module _ {A : Type 0} (p : A → Bool) (old new before after whole : List A) (x : A) (is : before ≡ x ∷ after) (left : old ++ filter p before ≡ whole) where
-  passed : p x ≡ true → new ≡ old ++ x ∷ [] → new ++ filter p after ≡ whole
-  passed passes push =
-      ap (λ (l : List A). l ++ filter p after) push ∙ append_assoc old (x ∷ []) (filter p after)
-      ∙ sym (ap (λ (l : List A). old ++ filter p l) is ∙ ap (λ (b : Bool). old ++ cond b (x ∷ filter p after) (filter p after)) passes) ∙ left
-
-  missed : p x ≡ false → new ≡ old → new ++ filter p after ≡ whole
-  missed fails same =
-      ap (λ (l : List A). l ++ filter p after) same ∙ sym (ap (λ (l : List A). old ++ filter p l) is ∙ ap (λ (b : Bool). old ++ cond b (x ∷ filter p after) (filter p after)) fails) ∙ left
-
-  pub gone_in : (b : Bool) → p x ≡ b → new ≡ cond b (old ++ x ∷ []) old → new ++ filter p after ≡ whole
-  gone_in true passes push = passed passes push
-  gone_in false fails same = missed fails same
-
-  pub left_out : (b : Bool) → p x ≡ not b → new ≡ cond b old (old ++ x ∷ []) → new ++ filter p after ≡ whole
-  left_out true fails same = missed fails same
-  left_out false passes push = passed passes push
-
 module _ {S : Type 0} where
-  pub shadowed_or : (first second : Option S) → shadowed first second ≡ option_or first second
+  shadowed_or : (first second : Option S) → shadowed first second ≡ option_or first second
   shadowed_or None second = refl
   shadowed_or (Some v) second = refl
 
-  some_either : (b : Bool) (v : S) (found : Option S) → is_some found ≡ true → is_some (cond b (Some v) found) ≡ true
-  some_either true v found h = refl
-  some_either false v found h = h
+module _ {K S : Type 0} where
+  -- a state that is replaced, and put back
+  set_back : (test : K → Bool) (es : List (K × S)) (former state : S) → lookup test es ≡ Some former → set_value test (set_value test es state) former ≡ es
+  set_back test [] former state found = refl
+  set_back test (e ∷ es) former state found = by (test e.0) refl found (set_back test es former state)
+    where
+      by : (b : Bool) → test e.0 ≡ b → cond b (Some e.1) (lookup test es) ≡ Some former → (lookup test es ≡ Some former → set_value test (set_value test es state) former ≡ es)
+          → set_value test (cond b ((e.0, state) ∷ es) (e ∷ set_value test es state)) former ≡ e ∷ es
+      by true p seen rest =
+          ap (λ (b : Bool). cond b ((e.0, former) ∷ es) ((e.0, state) ∷ set_value test es former)) p ∙ ap (λ (o : Option S). (e.0, unwrap_or o former) ∷ es) (sym seen)
+      by false p seen rest =
+          ap (λ (b : Bool). cond b ((e.0, former) ∷ set_value test es state) (e ∷ set_value test (set_value test es state) former)) p ∙ ap (λ (l : List (K × S)). e ∷ l) (rest seen)
+
+  -- there is no state to replace
+  pub none_set : (test : K → Bool) (es : List (K × S)) (state : S) → lookup test es ≡ None → set_value test es state ≡ es
+  none_set test [] state none = refl
+  none_set test (e ∷ es) state none = by (test e.0) none (none_set test es state)
+    where
+      by : (b : Bool) → cond b (Some e.1) (lookup test es) ≡ None → (lookup test es ≡ None → set_value test es state ≡ es) → cond b ((e.0, state) ∷ es) (e ∷ set_value test es state) ≡ e ∷ es
+      by true found rest = absurd (false≢true (sym (ap is_some found)))
+      by false found rest = ap (λ (l : List (K × S)). e ∷ l) (rest found)
 
 module _ {K S : Type 0} {cmp : K → K → Ordering} (order : IsTotalOrder cmp) where
-  -- ---- taken out again
+  -- ---- undone
 
-  pub new_out : (es : List (K × S)) (k : K) (v : S) → value_at cmp es k ≡ None → remove_entry (is_at (cmp k)) (insert_entry cmp es k v) ≡ es
+  -- a new entry, taken out again
+  new_out : (es : List (K × S)) (k : K) (v : S) → value_at cmp es k ≡ None → remove_entry (is_at (cmp k)) (insert_entry cmp es k v) ≡ es
   new_out [] k v none = ap (λ (b : Bool). cond b [] ((k, v) ∷ [])) ((eq_by_cmp_equiv order).refl k)
   new_out (e ∷ es) k v none = by (cmp k e.0) refl (new_out es k v)
     where
@@ -65,18 +67,41 @@ module _ {K S : Type 0} {cmp : K → K → Ordering} (order : IsTotalOrder cmp) 
           let under : value_at cmp es k ≡ None = sym (ap (λ (r : Ordering). cond (is_eq r) (Some e.1) (value_at cmp es k)) p) ∙ none in
           ap (λ (r : Ordering). cond (is_eq r) (insert_entry cmp es k v) (e ∷ remove_entry (is_at (cmp k)) (insert_entry cmp es k v))) p ∙ ap (λ (l : List (K × S)). e ∷ l) (rest under)
 
-  taken_out-push : (keys : List K) (k : K) (es : List (K × S)) → taken_out cmp (keys ++ k ∷ []) es ≡ taken_out cmp keys (remove_entry (is_at (cmp k)) es)
-  taken_out-push [] k es = refl
-  taken_out-push (key ∷ keys) k es = ap (remove_entry (is_at (cmp key))) (taken_out-push keys k es)
+  -- a state that is replaced is put
+  pub set_out : (es : List (K × S)) (k : K) (former state : S) → IsStrictlySortedBy cmp (keys_of es) → value_at cmp es k ≡ Some former → set_value (is_at (cmp k)) es state ≡ insert_entry cmp es k state
+  unfolding IsStrictlySortedBy
+  set_out [] k former state rises found = absurd (false≢true (ap is_some found))
+  set_out (e ∷ es) k former state rises found = by (cmp k e.0) refl found (set_out es k former state rises.1)
+    where
+      by : (r : Ordering) → cmp k e.0 ≡ r → cond (is_eq r) (Some e.1) (value_at cmp es k) ≡ Some former → (value_at cmp es k ≡ Some former → set_value (is_at (cmp k)) es state ≡ insert_entry cmp es k state)
+          → cond (is_eq r) ((e.0, state) ∷ es) (e ∷ set_value (is_at (cmp k)) es state) ≡ match_ordering r ((k, state) ∷ e ∷ es) ((e.0, state) ∷ es) (e ∷ insert_entry cmp es k state)
+      by Less p seen rest =
+          let none : value_at cmp es k ≡ None = lookup-none (is_at (cmp k)) es (none_below_head order k e es rises p).1 in
+          absurd (false≢true (ap is_some (sym none ∙ seen)))
+      by Equal p seen rest = refl
+      by Greater p seen rest = ap (λ (l : List (K × S)). e ∷ l) (rest seen)
 
-  -- one that is put and noted is taken out first
-  pub noted_out : (keys notes : List K) (es after whole : List (K × S)) (k : K) (v : S) → notes ≡ keys ++ k ∷ [] → after ≡ insert_entry cmp es k v → value_at cmp es k ≡ None → taken_out cmp keys es ≡ whole → taken_out cmp notes after ≡ whole
-  noted_out keys notes es after whole k v noted put none back =
-      ap (λ (ks : List K). taken_out cmp ks after) noted ∙ ap (taken_out cmp (keys ++ k ∷ [])) put ∙ taken_out-push keys k (insert_entry cmp es k v) ∙ ap (taken_out cmp keys) (new_out es k v none) ∙ back
+  -- one that is put is undone
+  former_back : (es : List (K × S)) (k : K) (v : S) → IsStrictlySortedBy cmp (keys_of es) → with_former cmp (insert_entry cmp es k v) k (value_at cmp es k) ≡ es
+  former_back es k v rises = by (value_at cmp es k) refl
+    where
+      by : (former : Option S) → value_at cmp es k ≡ former → with_former cmp (insert_entry cmp es k v) k former ≡ es
+      by None p = new_out es k v p
+      by (Some former) p = ap (λ (l : List (K × S)). set_value (is_at (cmp k)) l former) (sym (set_out es k former v rises p)) ∙ set_back (is_at (cmp k)) es former v p
 
-  -- the last is taken out, and then the others
-  pub last_out : (keys rest : List K) (es after whole : List (K × S)) (k : K) → keys ≡ rest ++ k ∷ [] → after ≡ remove_entry (is_at (cmp k)) es → taken_out cmp keys es ≡ whole → taken_out cmp rest after ≡ whole
-  last_out keys rest es after whole k last out back = ap (taken_out cmp rest) out ∙ sym (taken_out-push rest k es) ∙ ap (λ (ks : List K). taken_out cmp ks es) (sym last) ∙ back
+  undone-push : (notes : List (K × Option S)) (note : K × Option S) (es : List (K × S)) → undone cmp (notes ++ note ∷ []) es ≡ undone cmp notes (with_former cmp es note.0 note.1)
+  undone-push [] note es = refl
+  undone-push (first ∷ notes) note es = ap (λ (l : List (K × S)). with_former cmp l first.0 first.1) (undone-push notes note es)
+
+  -- one that is put and noted is undone first
+  pub noted_undone : (notes more : List (K × Option S)) (es after : List (K × S)) (k : K) (v : S) (former : Option S) → IsStrictlySortedBy cmp (keys_of es) → value_at cmp es k ≡ former → more ≡ notes ++ (k, former) ∷ [] → after ≡ insert_entry cmp es k v → undone cmp more after ≡ undone cmp notes es
+  noted_undone notes more es after k v former rises was noted put =
+      ap (λ (ns : List (K × Option S)). undone cmp ns after) noted ∙ ap (undone cmp (notes ++ (k, former) ∷ [])) put ∙ undone-push notes (k, former) (insert_entry cmp es k v)
+      ∙ ap (undone cmp notes) (ap (with_former cmp (insert_entry cmp es k v) k) (sym was) ∙ former_back es k v rises)
+
+  -- the last is undone, and then the others
+  pub last_undone : (notes rest : List (K × Option S)) (es after whole : List (K × S)) (note : K × Option S) → notes ≡ rest ++ note ∷ [] → after ≡ with_former cmp es note.0 note.1 → undone cmp notes es ≡ whole → undone cmp rest after ≡ whole
+  last_undone notes rest es after whole note last out back = ap (undone cmp rest) out ∙ sym (undone-push rest note es) ∙ ap (λ (ns : List (K × Option S)). undone cmp ns es) (sym last) ∙ back
 
   -- ---- keys that are there, and others
 
@@ -90,109 +115,16 @@ module _ {K S : Type 0} {cmp : K → K → Ordering} (order : IsTotalOrder cmp) 
   all_same es [] = tt
   all_same es (x ∷ xs) = (refl, all_same es xs)
 
-  new_from : (es0 es entries : List (K × S)) → IsStrictlySortedBy cmp (keys_of entries) → AllByRecursion (λ x. value_at cmp es x.0 ≡ value_at cmp es0 x.0) entries → AllNew cmp es (filter (λ e. not (has_key cmp es0 e)) entries)
-  unfolding IsStrictlySortedBy
-  new_from es0 es [] rises same = tt
-  new_from es0 es (e ∷ entries) rises same = by (has_key cmp es0 e) refl (new_from es0 es entries rises.1 same.1) (new_from es0 (insert_entry cmp es e.0 e.1) entries rises.1 (still es0 es e entries rises.0 same.1))
-    where
-      by : (b : Bool) → has_key cmp es0 e ≡ b → AllNew cmp es (filter (λ x. not (has_key cmp es0 x)) entries) → AllNew cmp (insert_entry cmp es e.0 e.1) (filter (λ x. not (has_key cmp es0 x)) entries)
-          → AllNew cmp es (cond (not b) (e ∷ filter (λ x. not (has_key cmp es0 x)) entries) (filter (λ x. not (has_key cmp es0 x)) entries))
-      by true h skip take = skip
-      by false h skip take = (same.0 ∙ none_is (value_at cmp es0 e.0) h, take)
-
-  pub all_new : (es entries : List (K × S)) → IsStrictlySortedBy cmp (keys_of entries) → AllNew cmp es (filter (λ e. not (has_key cmp es e)) entries)
-  all_new es entries rises = new_from es es entries rises (all_same es entries)
-
-  kept_by_one : (es : List (K × S)) (k : K) (v : S) (x : K × S) → has_key cmp es x ≡ true → has_key cmp (insert_entry cmp es k v) x ≡ true
-  kept_by_one es k v x h = ap is_some (value_at-insert_entry order es k v x.0) ∙ some_either (is_at (cmp k) x.0) v (value_at cmp es x.0) h
-
-  pub kept_by_all : (es later : List (K × S)) (x : K × S) → has_key cmp es x ≡ true → has_key cmp (put_over cmp es later) x ≡ true
-  kept_by_all es [] x h = h
-  kept_by_all es (e ∷ later) x h = kept_by_all (insert_entry cmp es e.0 e.1) later x (kept_by_one es e.0 e.1 x h)
-
-  pub all_known : (es0 es entries : List (K × S)) → ((x : K × S) → has_key cmp es0 x ≡ true → has_key cmp es x ≡ true) → AllKnown cmp es (filter (λ e. has_key cmp es0 e) entries)
-  all_known es0 es [] keeps = tt
-  all_known es0 es (e ∷ entries) keeps = by (has_key cmp es0 e) refl (all_known es0 es entries keeps) (all_known es0 (insert_entry cmp es e.0 e.1) entries (λ x h. kept_by_one es e.0 e.1 x (keeps x h)))
-    where
-      by : (b : Bool) → has_key cmp es0 e ≡ b → AllKnown cmp es (filter (λ x. has_key cmp es0 x) entries) → AllKnown cmp (insert_entry cmp es e.0 e.1) (filter (λ x. has_key cmp es0 x) entries)
-          → AllKnown cmp es (cond b (e ∷ filter (λ x. has_key cmp es0 x) entries) (filter (λ x. has_key cmp es0 x) entries))
-      by true h skip take = (keeps e h, take)
-      by false h skip take = skip
-
   -- ---- in which order they are put
-
-  apart : (p : K × S → Bool) (e : K × S) (entries : List (K × S)) → AllByRecursion (λ q. cmp e.0 q ≡ Less) (keys_of entries) → NonePasses (is_at (cmp e.0)) (filter p entries)
-  apart p e [] above = tt
-  apart p e (x ∷ xs) above = by (p x) (apart p e xs above.1)
-    where
-      by : (b : Bool) → NonePasses (is_at (cmp e.0)) (filter p xs) → NonePasses (is_at (cmp e.0)) (cond b (x ∷ filter p xs) (filter p xs))
-      by true rest = (ap is_eq above.0, rest)
-      by false rest = rest
-
-  -- those that pass a test go last
-  pub parted : (p : K × S → Bool) (es entries : List (K × S)) → IsStrictlySortedBy cmp (keys_of entries) → put_over cmp (put_over cmp es (filter (λ e. not (p e)) entries)) (filter (λ e. p e) entries) ≡ put_over cmp es entries
-  unfolding IsStrictlySortedBy
-  parted p es [] rises = refl
-  parted p es (e ∷ entries) rises = by (p e) (parted p (insert_entry cmp es e.0 e.1) entries rises.1)
-    where
-      others : List (K × S)
-      others = filter (λ x. not (p x)) entries
-
-      those : List (K × S)
-      those = filter (λ x. p x) entries
-
-      by : (b : Bool) → put_over cmp (put_over cmp (insert_entry cmp es e.0 e.1) others) those ≡ put_over cmp (insert_entry cmp es e.0 e.1) entries
-          → put_over cmp (put_over cmp es (cond (not b) (e ∷ others) others)) (cond b (e ∷ those) those) ≡ put_over cmp (insert_entry cmp es e.0 e.1) entries
-      by true rest = ap (λ (l : List (K × S)). put_over cmp l those) (sym (put_over-below order es others e.0 e.1 (apart (λ x. not (p x)) e entries rises.0))) ∙ rest
-      by false rest = rest
 
   above_all : (es later more : List (K × S)) → IsStrictlySortedBy cmp (keys_of later) → put_over cmp es (put_over cmp later more) ≡ put_over cmp (put_over cmp es later) more
   above_all es later [] rises = refl
   above_all es later (e ∷ more) rises =
       above_all es (insert_entry cmp later e.0 e.1) more (insert_entry-rises order later e.0 e.1 rises) ∙ ap (λ (l : List (K × S)). put_over cmp l more) (put_over-above order es later e.0 e.1 rises)
 
-  below_all : (es rest later : List (K × S)) → AllByRecursion (λ e. NonePasses (is_at (cmp e.0)) later) rest → put_over cmp (put_over cmp es rest) later ≡ put_over cmp (put_over cmp es later) rest
-  below_all es [] later apart = refl
-  below_all es (e ∷ rest) later apart =
-      below_all (insert_entry cmp es e.0 e.1) rest later apart.1 ∙ ap (λ (l : List (K × S)). put_over cmp l rest) (put_over-below order es later e.0 e.1 apart.0)
-
-  others_apart : (later entries : List (K × S)) → AllByRecursion (λ e. NonePasses (is_at (cmp e.0)) later) (filter (λ e. not (has_key cmp later e)) entries)
-  others_apart later [] = tt
-  others_apart later (e ∷ entries) = by (has_key cmp later e) refl (others_apart later entries)
-    where
-      by : (b : Bool) → has_key cmp later e ≡ b → AllByRecursion (λ x. NonePasses (is_at (cmp x.0)) later) (filter (λ x. not (has_key cmp later x)) entries)
-          → AllByRecursion (λ x. NonePasses (is_at (cmp x.0)) later) (cond (not b) (e ∷ filter (λ x. not (has_key cmp later x)) entries) (filter (λ x. not (has_key cmp later x)) entries))
-      by true h rest = rest
-      by false h rest = (none_passes_from_lookup (is_at (cmp e.0)) later (none_is (value_at cmp later e.0) h), rest)
-
   -- into the overlay alone
   pub all_above : (base overlay entries after seen : List (K × S)) → IsStrictlySortedBy cmp (keys_of overlay) → after ≡ put_over cmp overlay entries → put_over cmp base overlay ≡ seen → put_over cmp base after ≡ put_over cmp seen entries
   all_above base overlay entries after seen rises put is = ap (put_over cmp base) put ∙ above_all base overlay entries rises ∙ ap (λ (l : List (K × S)). put_over cmp l entries) is
-
-  -- into both: those whose key the overlay has go there
-  pub all_in_both : (base overlay entries : List (K × S)) → IsStrictlySortedBy cmp (keys_of overlay) → IsStrictlySortedBy cmp (keys_of entries)
-      → put_over cmp (put_over cmp base (filter (λ e. not (has_key cmp overlay e)) entries)) (put_over cmp overlay (filter (λ e. has_key cmp overlay e) entries)) ≡ put_over cmp (put_over cmp base overlay) entries
-  all_in_both base overlay entries over rises =
-      let rest = filter (λ (e : K × S). not (has_key cmp overlay e)) entries in
-      let later = filter (λ (e : K × S). has_key cmp overlay e) entries in
-      above_all (put_over cmp base rest) overlay later over ∙ ap (λ (l : List (K × S)). put_over cmp l later) (below_all base rest overlay (others_apart overlay entries)) ∙ parted (λ e. has_key cmp overlay e) (put_over cmp base overlay) entries rises
-
-  below_filtered : (p : K × S → Bool) (k : K) (entries : List (K × S)) → AllByRecursion (λ q. cmp k q ≡ Less) (keys_of entries) → AllByRecursion (λ q. cmp k q ≡ Less) (keys_of (filter p entries))
-  below_filtered p k [] above = tt
-  below_filtered p k (x ∷ xs) above = by (p x) (below_filtered p k xs above.1)
-    where
-      by : (b : Bool) → AllByRecursion (λ q. cmp k q ≡ Less) (keys_of (filter p xs)) → AllByRecursion (λ q. cmp k q ≡ Less) (keys_of (cond b (x ∷ filter p xs) (filter p xs)))
-      by true rest = (above.0, rest)
-      by false rest = rest
-
-  pub filtered_rise : (p : K × S → Bool) (entries : List (K × S)) → IsStrictlySortedBy cmp (keys_of entries) → IsStrictlySortedBy cmp (keys_of (filter p entries))
-  unfolding IsStrictlySortedBy
-  filtered_rise p [] rises = tt
-  filtered_rise p (e ∷ entries) rises = by (p e) (filtered_rise p entries rises.1)
-    where
-      by : (b : Bool) → IsStrictlySortedBy cmp (keys_of (filter p entries)) → IsStrictlySortedBy cmp (keys_of (cond b (e ∷ filter p entries) (filter p entries)))
-      by true rest = (below_filtered p e.0 entries rises.0, rest)
-      by false rest = rest
 
   -- ---- the value at a key
 
@@ -206,12 +138,6 @@ module _ {K S : Type 0} {cmp : K → K → Ordering} (order : IsTotalOrder cmp) 
   states_put (Err f) es entries after rises put = tt
 
   -- ---- how many there are
-
-  pub known_length : (es known : List (K × S)) → IsStrictlySortedBy cmp (keys_of es) → AllKnown cmp es known → length (put_over cmp es known) ≡ length es
-  known_length es [] rises all = refl
-  known_length es (e ∷ known) rises all =
-      let none : length es + 0 ≡ length es = omega arith in
-      known_length (insert_entry cmp es e.0 e.1) known (insert_entry-rises order es e.0 e.1 rises) all.1 ∙ length-insert_entry order es e.0 e.1 rises ∙ ap (λ (b : Bool). length es + cond b 0 1) all.0 ∙ none
 
   pub no_fewer : (es later : List (K × S)) → IsStrictlySortedBy cmp (keys_of es) → length es ≤ length (put_over cmp es later)
   no_fewer es [] rises = omega arith

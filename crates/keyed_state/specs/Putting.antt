@@ -1,7 +1,7 @@
 -- Several entries that are put into a map.
-use Rattle.std.specs.Prelude.{◌≡◌, Bool, true, List, [], ◌∷◌, None, is_some}
-use Rattle.std.specs.BTreeMap.{insert_entry, is_at}
-use Rattle.std.specs.Map.{remove_entry}
+use Rattle.std.specs.Prelude.{Bool, List, [], ◌∷◌, Option, None, Some, is_some}
+use Rattle.std.specs.BTreeMap.{is_at}
+use Rattle.std.specs.Map.{remove_entry, set_value}
 use Rattle.std.specs.declared.cmp.Ordering.{Ordering}
 use Rattle.abs_codec.specs.Entries.{value_at}
 
@@ -10,17 +10,12 @@ module _ {K S : Type 0} (cmp : K → K → Ordering) where
   abbrev pub has_key : List (K × S) → K × S → Bool
   has_key entries entry = is_some (value_at cmp entries entry.0)
 
-  -- Each key is there when its entry is put, one after another.
-  abbrev pub AllKnown : List (K × S) → List (K × S) → Type 0
-  AllKnown entries [] = Unit {0}
-  AllKnown entries (entry ∷ more) = (has_key entries entry ≡ true) × AllKnown (insert_entry cmp entries entry.0 entry.1) more
+  -- what was there before at a key is there again: its state, or none
+  abbrev pub with_former : List (K × S) → K → Option S → List (K × S)
+  with_former entries key None = remove_entry (is_at (cmp key)) entries
+  with_former entries key (Some former) = set_value (is_at (cmp key)) entries former
 
-  -- Each key is not there yet when its entry is put, one after another.
-  abbrev pub AllNew : List (K × S) → List (K × S) → Type 0
-  AllNew entries [] = Unit {0}
-  AllNew entries (entry ∷ more) = (value_at cmp entries entry.0 ≡ None) × AllNew (insert_entry cmp entries entry.0 entry.1) more
-
-  -- the entries at these keys are taken out, from the last key to the first
-  abbrev pub taken_out : List K → List (K × S) → List (K × S)
-  taken_out [] entries = entries
-  taken_out (key ∷ keys) entries = remove_entry (is_at (cmp key)) (taken_out keys entries)
+  -- what was there before at each of these keys is there again, from the last key to the first
+  abbrev pub undone : List (K × Option S) → List (K × S) → List (K × S)
+  undone [] entries = entries
+  undone (note ∷ notes) entries = with_former (undone notes entries) note.0 note.1

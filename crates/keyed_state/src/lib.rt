@@ -17,8 +17,9 @@
 //! - `get`, `set` and `frozen_above` take time logarithmic in n + m, and `set` memory for a new
 //!   entry alone; each further entry of `frozen_above` is the next in its leaf;
 //! - `set_all` of k entries takes k times the time of `set`, and beside the new entries the memory
-//!   of a list of k entries and of a copy of each key that is new. It sets all of them or, where
-//!   memory is refused, none;
+//!   of a list of the k keys with what was there before (where m is not 0 and nothing is frozen,
+//!   room for two), and of a copy of each key that is new. It sets all of them or, where memory is
+//!   refused, none;
 //! - `merge` of k entries takes k copies of one entry, and k times a time logarithmic in n + m;
 //! - `encode` takes the time and memory of the spelling, and where m is not 0 a copy of it all.
 #![tactic(auto)]

@@ -1,0 +1,9 @@
+use Rattle.std.proofs.Common.{◌≡◌, vec_len}
+use Rattle.keyed_state.specs.Putting.{undone}
+use Rattle.keyed_state.proofs.putting.undo.Given as goal
+
+abbrev pub invariant-loop-key : goal.invariant-loop-key
+invariant-loop-key g l = undone g.K.Ord.cmp l.notes.items l.map.entries ≡ undone g.K.Ord.cmp l.initial.notes.items l.initial.map.entries
+
+abbrev pub decreases-loop-key : goal.decreases-loop-key
+decreases-loop-key g l = vec_len l.notes
