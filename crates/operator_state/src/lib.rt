@@ -7,7 +7,7 @@
 //! frozen map to the vector, in the order of their keys, and after the last of them the map is
 //! thawed. What was written since is merged by `merge_some`. `spell_logs` puts the logs behind the
 //! entries, so that a part is held once, and a later call puts others there. `part` gives the
-//! bytes. The vector keeps its room for the next copy.
+//! bytes.
 //!
 //! With n entries:
 //!

@@ -22,6 +22,7 @@ use task_part::{write_count, write_logs};
 /// The states of an operator by key, and its copy for the pending checkpoint.
 #[derive(Drop)]
 pub struct OperatorState<K: Codec + Ord, S: Codec> {
+    alloc: Global,
     /// Frozen while entries of the copy are left to be spelled.
     states: KeyedState<K, S>,
     has_copied: bool,
@@ -129,6 +130,7 @@ impl<K: Codec + Ord, S: Codec> OperatorState<K, S> {
         } }
     {
         OperatorState {
+            alloc,
             states: KeyedState::from_map(alloc, map),
             has_copied: false,
             last: None,
@@ -211,8 +213,7 @@ impl<K: Codec + Ord, S: Codec> OperatorState<K, S> {
         self.has_copied
     }
 
-    /// Forgets the copy, if there is one. It takes no memory, and keeps the room of the part for the
-    /// next one.
+    /// Forgets the copy, if there is one. It takes no memory.
     pub fn forget(&mut self)
         ensures { self.new ≡ record self.old {
           copy = None;
@@ -224,7 +225,7 @@ impl<K: Codec + Ord, S: Codec> OperatorState<K, S> {
         self.has_copied = false;
         self.last = None;
         self.left = 0;
-        self.bytes.clear();
+        self.bytes = Vec::new(self.alloc);
         self.end = 0;
     }
 
