@@ -12,7 +12,6 @@ use crate::flaky_store::FaultlessStore;
 use crate::numbers::Numbers;
 use crate::parts::Parts;
 use crate::store::{SnapshotStore, StoreFault};
-use abs_codec::Bytes;
 use std::alloc::Global;
 
 /// No number is given out from here on.
@@ -113,7 +112,7 @@ impl SnapshotStore for MemoryStore {
         if bytes.len() > LONGEST_PART {
             return Err(StoreFault::Memory);
         }
-        let part = Bytes::from_slice(self.alloc, bytes)?;
+        let part = self.parts.part_of(self.alloc, task, bytes)?;
         self.numbers.note(number)?;
         self.parts.put(number, task, part)?;
         Ok(())
@@ -145,7 +144,7 @@ impl SnapshotStore for MemoryStore {
     }
 
     fn discard_below(&mut self, number: u64) -> Result<(), StoreFault> {
-        self.parts.drop_below(number);
+        self.parts.drop_below(self.alloc, number);
         self.numbers.forget_below(number);
         Ok(())
     }

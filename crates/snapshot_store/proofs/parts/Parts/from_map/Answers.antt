@@ -7,7 +7,7 @@ use Rattle.snapshot_store.specs.Memory.{parts_of}
 use Rattle.snapshot_store.proofs.Held.{Entries}
 use Rattle.snapshot_store.proofs.parts.Parts.from_map.Goals as goal
 
-all : (c : goal.After-drop-entry-iterator-2) → c.loop-entry.entries.items ≡ c.args.map.entries
+all : (c : goal.After-new) → c.loop-entry.entries.items ≡ c.args.map.entries
 all c = sym (append-nil c.loop-entry.entries.items) ∙ ap (λ (es : Entries). c.loop-entry.entries.items ++ es) (sym c.in-None.ensures.steps.0) ∙ c.loop-entry.invariant
 
 pub invariant_of-result : goal.invariant_of-result
