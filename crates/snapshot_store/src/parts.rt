@@ -78,8 +78,10 @@ fn part_in(alloc: Global, mut room: Vec<u8>, bytes: &[u8]) -> Result<Bytes, Allo
     if room.capacity() / 4 > bytes.len() {
         return Bytes::from_slice(alloc, bytes);
     }
-    room.clear();
-    room.extend_from_slice(bytes)?;
+    room.truncate(bytes.len());
+    let (over, more) = bytes.split_at(room.len());
+    room.copy_from_slice(over);
+    room.extend_from_slice(more)?;
     Ok(Bytes::from_vec(room))
 }
 
