@@ -15,6 +15,9 @@ pub struct Input<'a, R> {
 /// A job file has at most so many bytes.
 const MAX_JOB_BYTES: u64 = 16_777_216;
 
+/// So many bytes of a file are read at a time.
+const BUFFER: usize = 1_048_576;
+
 /// What a reader's error is to a line.
 pub(crate) fn line_fault(error: &io::Error) -> LineFault {
     if error.kind() == ErrorKind::OutOfMemory {
@@ -44,6 +47,6 @@ impl<'a, R: Read + Drop> Input<'a, R> {
     /// The file behind a buffer.
     pub(crate) fn into_buffered(self, alloc: Global) -> io::Result<BufReader<R>> {
         let Input { file, .. } = self;
-        BufReader::new(alloc, file?)
+        BufReader::with_capacity(alloc, BUFFER, file?)
     }
 }
