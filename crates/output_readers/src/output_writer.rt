@@ -122,8 +122,8 @@ fn opened<R: Wait>(
         (o.0.desk.shown.value ≡ record { lists = replicate subtasks []; edition = o.1 })
         × (drop o.0.behind o.0.log.items ≡ [])
         × (view o.0.desk.place ≡ Some o.1)) }
-    ensures edition { IfOk result (λ o.
-        o.1 ≡ record { history = head.now; lists = replicate subtasks [] }) }
+    ensures edition { IfOk result (λ o. (o.1.history ≡ head.now)
+        × (o.1.lists ≡ replicate subtasks [])) }
 {
     let first = Lists::new(alloc, subtasks, nothing.again())?;
     let second = Lists::new(alloc, subtasks, nothing.again())?;

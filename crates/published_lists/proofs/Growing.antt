@@ -39,7 +39,7 @@ pub looks : (seat : ℕ) (v : Option Edition) (x y : Held) → IsSealed y → Fo
 looks seat v x y sealed up views h at =
     let later : Grows y views = λ j u t. (sealed, follows_trans u x.edition y.edition (h j u t).1 up) in (
       Some y.edition,
-      with_seat y views seat (Some y.edition) later (λ k e. (sealed, subst (λ (z : Edition). Follows z y.edition) (cc e) (follows_self y.edition))),
+      with_seat y views seat (Some y.edition) later (λ k e. let same : y.edition ≡ k = cc e in (sealed, subst (λ (z : Edition). Follows z y.edition) same (follows_self y.edition))),
       (refl, sealed, (λ k e. (seat_fits y views seat v later at k e).1)),
     )
 

@@ -3,9 +3,10 @@ use Rattle.std.specs.Prelude.{◌≡◌, ◌==◌, ℕ, true, List, [], ◌∷�
 use Rattle.logbook.specs.Pages.{Cell, Step, View, Book, Named}
 use Rattle.published_lists.specs.Rows.{EachBegins}
 
--- of which history it is, and the lists that its last entry names
+-- of which history it is, how many of its entries this is the beginning of, and the lists that the last of these names
 pub record Edition : Type 0 where
   pub history : Book
+  pub entries : ℕ
   pub lists : List (List (List ℕ))
 
 -- the same history, and of each subtask the rows of v and perhaps more

@@ -1,5 +1,5 @@
 //! A beginning of the history of published lists.
-ghost use Rattle.std.specs.Prelude.{◌≡◌, [], MatchBool};
+ghost use Rattle.std.specs.Prelude.{◌≡◌, ◌-◌, ◌^◌, ◌↔◌, [], IsTrue, MatchBool};
 ghost use Rattle.published_lists.specs.Editions.{Follows};
 
 use logbook::{Gain, Play, Rule, Seen, Start, Word};
@@ -67,6 +67,7 @@ impl Head {
     /// A history with no entry.
     pub fn new() -> (Head, Edition)
         ensures lists { result.1.lists ≡ [] }
+        ensures entries { result.1.entries ≡ 0 }
         ensures history { result.0 ≡ result.1.history }
     {
         let (seen, mut first, _second) = Seen::open(Start::alone(), 0, 0);
@@ -88,14 +89,20 @@ impl Model for Edition {
 
     ghost Value = { Known };
 
-    ghost view = { λ f. record { history = f.seen.book; lists = last_of f.seen.log } };
+    ghost view = { λ f. record {
+      history = f.seen.book;
+      entries = f.count;
+      lists = last_of f.seen.log;
+    } };
 
     ghost invariant = { λ f. (f.count ≡ length f.seen.log) × IsRising f.seen.log };
 }
 
 impl Edition {
     /// No entry can follow. That takes 2^64 entries.
-    pub fn is_full(&self) -> bool {
+    pub(crate) fn is_full(&self) -> bool
+        ensures { IsTrue result ↔ (self.now.entries ≡ 2 ^ 64 - 1) }
+    {
         self.count == u64::MAX
     }
 

@@ -1,5 +1,5 @@
 //! The lists that are about to be published are named by the next edition.
-ghost use Rattle.std.specs.Prelude.{◌≡◌, IfSome};
+ghost use Rattle.std.specs.Prelude.{◌≡◌, ◌+◌, ◌-◌, ◌^◌, IfSome, MatchOption};
 ghost use Rattle.published_lists.specs.Rows.{EachBegins};
 ghost use Rattle.published_lists.specs.Operations.{staged};
 
@@ -30,6 +30,7 @@ fn next(edition: &Edition, head: &Head, writer: &ListWriter) -> Option<Edition>
     ensures lists { IfSome result (λ next. next.lists ≡ (staged writer.now.desk.shown.value
         writer.now.behind writer.now.log.items).lists) }
     ensures history { IfSome result (λ next. next.history ≡ edition.now.history) }
+    ensures entries { IfSome result (λ next. next.entries ≡ edition.now.entries + 1) }
 {
     let count = edition.count;
     if count == u64::MAX {
@@ -54,8 +55,8 @@ fn next(edition: &Edition, head: &Head, writer: &ListWriter) -> Option<Edition>
     })
 }
 
-/// The edition of the lists with all that was handed in. `None` is for 2^64 editions. Where another
-/// has named lists it waits for ever: there is one writer.
+/// The edition of the lists with all that was handed in. `None` is for 2^64 editions, and for
+/// nothing else. Where another has named lists it waits for ever: there is one writer.
 pub fn named<R: Wait>(
     rt: &R,
     head: &Head,
@@ -68,6 +69,8 @@ pub fn named<R: Wait>(
     ensures lists { IfSome result (λ next. next.lists ≡ (staged writer.now.desk.shown.value
         writer.now.behind writer.now.log.items).lists) }
     ensures history { IfSome result (λ next. next.history ≡ edition.now.history) }
+    ensures entries { MatchOption result (edition.now.entries ≡ 2 ^ 64 - 1)
+        (λ next. next.entries ≡ edition.now.entries + 1) }
 {
     if edition.is_full() {
         return None;
