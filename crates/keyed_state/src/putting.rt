@@ -88,7 +88,6 @@ pub(crate) fn put_all<K: Codec + Ord, S: Drop>(
     map: &mut BTreeMap<K, S>,
     entries: Vec<(K, S)>,
 ) -> Result<(), NoMemory>
-    requires { IsStrictlySortedBy K.Ord.cmp (keys_of entries.items) }
     ensures ok { OnOk result (map.new.entries
         ≡ put_over K.Ord.cmp map.old.entries entries.items) }
     ensures err { OnErr result (map.new.entries ≡ map.old.entries) }
@@ -108,7 +107,6 @@ pub(crate) fn put_all_in<K: Codec + Ord, S: Drop>(
     map: &mut Map<K, S>,
     entries: Vec<(K, S)>,
 ) -> Result<(), NoMemory>
-    requires { IsStrictlySortedBy K.Ord.cmp (keys_of entries.items) }
     ensures ok { OnOk result (map.new ≡ put_over K.Ord.cmp map.old entries.items) }
     ensures err { OnErr result (map.new ≡ map.old) }
 {
@@ -164,7 +162,6 @@ pub(crate) fn put_in_both<K: Codec + Ord, S: Drop>(
 ) -> Result<(), NoMemory>
     requires base_rises { IsStrictlySortedBy K.Ord.cmp (keys_of base.old) }
     requires overlay_rises { IsStrictlySortedBy K.Ord.cmp (keys_of overlay.old.entries) }
-    requires rising { IsStrictlySortedBy K.Ord.cmp (keys_of entries.items) }
     ensures ok { OnOk result (put_over K.Ord.cmp base.new overlay.new.entries
         ≡ put_over K.Ord.cmp (put_over K.Ord.cmp base.old overlay.old.entries) entries.items) }
     ensures base_rises { IsStrictlySortedBy K.Ord.cmp (keys_of base.new) }
