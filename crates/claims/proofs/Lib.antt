@@ -2,6 +2,7 @@ pub mod Dues
 pub mod Holdings
 pub mod InTurn
 pub mod Leading
+pub mod Places
 pub mod Serving
 pub mod Turns
 pub mod Working

@@ -11,6 +11,7 @@ use Rattle.std.proofs.lemmas.Map.Entries.{none_past_head}
 use Rattle.std.proofs.lemmas.Map.Keys.{IsDistinct-from_sorted}
 use Rattle.std.proofs.lemmas.List.{append-nil}
 use Rattle.std.proofs.lemmas.List.Elements.{All-nil, All-head, All-tail, All-push, All-weaker}
+use Rattle.std.proofs.lemmas.Bool.{false≢true}
 use mathlib.Core.Path.{fun_ext}
 use Rattle.abs_codec.specs.Entries.{value_at}
 use Rattle.dataflow_model.specs.Graph.{Meaning}
@@ -20,6 +21,8 @@ use Rattle.operators.specs.Operator.{OrderIsExact}
 use Rattle.claims.proofs.Turns.{turns_same}
 use Rattle.claims.specs.Carried.{states_given, turns_given, HasItsState, AreStatesOf, IsCarried, IsOperand, IsOutcome}
 use Rattle.claims.specs.Left.{either, left_over, state_left, made_of, WorksRow, AllGood}
+use Rattle.claims.specs.Places.{left_at, IsPlaceOf, LeavesAt}
+use Rattle.claims.specs.declared.left.Place.{Place}
 use Rattle.claims.specs.declared.parts.Operand.{Operand}
 use Rattle.claims.specs.declared.parts.Outcomes.{Outcomes}
 use Rattle.engine_model.specs.AllRules.{AllRules, IsGood}
@@ -91,6 +94,12 @@ module _ {K S : Type 0} {cmp : K → K → Ordering} (order : IsTotalOrder cmp) 
       by : (b : Bool) → cond b (Some state) (value_at cmp left q) ≡ Some s → P s
       by true e = subst P (let same : state ≡ s = cc in same) good
       by false e = all q s e
+
+  -- one that is left at a key's place
+  pub good_at : (P : S → Type 0) (places after : List (Place K S)) (key : Option K) (place : ℕ) (state : S) → IsPlaceOf cmp places key place → (put : List (Place K S)) → after ≡ put → ((k : K) → IsPlaceOf cmp places (Some k) place → LeavesAt cmp k state (left_at places) (left_at put)) → P state → AllGood cmp P (left_at places) → AllGood cmp P (left_at after)
+  good_at P places after None place state found put same leaves good all = absurd (false≢true found.keyed)
+  good_at P places after (Some key) place state found put same leaves good all =
+      good_more P (left_at places) (left_at after) key state (λ q. ap (λ (ps : List (Place K S)). value_at cmp (left_at ps) q) same ∙ leaves key found q) good all
 
 module _ {R K S O : Type 0} (meaning : Meaning R K S O) (cmp : K → K → Ordering) (p : Operand O K S R) (order : IsTotalOrder cmp) (law : (a b : K) → meaning.same_key a b ≡ is_eq (cmp a b)) where
   -- all records are worked
@@ -220,6 +229,14 @@ module _ {R K S O : Type 0} (meaning : Meaning R K S O) (cmp : K → K → Order
           ap (λ (l : List (K × S)). left_over cmp l states q) same
           ∙ ap (λ (k : Option K). kept_under meaning.same_key k (made_of meaning cmp p left row).state (left_over cmp left states) q) is;
     }
+
+module _ {R K S O : Type 0} (meaning : Meaning R K S O) (cmp : K → K → Ordering) (p : Operand O K S R) (places after : List (Place K S)) (row : R) where
+  -- a record whose key has a place is worked
+  pub works_at : (old new out : List (ℕ × R)) (state : S) → state ≡ (made_of meaning cmp p (left_at places) row).state → out ≡ (made_of meaning cmp p (left_at places) row).sent → new ≡ old ++ out → IsTotalOrder cmp → ((a b : K) → meaning.same_key a b ≡ is_eq (cmp a b)) → (key : Option K) (place : ℕ) → key ≡ meaning.key p.operator row → IsPlaceOf cmp places key place → (put : List (Place K S)) → after ≡ put → ((k : K) → IsPlaceOf cmp places (Some k) place → LeavesAt cmp k state (left_at places) (left_at put))
+      → WorksRow meaning cmp p (left_at places) row (left_at after) old new
+  works_at old new out state st se sends order law None place is found put same leaves = absurd (false≢true found.keyed)
+  works_at old new out state st se sends order law (Some key) place is found put same leaves =
+      works_keyed meaning cmp p (left_at places) row (left_at after) old new out state st se sends order law key is (λ q. ap (λ (ps : List (Place K S)). value_at cmp (left_at ps) q) same ∙ leaves key found q)
 
 -- where nothing is left, all that is left is good
 pub none_good : {K S : Type 0} (cmp : K → K → Ordering) (P : S → Type 0) (left : List (K × S)) → left ≡ [] → AllGood cmp P left

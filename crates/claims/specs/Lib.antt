@@ -1,4 +1,5 @@
 pub mod Carried
 pub mod Due
 pub mod Left
+pub mod Places
 pub mod Tasks

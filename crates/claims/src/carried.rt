@@ -1,17 +1,15 @@
 //! Work, and what was made of it.
 
-ghost use Rattle.std.specs.Prelude.{◌≡◌, List, IfOk, IfErr, OnOk};
-ghost use Rattle.std.specs.List.Sorted.{IsStrictlySortedBy};
-ghost use Rattle.std.specs.Map.{keys_of};
-ghost use Rattle.std.specs.Option.{option_copied};
-ghost use Rattle.engine_model.specs.declared.fault.CoreFault.TheVariants as CoreFault;
+ghost use Rattle.std.specs.Prelude.{◌≡◌, List, IfOk, OnOk};
 ghost use Rattle.claims.specs.declared.parts.Given.TheVariants as Given;
-ghost use Rattle.claims.specs.Carried.{IsOperand, IsOutcome, given_of, records_of};
+ghost use Rattle.claims.specs.Carried.{HasItsState, IsOperand, IsOutcome, given_of, records_of};
 ghost use Rattle.claims.specs.Left.{AllGood, WorksRow, made_of, state_left};
+ghost use Rattle.claims.specs.Places.{given_at, left_at, state_at};
 
+use crate::left::{Place, entries_of, place_of, places_of, put_at, state_of};
 use crate::parts::{Given, Made, Operand, Outcomes};
-use abs_codec::{Codec, Map, NoMemory};
-use engine_model::{CoreFault, Rules};
+use abs_codec::{Codec, NoMemory};
+use engine_model::Rules;
 use operators::{Operator, Outcome};
 use std::alloc::Global;
 use std::marker::Model;
@@ -63,42 +61,28 @@ impl<O: Operator> Model for Worked<O> {
         (Fits O.State.HasSpelling O.State.spelling) O.Suits) O.Record.spelling w.made };
 }
 
-/// The state under a record's key: the one that was left, or else the one that was given.
-fn state_under<'a, O: Operator>(
-    operand: &'a Operand<O, O::Key, O::State, O::Record>,
-    left: &'a Map<O::Key, O::State>,
-    key: &Option<O::Key>,
-) -> Option<&'a O::State>
-    ensures { option_copied result
-        ≡ state_left O.Key.cmp operand.now.states left.now key.now }
-{
-    let key = key.as_ref()?;
-    match left.get(key) {
-        Some(state) => Some(state),
-        None => operand.states.get(key)?.as_ref(),
-    }
-}
-
 /// What an operator makes of a record, in the state that was left under its key.
 fn outcome_of<O: Operator>(
     alloc: Global,
     operand: &Operand<O, O::Key, O::State, O::Record>,
-    left: &Map<O::Key, O::State>,
-    key: &Option<O::Key>,
+    left: &[Place<O::Key, O::State>],
+    place: Option<usize>,
     row: &O::Record,
 ) -> Result<Outcome<O::State, O::Record>, NoMemory>
-    requires key { key.now ≡ O.meaning.key operand.now.operator row.now }
     requires operand { IsOperand ⟦<O as Rules>⟧.all operand.now }
     requires fits { ⟦<O as Rules>⟧.RecordFits row.now }
-    requires good { AllGood O.Key.cmp (⟦<O as Rules>⟧.IsGood operand.now.operator) left.now }
+    requires good { AllGood O.Key.cmp (⟦<O as Rules>⟧.IsGood operand.now.operator)
+        (left_at left.now) }
+    requires state { state_at left.now place ≡ state_left O.Key.cmp operand.now.states
+        (left_at left.now) (O.meaning.key operand.now.operator row.now) }
     ensures state { IfOk result (λ outcome. outcome.state
-        ≡ (made_of O.meaning O.Key.cmp operand.now left.now row.now).state) }
+        ≡ (made_of O.meaning O.Key.cmp operand.now (left_at left.now) row.now).state) }
     ensures sent { IfOk result (λ outcome. outcome.sent.items
-        ≡ (made_of O.meaning O.Key.cmp operand.now left.now row.now).sent) }
+        ≡ (made_of O.meaning O.Key.cmp operand.now (left_at left.now) row.now).sent) }
     ensures good { IfOk result (λ outcome.
         ⟦<O as Rules>⟧.IsGood operand.now.operator outcome.state) }
 {
-    let Some(state) = state_under::<O>(operand, left, key) else {
+    let Some(state) = state_of(left, place) else {
         let fresh = operand.operator.fresh(alloc)?;
         return operand.operator.apply(alloc, &fresh, row);
     };
@@ -110,35 +94,30 @@ fn work_row<O: Operator>(
     alloc: Global,
     operand: &Operand<O, O::Key, O::State, O::Record>,
     row: &O::Record,
-    left: &mut Map<O::Key, O::State>,
+    left: &mut [Place<O::Key, O::State>],
     sent: &mut Vec<(u32, O::Record)>,
 ) -> Result<(), NoMemory>
     requires operand { IsOperand ⟦<O as Rules>⟧.all operand.now }
     requires fits { ⟦<O as Rules>⟧.RecordFits row.now }
-    requires good { AllGood O.Key.cmp (⟦<O as Rules>⟧.IsGood operand.now.operator) left.old }
-    ensures works { OnOk result (WorksRow O.meaning O.Key.cmp operand.now left.old row.now
-        left.new sent.old.items sent.new.items) }
-    ensures good { OnOk result
-        (AllGood O.Key.cmp (⟦<O as Rules>⟧.IsGood operand.now.operator) left.new) }
+    requires keyed { HasItsState O.meaning O.Key.cmp operand.now.operator operand.now.states
+        row.now }
+    requires given { given_at left.old ≡ operand.now.states }
+    requires good { AllGood O.Key.cmp (⟦<O as Rules>⟧.IsGood operand.now.operator)
+        (left_at left.old) }
+    ensures works { OnOk result (WorksRow O.meaning O.Key.cmp operand.now (left_at left.old)
+        row.now (left_at left.new) sent.old.items sent.new.items) }
+    ensures given { given_at left.new ≡ given_at left.old }
+    ensures good { OnOk result (AllGood O.Key.cmp
+        (⟦<O as Rules>⟧.IsGood operand.now.operator) (left_at left.new)) }
 {
     let key = operand.operator.key(alloc, row)?;
-    let mut outcome = outcome_of(alloc, operand, left, &key, row)?;
+    let place = place_of(left, &key);
+    let mut outcome = outcome_of(alloc, operand, left, place, row)?;
     sent.append(&mut outcome.sent)?;
-    if let Some(key) = key {
-        left.insert(key, outcome.state)?;
+    if let Some(place) = place {
+        put_at(left, place, outcome.state);
     }
     Ok(())
-}
-
-/// The entries of a map, by rising keys.
-fn entries_of<K: Ord + Drop, S: Drop>(
-    alloc: Global,
-    map: Map<K, S>,
-) -> Result<Vec<(K, S)>, NoMemory>
-    ensures entries { IfOk result (λ entries. entries.items ≡ map) }
-    ensures rising { IsStrictlySortedBy K.cmp (keys_of map) }
-{
-    Ok(map.into_btree_map().into_iter().collect(alloc)?)
 }
 
 /// What an operator makes of its records, from the first to the last, each in the state that the
@@ -150,8 +129,8 @@ fn outcomes_of<O: Operator>(
     requires { IsOperand ⟦<O as Rules>⟧.all operand.now }
     ensures { IfOk result (IsOutcome O.meaning O.Key.cmp operand.now) }
 {
-    let mut left = Map::new(alloc);
-    let mut sent = Vec::new(alloc);
+    let mut left = places_of(alloc, &operand.states)?;
+    let mut sent = Vec::with_capacity(alloc, operand.rows.len())?;
     for row in &operand.rows {
         work_row(alloc, operand, row, &mut left, &mut sent)?;
     }
@@ -177,15 +156,17 @@ fn worked_operand<O: Operator>(
     }
 }
 
-/// The spelling of a record.
-fn row_spelling<R: Codec>(alloc: Global, row: &R) -> Result<Vec<u8>, CoreFault>
-    ensures ok { IfOk result (λ bytes. bytes.items ≡ R.spelling row.now) }
-    ensures err { IfErr result (λ fault. fault ≡ CoreFault.Memory) }
+/// The spelling of a record, in a vector that is as long from the start.
+fn row_spelling<R: Codec>(alloc: Global, row: &R) -> Result<Vec<u8>, NoMemory>
+    ensures { IfOk result (λ bytes. bytes.items ≡ R.spelling row.now) }
 {
-    let mut bytes = Vec::new(alloc);
+    let Some(rest) = row.room_after(usize::MAX) else {
+        return Err(NoMemory);
+    };
+    let mut bytes = Vec::with_capacity(alloc, usize::MAX - rest)?;
     match row.encode(&mut bytes) {
         Ok(()) => Ok(bytes),
-        Err(_) => Err(CoreFault::Memory),
+        Err(_) => Err(NoMemory),
     }
 }
 

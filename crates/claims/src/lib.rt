@@ -15,6 +15,7 @@ mod accepts;
 mod carried;
 mod due;
 mod inputs;
+mod left;
 mod offers;
 mod parts;
 
