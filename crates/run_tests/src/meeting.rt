@@ -6,6 +6,9 @@ use job_runner::{NoPause, Options, Pause};
 use std::sync::atomic::{AtomicU64, Ordering};
 use std::test::Fail;
 
+/// A look takes about a nanosecond.
+const LOOKS: u64 = 20_000_000_000;
+
 /// The first claim that is asked about waits until another one is. Claims are told by their
 /// serials.
 #[derive(Drop)]
@@ -27,9 +30,10 @@ impl Meeting {
         }
     }
 
-    /// Looks for another claim, so often at most.
+    /// Looks for another claim, so often at most: on a busy machine the other worker may get no
+    /// processor for seconds.
     fn waits(&self) -> bool {
-        for _ in 0..10_000_000 {
+        for _ in 0..LOOKS {
             if self.is_met.load(Ordering::SeqCst) == 1 {
                 return true;
             }
