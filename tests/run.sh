@@ -12,6 +12,8 @@
 # crashes/NAME.json          a run that fails at each of its places (see crashes.py)
 # conformance/STAGE/N.json   random scripts, with the output of an independent reference: 400 for each stage that is served, or begun (see beginnings.py)
 #
+# At its end it looks whether what README.md and docs/ name by its path is there (see paths.py).
+#
 # What they want was worked out by hand or by that reference, and never taken from the program.
 set -uo pipefail
 programs=()
@@ -183,5 +185,6 @@ for program in "${programs[@]}"; do
   count_told tests/crashes.py "$program" tests/crashes/*.json
   for stage in $begun; do count_told tests/beginnings.py "$program" "tests/conformance/$stage"/*.json; done
 done
+count_told tests/paths.py
 echo "$passed passed, $failed failed"
 [ $failed -eq 0 ]
