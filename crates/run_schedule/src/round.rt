@@ -20,14 +20,18 @@ enum Stage {
     Complete,
 }
 
+/// So many steps of records come between two pieces of a copy, where they are to be had: what it
+/// takes to write copies is a share of what records take, however many keys there are.
+const STEPS_BETWEEN: u32 = 16;
+
 /// The checkpoint that is made.
 #[derive(Drop)]
 pub(crate) struct Round {
     stage: Stage,
     to_inject: VecDeque<u32>,
     to_persist: VecDeque<u32>,
-    /// Whether work on the first copy has gone on, and a record has had no turn since.
-    gives_way: bool,
+    /// How many steps of records come before work on the first copy goes on.
+    steps_left: u32,
     /// How many parts are in the store.
     persisted: u32,
     /// The next sink to commit.
@@ -48,7 +52,7 @@ impl Round {
             stage: Stage::None,
             to_inject,
             to_persist,
-            gives_way: false,
+            steps_left: 0,
             persisted: 0,
             sink: 0,
             tasks,
@@ -61,7 +65,7 @@ impl Round {
         self.stage = Stage::None;
         self.to_inject.clear();
         self.to_persist.clear();
-        self.gives_way = false;
+        self.steps_left = 0;
     }
 
     /// A checkpoint begins.
@@ -69,7 +73,7 @@ impl Round {
         self.stage = Stage::Pending;
         self.to_inject.clear();
         self.to_persist.clear();
-        self.gives_way = false;
+        self.steps_left = 0;
         self.persisted = 0;
         for &task in sources {
             let _ = self.to_inject.push_back(task);
@@ -118,19 +122,19 @@ impl Round {
 
     /// Work on the first copy has gone on, and more is left of it.
     pub(crate) fn has_more(&mut self) {
-        self.gives_way = true;
+        self.steps_left = STEPS_BETWEEN;
     }
 
-    /// Whether a record has its turn before what is needed next, which it is asked once.
+    /// Whether a record has its turn before what is needed next. It has had one where it is asked.
     pub(crate) fn gives_way(&mut self) -> bool {
-        let gives_way = self.gives_way;
-        self.gives_way = false;
+        let gives_way = self.steps_left > 0;
+        self.steps_left = self.steps_left.saturating_sub(1);
         gives_way
     }
 
     /// The first copy is in the store, now or before.
     pub(crate) fn persisted(&mut self, is_new: bool) {
-        self.gives_way = false;
+        self.steps_left = 0;
         let _ = self.to_persist.pop_front();
         if is_new {
             self.persisted = self.persisted.saturating_add(1);

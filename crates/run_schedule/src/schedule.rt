@@ -28,7 +28,7 @@ pub enum Step {
     Complete,
     /// A sink subtask commits.
     Commit(u32),
-    /// A source task sends a record.
+    /// A source task sends records.
     Read(u32),
     /// A task takes what stands at the head of an input.
     Work(Place),
@@ -172,8 +172,8 @@ impl Schedule {
         }
     }
 
-    /// The step for what the checkpoint needs. Where a part takes many, a record's step comes
-    /// between two of them, if one is to be had.
+    /// The step for what the checkpoint needs. Where a part takes many, steps of records come
+    /// between two of them, if they are to be had.
     fn next_need(&mut self, need: Need) -> Step {
         if self.round.gives_way() {
             if let Some(step) = self.record_step() {
@@ -390,15 +390,15 @@ impl Schedule {
         self.judge(task);
     }
 
-    /// The next source has sent a record.
-    pub(crate) fn read(&mut self) {
+    /// The next source has sent so many records.
+    pub(crate) fn read(&mut self, records: u32) {
         self.moved();
         if self.claims > 0 {
-            self.ahead = self.ahead.saturating_add(1);
+            self.ahead = self.ahead.saturating_add(records);
         }
         if let Some(task) = self.sources.pop_front() {
             let _ = self.sources.push_back(task);
-            self.sent(task, 1);
+            self.sent(task, records as u64);
         }
     }
 

@@ -112,7 +112,20 @@ impl Turns {
         self.schedule.is_pending()
     }
 
-    /// What came of a step that is no task's work, and no call for its part.
+    /// What came of a source's turn: it has sent so many records, and then this. That it has no more
+    /// is found out by its next turn, where it has sent one.
+    pub fn read(&mut self, task: u32, records: u32, outcome: Result<(), CoreFault>) {
+        if records > 0 {
+            self.schedule.read(records);
+        }
+        match outcome {
+            Ok(()) => {}
+            Err(CoreFault::NotReady) if records > 0 => {}
+            Err(fault) => self.refused(Step::Read(task), fault),
+        }
+    }
+
+    /// What came of a step that is no record's, and no call for a task's part.
     pub fn made(&mut self, step: Step, outcome: Result<(), CoreFault>) {
         match outcome {
             Ok(()) => self.accepted(step),
@@ -181,8 +194,8 @@ impl Turns {
             Step::Inject(task) => self.schedule.injected(task, true),
             Step::Complete => self.schedule.completed(),
             Step::Commit(_) => self.schedule.committed(),
-            Step::Read(_) => self.schedule.read(),
-            Step::Persist(_) | Step::Work(_) | Step::Over | Step::Idle | Step::Look => {}
+            Step::Read(_) | Step::Persist(_) | Step::Work(_) => {}
+            Step::Over | Step::Idle | Step::Look => {}
         }
     }
 

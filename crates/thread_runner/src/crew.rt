@@ -16,7 +16,7 @@ use std::sync::ledger::{Ledger, Share};
 use std::sync::{Mutex, Wait};
 use std::thread;
 use std::thread::Threads;
-use std::time::{Clock, Instant};
+use std::time::Clock;
 
 /// What a run did.
 #[derive(Clone, Copy, PartialEq, Eq, Debug)]
@@ -56,15 +56,9 @@ impl<L: Ledger> Worker<L> {
         H: Pause,
         R: Wait + Clock,
     >(&mut self, rt: &R, station: &Mutex<Station<O, S, X, P, L, W>>, turns: u64, pause: &H) {
+        let mut worked = None;
         for _ in 0..turns {
-            let asked = self.patience.now(rt);
-            let mut held = station.lock(rt);
-            let had = self.patience.now(rt);
-            let (next, before, left) = held.choose_some();
-            drop(held);
-            self.patience.had_lock(asked, had, self.patience.now(rt));
-            self.patience.took_turns(before, left);
-            match next {
+            match self.take_turns(rt, station, worked.take()) {
                 Next::Over => return,
                 Next::Idle => self.idled(rt, station),
                 Next::Again => self.made(rt, station),
@@ -73,11 +67,40 @@ impl<L: Ledger> Worker<L> {
                     self.made(rt, station);
                 }
                 Next::Run(task, job) => {
-                    self.run_job(rt, station, turns, pause, task, job);
-                    self.made(rt, station);
+                    worked = self.run_job(rt, station, turns, pause, task, job);
+                    if self.patience.is_tired() {
+                        self.hand_in(&mut station.lock(rt), worked.take());
+                        self.rests(rt, station, true);
+                    }
                 }
             }
         }
+        self.hand_in(&mut station.lock(rt), worked);
+    }
+
+    /// Hands in what was done of the last job, if there is something, and takes turns in the same
+    /// hold of the lock.
+    fn take_turns<
+        O: Operator,
+        S: SnapshotStore + Drop,
+        X: Transactions + Drop,
+        P: Partitions<Record = O::Record> + Drop,
+        W: Wait + Drop,
+        R: Wait + Clock,
+    >(
+        &mut self,
+        rt: &R,
+        station: &Mutex<Station<O, S, X, P, L, W>>,
+        worked: Option<(u32, Done<O>)>,
+    ) -> Next<O> {
+        let mut held = station.lock(rt);
+        self.patience.has_lock(rt);
+        self.hand_in(&mut held, worked);
+        let (next, before, left) = held.choose_some();
+        drop(held);
+        self.patience.gave_lock(rt);
+        self.patience.took_turns(before, left);
+        next
     }
 
     /// A step was made. A worker that others can do without rests, where another one is awake.
@@ -126,7 +149,8 @@ impl<L: Ledger> Worker<L> {
         true
     }
 
-    /// Runs a task's job with no lock held, and hands in what was done of it.
+    /// Runs a task's job with no lock held. What was done of it is `None` where the run ended while
+    /// the job had to wait.
     fn run_job<
         O: Operator,
         S: SnapshotStore + Drop,
@@ -143,56 +167,44 @@ impl<L: Ledger> Worker<L> {
         pause: &H,
         task: u32,
         job: Job<O>,
-    ) {
+    ) -> Option<(u32, Done<O>)> {
         let (attempt, serial) = (job.attempt(), job.serial());
-        let begun = self.patience.now(rt);
         for _ in 0..turns {
             if pause.before_run(attempt, serial) {
                 break;
             }
             if !station.lock(rt).wait() {
-                return;
+                return None;
             }
         }
         let done = job.run();
         pause.after_run(attempt, serial);
-        let ended = self.patience.now(rt);
-        self.patience.ran_job(begun, ended);
-        self.hand_in(rt, station, task, done, ended);
+        self.patience.ran_job(rt);
+        Some((task, done))
     }
 
-    /// Hands in what was done of a task's job, which ended then.
+    /// Hands in what was done of a task's job, if there is something.
     fn hand_in<
         O: Operator,
         S: SnapshotStore + Drop,
         X: Transactions + Drop,
         P: Partitions<Record = O::Record> + Drop,
         W: Wait + Drop,
-        R: Wait + Clock,
-    >(
-        &mut self,
-        rt: &R,
-        station: &Mutex<Station<O, S, X, P, L, W>>,
-        task: u32,
-        done: Done<O>,
-        ended: Option<Instant>,
-    ) {
+    >(&mut self, station: &mut Station<O, S, X, P, L, W>, worked: Option<(u32, Done<O>)>) {
+        let Some((task, done)) = worked else {
+            return;
+        };
         let records = done.records();
         let Worker {
             share,
             finished,
-            patience,
             ..
         } = self;
-        let mut held = station.lock(rt);
-        let had = patience.now(rt);
-        let outcome = held.finish_with(share, done);
+        let outcome = station.finish_with(share, done);
         if outcome.is_ok() {
             *finished += records as u128;
         }
-        held.finished(task, outcome, records);
-        drop(held);
-        patience.had_lock(ended, had, patience.now(rt));
+        station.finished(task, outcome, records);
     }
 }
 

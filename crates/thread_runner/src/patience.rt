@@ -30,6 +30,8 @@ pub(crate) struct Patience {
     waits: u32,
     /// How often it has rested, halved each time that it was of use.
     rests: u32,
+    /// Until when it was watched; `None` while it is alone.
+    until: Option<Instant>,
     /// Since it was judged last: how long it waited, for the lock or for something to do,
     waited: Duration,
     /// how long it held the lock,
@@ -45,6 +47,7 @@ impl Patience {
             is_alone: false,
             waits: 0,
             rests: 0,
+            until: None,
             waited: Duration::ZERO,
             held: Duration::ZERO,
             worked: Duration::ZERO,
@@ -57,23 +60,31 @@ impl Patience {
         self.seen = left;
     }
 
-    /// The time, which a worker that is alone need not ask for.
-    pub(crate) fn now<R: Clock>(&self, rt: &R) -> Option<Instant> {
-        if self.is_alone {
-            return None;
-        }
-        Instant::now(rt).ok()
+    /// How long it is since the worker was watched last. A worker that is alone need not ask.
+    fn passed<R: Clock>(&mut self, rt: &R) -> Duration {
+        let now = if self.is_alone {
+            None
+        } else {
+            Instant::now(rt).ok()
+        };
+        let passed = match (self.until, now) {
+            (Some(from), Some(to)) => to.saturating_duration_since(from),
+            _ => Duration::ZERO,
+        };
+        self.until = now;
+        passed
     }
 
-    /// The lock was asked for, had and given back at these times.
-    pub(crate) fn had_lock(
-        &mut self,
-        asked: Option<Instant>,
-        had: Option<Instant>,
-        gave: Option<Instant>,
-    ) {
-        self.waited = self.waited.saturating_add(between(asked, had));
-        self.held = self.held.saturating_add(between(had, gave));
+    /// The lock is had, which was asked for.
+    pub(crate) fn has_lock<R: Clock>(&mut self, rt: &R) {
+        let waited = self.passed(rt);
+        self.waited = self.waited.saturating_add(waited);
+    }
+
+    /// The lock was given back.
+    pub(crate) fn gave_lock<R: Clock>(&mut self, rt: &R) {
+        let held = self.passed(rt);
+        self.held = self.held.saturating_add(held);
     }
 
     /// A step was made.
@@ -81,14 +92,15 @@ impl Patience {
         self.waits /= 2;
     }
 
-    /// A job was run from the one time to the other.
-    pub(crate) fn ran_job(&mut self, begun: Option<Instant>, ended: Option<Instant>) {
-        self.worked = self.worked.saturating_add(between(begun, ended));
+    /// A job was run, with no lock held.
+    pub(crate) fn ran_job<R: Clock>(&mut self, rt: &R) {
+        let worked = self.passed(rt);
+        self.worked = self.worked.saturating_add(worked);
+        self.made_step();
     }
 
     /// Lets others go first; a worker that has waited often sleeps, longer each time up to a bound.
     pub(crate) fn wait<R: Clock>(&mut self, rt: &R) {
-        let begun = self.now(rt);
         if self.waits < YIELDS {
             thread::yield_now();
         } else {
@@ -96,7 +108,8 @@ impl Patience {
             thread::sleep(rt, Duration::from_micros(1 << doubled));
         }
         self.waits = self.waits.saturating_add(1).min(YIELDS + LONGEST);
-        self.waited = self.waited.saturating_add(between(begun, self.now(rt)));
+        let waited = self.passed(rt);
+        self.waited = self.waited.saturating_add(waited);
     }
 
     /// Whether the worker wants to rest: where it was watched long enough, and waited longer than
@@ -126,18 +139,11 @@ impl Patience {
         true
     }
 
-    /// Rests, longer each time up to a bound.
+    /// Rests, longer each time up to a bound. What it rests is not counted.
     pub(crate) fn rest<R: Clock>(&mut self, rt: &R) {
         let doubled = LONGEST + self.rests.min(RESTS);
         thread::sleep(rt, Duration::from_micros(1 << doubled));
+        self.until = None;
         self.rests = self.rests.saturating_add(1);
-    }
-}
-
-/// The time from the one to the other, nothing where either was not asked for.
-fn between(from: Option<Instant>, to: Option<Instant>) -> Duration {
-    match (from, to) {
-        (Some(from), Some(to)) => to.saturating_duration_since(from),
-        _ => Duration::ZERO,
     }
 }

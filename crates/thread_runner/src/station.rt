@@ -27,6 +27,9 @@ use std::sync::ledger::{Blank, Book, Ledger, Share};
 /// So many entries of the work on a task's part are done in one turn.
 const ENTRIES_A_TURN: u32 = 64;
 
+/// So many records a source sends in one turn, at most.
+const READS_A_TURN: u32 = 8;
+
 /// So many turns are taken in one hold of the lock, at most.
 const TURNS_A_HOLD: u64 = 64;
 
@@ -384,6 +387,7 @@ fn take_turn<O: Operator, S: SnapshotStore, X: Transactions, P: Partitions<Recor
         Step::Idle => Next::Idle,
         Step::Look => Next::Again,
         Step::Work(place) => claim(core, turns, place),
+        Step::Read(task) => read(core, turns, task),
         Step::Persist(task) => persist(core, turns, task),
         step => {
             turns.made(step, make(core, step));
@@ -433,6 +437,38 @@ fn claim<O: Operator, S: SnapshotStore, X: Transactions, P: Partitions<Record = 
     }
 }
 
+/// A source sends its next records: no more than a batch has.
+fn read<O: Operator, S: SnapshotStore, X: Transactions, P: Partitions<Record = O::Record>>(
+    core: &mut Core<O, S, X, P>,
+    turns: &mut Turns,
+    task: u32,
+) -> Next<O>
+    ensures once { ClaimsOnce core.old core.new }
+    ensures step { Preserves ⟦<O as Rules>⟧.all core.old.engine core.new.engine }
+{
+    let most = turns.batch().min(READS_A_TURN);
+    let (records, outcome) = read_some(core, task, most);
+    turns.read(task, records, outcome);
+    Next::Again
+}
+
+/// A source sends its next records, so many at most: how many it has sent, and why no more.
+fn read_some<O: Operator, S: SnapshotStore, X: Transactions, P: Partitions<Record = O::Record>>(
+    core: &mut Core<O, S, X, P>,
+    task: u32,
+    most: u32,
+) -> (u32, Result<(), CoreFault>)
+    ensures once { ClaimsOnce core.old core.new }
+    ensures step { Preserves ⟦<O as Rules>⟧.all core.old.engine core.new.engine }
+{
+    for records in 0..most {
+        if let Err(fault) = core.read(task) {
+            return (records, Err(fault));
+        }
+    }
+    (most, Ok(()))
+}
+
 /// Goes on with the work on a task's part, or puts it in the store.
 fn persist<O: Operator, S: SnapshotStore, X: Transactions, P: Partitions<Record = O::Record>>(
     core: &mut Core<O, S, X, P>,
@@ -447,7 +483,7 @@ fn persist<O: Operator, S: SnapshotStore, X: Transactions, P: Partitions<Record 
     Next::Again
 }
 
-/// Makes a step that is no task's work, and no call for its part.
+/// Makes a step that is no record's, and no call for a task's part.
 fn make<O: Operator, S: SnapshotStore, X: Transactions, P: Partitions<Record = O::Record>>(
     core: &mut Core<O, S, X, P>,
     step: Step,
@@ -461,8 +497,8 @@ fn make<O: Operator, S: SnapshotStore, X: Transactions, P: Partitions<Record = O
         Step::Inject(task) => core.inject(task),
         Step::Complete => core.complete().map(|_| ()),
         Step::Commit(sink) => core.commit(sink),
-        Step::Read(task) => core.read(task),
-        Step::Persist(_) | Step::Work(_) | Step::Over | Step::Idle | Step::Look => Ok(()),
+        Step::Read(_) | Step::Persist(_) | Step::Work(_) => Ok(()),
+        Step::Over | Step::Idle | Step::Look => Ok(()),
     }
 }
 
