@@ -20,9 +20,8 @@ enum Stage {
     Complete,
 }
 
-/// So many steps of records come between two pieces of a copy, where they are to be had: what it
-/// takes to write copies is a share of what records take, however many keys there are.
-const STEPS_BETWEEN: u32 = 16;
+/// No more steps of records come between two pieces of a copy.
+const MOST_STEPS: u32 = 16;
 
 /// The checkpoint that is made.
 #[derive(Drop)]
@@ -30,7 +29,11 @@ pub(crate) struct Round {
     stage: Stage,
     to_inject: VecDeque<u32>,
     to_persist: VecDeque<u32>,
-    /// How many steps of records come before work on the first copy goes on.
+    /// So many steps of records come between two pieces of a copy, where they are to be had. A
+    /// checkpoint that was late doubles them, and one that was not halves them: so what writing
+    /// copies takes is a share of what records take, however many keys there are.
+    steps: u32,
+    /// How many of them come before work on the first copy goes on.
     steps_left: u32,
     /// How many parts are in the store.
     persisted: u32,
@@ -52,6 +55,7 @@ impl Round {
             stage: Stage::None,
             to_inject,
             to_persist,
+            steps: 1,
             steps_left: 0,
             persisted: 0,
             sink: 0,
@@ -122,7 +126,7 @@ impl Round {
 
     /// Work on the first copy has gone on, and more is left of it.
     pub(crate) fn has_more(&mut self) {
-        self.steps_left = STEPS_BETWEEN;
+        self.steps_left = self.steps;
     }
 
     /// Whether a record has its turn before what is needed next. It has had one where it is asked.
@@ -141,8 +145,13 @@ impl Round {
         }
     }
 
-    /// The checkpoint is complete.
-    pub(crate) fn completed(&mut self) {
+    /// The checkpoint is complete. It is late where the next one is due.
+    pub(crate) fn completed(&mut self, is_late: bool) {
+        self.steps = if is_late {
+            self.steps.saturating_mul(2).min(MOST_STEPS)
+        } else {
+            (self.steps / 2).max(1)
+        };
         self.stage = Stage::Complete;
         self.sink = 0;
         self.end_if_committed();

@@ -167,7 +167,7 @@ impl Schedule {
         }
         match self.round.next() {
             Some(need) => self.next_need(need),
-            None if self.is_due() => Step::Trigger,
+            None if self.is_due() && self.round.is_none() => Step::Trigger,
             None => self.next_record(),
         }
     }
@@ -183,8 +183,9 @@ impl Schedule {
         step_for(need)
     }
 
+    /// Whether so many records were worked since the last trigger as stand between two.
     fn is_due(&self) -> bool {
-        self.every > 0 && self.finished >= self.every && self.round.is_none()
+        self.every > 0 && self.finished >= self.every
     }
 
     /// A step that takes a record or a barrier, or finds out where one is.
@@ -461,7 +462,7 @@ impl Schedule {
     }
 
     pub(crate) fn completed(&mut self) {
-        self.round.completed();
+        self.round.completed(self.is_due());
     }
 
     pub(crate) fn committed(&mut self) {
