@@ -145,7 +145,7 @@ impl Round {
         }
     }
 
-    /// The checkpoint is complete. It is late where the next one is due.
+    /// The checkpoint is complete. It is late where half of the way to the next one is gone.
     pub(crate) fn completed(&mut self, is_late: bool) {
         self.steps = if is_late {
             self.steps.saturating_mul(2).min(MOST_STEPS)

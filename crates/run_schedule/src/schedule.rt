@@ -167,7 +167,7 @@ impl Schedule {
         }
         match self.round.next() {
             Some(need) => self.next_need(need),
-            None if self.is_due() && self.round.is_none() => Step::Trigger,
+            None if self.is_due() => Step::Trigger,
             None => self.next_record(),
         }
     }
@@ -183,9 +183,8 @@ impl Schedule {
         step_for(need)
     }
 
-    /// Whether so many records were worked since the last trigger as stand between two.
     fn is_due(&self) -> bool {
-        self.every > 0 && self.finished >= self.every
+        self.every > 0 && self.finished >= self.every && self.round.is_none()
     }
 
     /// A step that takes a record or a barrier, or finds out where one is.
@@ -462,7 +461,8 @@ impl Schedule {
     }
 
     pub(crate) fn completed(&mut self) {
-        self.round.completed(self.is_due());
+        let is_late = self.every > 0 && self.finished >= self.every / 2;
+        self.round.completed(is_late);
     }
 
     pub(crate) fn committed(&mut self) {

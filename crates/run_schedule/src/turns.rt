@@ -112,8 +112,8 @@ impl Turns {
         self.schedule.is_pending()
     }
 
-    /// What came of a source's turn: it has sent so many records, and then this. That it has no more
-    /// is found out by its next turn, where it has sent one.
+    /// What came of a source's turn: it has sent so many records, and then this. That it has no
+    /// more is found out by its next turn, where it has sent one.
     pub fn read(&mut self, task: u32, records: u32, outcome: Result<(), CoreFault>) {
         if records > 0 {
             self.schedule.read(records);

@@ -437,7 +437,8 @@ fn claim<O: Operator, S: SnapshotStore, X: Transactions, P: Partitions<Record = 
     }
 }
 
-/// A source sends its next records: no more than a batch has.
+/// A source sends its next records: no more than a batch has, and one while a checkpoint is
+/// pending.
 fn read<O: Operator, S: SnapshotStore, X: Transactions, P: Partitions<Record = O::Record>>(
     core: &mut Core<O, S, X, P>,
     turns: &mut Turns,
@@ -446,7 +447,11 @@ fn read<O: Operator, S: SnapshotStore, X: Transactions, P: Partitions<Record = O
     ensures once { ClaimsOnce core.old core.new }
     ensures step { Preserves ⟦<O as Rules>⟧.all core.old.engine core.new.engine }
 {
-    let most = turns.batch().min(READS_A_TURN);
+    let most = if turns.awaits_barriers() {
+        1
+    } else {
+        turns.batch().min(READS_A_TURN)
+    };
     let (records, outcome) = read_some(core, task, most);
     turns.read(task, records, outcome);
     Next::Again
