@@ -4,4 +4,4 @@
 
 mod puts;
 
-pub use puts::{barriers, deliver};
+pub use puts::{barriers, deliver, deliver_row};

@@ -1,6 +1,6 @@
 //! What a task sends, by the channels that it goes into.
 
-ghost use Rattle.std.specs.Prelude.{◌≡◌, ◌++◌, filter, take, drop, OnOk, IfOk};
+ghost use Rattle.std.specs.Prelude.{◌≡◌, ◌++◌, ◌∷◌, [], filter, take, drop, OnOk, IfOk};
 ghost use Rattle.std.specs.Option.{option_to_list};
 ghost use Rattle.job_graph.specs.Expanded.{meets, takes};
 ghost use Rattle.job_graph.specs.Runs.{IsRun};
@@ -70,10 +70,25 @@ pub fn deliver<O: Operator>(
 ) -> Result<Vec<(u32, Item<O::Record>)>, NoMemory>
     ensures { IfOk result (λ puts. puts.items ≡ deliveries_of O.meaning graph.now task sent.items) }
 {
-    let mut puts = Vec::new(alloc);
+    let mut puts = Vec::with_capacity(alloc, sent.len())?;
     for (port, row) in sent {
         deliver_one::<O>(graph, task, port, row, &mut puts)?;
     }
+    Ok(puts)
+}
+
+/// Which channel a record goes into that a task sends on its first port.
+pub fn deliver_row<O: Operator>(
+    alloc: Global,
+    graph: &Graph,
+    task: u32,
+    row: O::Record,
+) -> Result<Vec<(u32, Item<O::Record>)>, NoMemory>
+    ensures { IfOk result (λ puts. puts.items
+        ≡ deliveries_of O.meaning graph.now task ((0, row) ∷ [])) }
+{
+    let mut puts = Vec::new(alloc);
+    deliver_one::<O>(graph, task, 0, row, &mut puts)?;
     Ok(puts)
 }
 

@@ -6,7 +6,7 @@ ghost use Rattle.channels.specs.declared.item.Item.TheVariants as Item;
 use crate::attempt::Attempt;
 use crate::gates::is_logged;
 use crate::logs::{drop_last, log_copy, log_taken, reserve_log};
-use crate::sending::{first, pass_on, reserve_deliveries, send_records, take_head};
+use crate::sending::{first, pass_on, reserve_deliveries, send_record, take_head};
 use crate::taking::pass_on_all;
 use crate::tasks::{advance, keep, keep_all};
 use abs_codec::NoMemory;
@@ -36,9 +36,7 @@ impl<O: Operator> Attempt<O> {
         ensures ok { OnOk result (Reads O.meaning graph.now task offset row self.old self.new) }
         ensures err { OnErr result (self.new ≡ self.old) }
     {
-        let mut sent = Vec::new(self.alloc);
-        sent.push((0, row))?;
-        send_records::<O>(self.alloc, &mut self.channels, graph, task, sent)?;
+        send_record::<O>(self.alloc, &mut self.channels, graph, task, row)?;
         advance(&mut self.tasks, task, offset + 1);
         Ok(())
     }

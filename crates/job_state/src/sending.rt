@@ -10,7 +10,7 @@ ghost use Rattle.dataflow_model.specs.Machine.{received};
 
 use abs_codec::NoMemory;
 use channels::{Channel, Item};
-use deliveries::{barriers, deliver};
+use deliveries::{barriers, deliver, deliver_row};
 use job_graph::Graph;
 use operators::Operator;
 use std::alloc::Global;
@@ -58,6 +58,26 @@ pub(crate) fn reserve_deliveries<O: Operator>(
     ensures same { contents_items channels.new ≡ contents_items channels.old }
 {
     let puts = deliver::<O>(alloc, graph, task, sent)?;
+    reserve_all(channels, &puts)?;
+    Ok(puts)
+}
+
+/// Which channel a record goes into that a task sends on its first port, with the room for it.
+fn reserve_row<O: Operator>(
+    alloc: Global,
+    channels: &mut [Channel<O::Record>],
+    graph: &Graph,
+    task: u32,
+    row: O::Record,
+) -> Result<Vec<(u32, Item<O::Record>)>, NoMemory>
+    requires { length channels.old ≡ length graph.now.channels }
+    ensures puts { IfOk result (λ puts. puts.items
+        ≡ deliveries_of O.meaning graph.now task ((0, row) ∷ [])) }
+    ensures there { IfOk result (λ puts. AreChannels (length channels.old) puts.items) }
+    ensures room { IfOk result (λ puts. HasRoom channels.new puts.items) }
+    ensures same { contents_items channels.new ≡ contents_items channels.old }
+{
+    let puts = deliver_row::<O>(alloc, graph, task, row)?;
     reserve_all(channels, &puts)?;
     Ok(puts)
 }
@@ -140,21 +160,21 @@ pub(crate) fn pass_on<R: Drop>(
     taken
 }
 
-/// Sends what a task sends, each record with its port.
-pub(crate) fn send_records<O: Operator>(
+/// Sends a record on a task's first port.
+pub(crate) fn send_record<O: Operator>(
     alloc: Global,
     channels: &mut [Channel<O::Record>],
     graph: &Graph,
     task: u32,
-    sent: Vec<(u32, O::Record)>,
+    row: O::Record,
 ) -> Result<(), NoMemory>
     requires { length channels.old ≡ length graph.now.channels }
     ensures ok { OnOk result (Puts (λ number. map Record
-        (received O.meaning task sent.items (slice_get graph.now.channels number)))
+        (received O.meaning task ((0, row) ∷ []) (slice_get graph.now.channels number)))
         (contents_items channels.old) (contents_items channels.new)) }
     ensures err { OnErr result (contents_items channels.new ≡ contents_items channels.old) }
 {
-    let puts = reserve_deliveries::<O>(alloc, channels, graph, task, sent)?;
+    let puts = reserve_row::<O>(alloc, channels, graph, task, row)?;
     push_all(channels, puts);
     Ok(())
 }

@@ -71,6 +71,15 @@ fn begin<K>(last: &Option<K>, left: usize, out: &mut Vec<u8>) -> Result<(), NoMe
     write_count(left, out).map_err(|_| NoMemory)
 }
 
+/// Takes the room for so many entries more, each as long as those that are written are on average.
+/// Where memory is refused, it is asked for again as they are written.
+fn take_room(written: usize, more: usize, out: &mut Vec<u8>)
+    ensures { out.new.items ≡ out.old.items }
+{
+    let each = out.len().checked_div(written).unwrap_or(0);
+    let _ = out.reserve(each.saturating_mul(more));
+}
+
 /// Writes a key and its state.
 fn write_entry<K: Codec, S: Codec>(key: &K, state: &S, out: &mut Vec<u8>) -> Result<(), NoMemory>
     ensures appended { OnOk result (PairIsSpelled K.HasSpelling S.HasSpelling (key.now, state.now)
@@ -258,6 +267,8 @@ impl<K: Codec + Ord, S: Codec> OperatorState<K, S> {
             return Ok(());
         }
         self.bytes.truncate(self.end);
+        let written = self.states.len().saturating_sub(self.left);
+        take_room(written, self.left, &mut self.bytes);
         begin(&self.last, self.left, &mut self.bytes)?;
         self.last = write_next(&self.states, self.last.as_ref(), count, &mut self.bytes)?;
         self.left -= count;

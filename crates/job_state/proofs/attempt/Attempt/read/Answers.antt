@@ -1,4 +1,4 @@
-use Rattle.std.proofs.Common.{◌+◌, ◌++◌, ◌∷◌, [], slice_get, slice_set, refl, sym, ap, ◌∙◌, arith}
+use Rattle.std.proofs.Common.{◌+◌, ◌∷◌, [], slice_get, slice_set, refl, sym, ap, ◌∙◌, arith}
 use Rattle.std.proofs.lemmas.List.{with_items_is}
 use Rattle.job_state.specs.declared.holding.Holding.TheVariants as Holding
 use Rattle.job_state.specs.Inside.{holdings_of, copies_of}
@@ -15,11 +15,11 @@ advance-requires g c =
 
 pub returns-clause-ok : goal.returns-clause-ok
 returns-clause-ok g c =
-    let items = with_items_is c.self.inside.channels c.send_records.new.channels (omega arith) in
+    let items = with_items_is c.self.inside.channels c.send_record.new.channels (omega arith) in
     let tasks = with_items_is c.self.inside.tasks c.advance.new.tasks (omega arith) in
-    reads_from g.O.Operator.meaning c.args.graph.now c.args.task c.args.offset c.args.row _ _ _ c.push.new.self.items _ _ c.self.view_is
-    (c.in_ok-push.ensures.items ∙ ap (λ l. l ++ (0, c.args.row) ∷ []) c.new-sent.ensures.items)
-    (puts_at _ _ (ap (λ l. contents_items l) c.deref_mut.ensures.value) (ap (λ l. contents_items l) (sym items)) (λ k. refl) c.in_ok-send_records.ensures.ok)
+    reads_from g.O.Operator.meaning c.args.graph.now c.args.task c.args.offset c.args.row _ _ _ ((0, c.args.row) ∷ []) _ _ c.self.view_is
+    refl
+    (puts_at _ _ (ap (λ l. contents_items l) c.deref_mut.ensures.value) (ap (λ l. contents_items l) (sym items)) (λ k. refl) c.in_ok-send_record.ensures.ok)
     (ap (λ l. holdings_of l) tasks ∙ c.advance.ensures.holdings ∙ ap (λ l. slice_set (holdings_of l) c.args.task (Holding.Source (c.args.offset + 1))) c.deref_mut-2.ensures.value)
     (ap (λ l. copies_of l) tasks ∙ c.advance.ensures.copies ∙ ap (λ l. copies_of l) c.deref_mut-2.ensures.value)
     refl
