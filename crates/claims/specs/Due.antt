@@ -39,6 +39,19 @@ pub record IsRowDue {R K S : Type 0} (graph : Expanded) (task input : ℕ) (h : 
   pub leads : input_at graph task input ≡ Some channel
   pub first : IsRecordDue task input h channel row
 
+-- the task is a sink, the input is this channel, and the record stands at this place of it, with no barrier before it
+pub record StandsAhead {R K S : Type 0} (graph : Expanded) (task input index : ℕ) (h : Held R K S) (row : R) : Type 0 where
+  pub subtask : ℕ
+  pub channel : ℕ
+  pub is_sink : slice_get graph.tasks task ≡ Some (role.Sink subtask)
+  pub leads : input_at graph task input ≡ Some channel
+  pub stands : slice_get (leading_records (items_at h.channels channel)) index ≡ Some row
+
+-- the work is a sink's, on the record at this place of its input
+abbrev pub IsAhead : {R K S O : Type 0} → Expanded → (task input index : ℕ) → Held R K S → Given O K S R → Type 0
+IsAhead graph task input index h (given.Operator operand) = ⊥
+IsAhead graph task input index h (given.Sink row) = StandsAhead graph task input index h row
+
 -- whether there is such a task and input is answered
 abbrev pub EndsAsking : Expanded → (task input : ℕ) → Result Unit CoreFault → Type 0
 EndsAsking graph task input (Ok u) = (channel : ℕ) × WorksFrom graph task input channel

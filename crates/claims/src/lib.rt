@@ -23,5 +23,5 @@ pub use accepts::accept;
 pub use carried::{Work, Worked};
 pub use due::{channel_of, operator_of};
 pub use inputs::input_of;
-pub use offers::offer;
+pub use offers::{offer, offer_ahead};
 pub use parts::{Given, Made, Operand, Outcomes};

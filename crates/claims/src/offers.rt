@@ -1,6 +1,6 @@
 //! Work is offered.
 
-ghost use Rattle.std.specs.Prelude.{◌≡◌, ◌<◌, ◌≤◌, ◌++◌, ◌∷◌, [], ℕ, List, Some, true, length, take, slice_get, is_some, OnOk, IfOk};
+ghost use Rattle.std.specs.Prelude.{◌≡◌, ◌<◌, ◌≤◌, ◌++◌, ◌∷◌, [], ℕ, List, Some, true, length, take, slice_get, is_some, OnOk, IfOk, IfSome};
 ghost use Rattle.std.specs.List.Sorted.{IsStrictlySortedBy};
 ghost use Rattle.std.specs.Map.{keys_of};
 ghost use Rattle.abs_codec.specs.Entries.{value_at};
@@ -11,7 +11,7 @@ ghost use Rattle.job_state.specs.Sending.{items_at};
 ghost use Rattle.job_state.specs.declared.holding.Holding.TheVariants as Holding;
 ghost use Rattle.engine_model.specs.Keeps.{Shape};
 ghost use Rattle.claims.specs.Carried.{AreStatesOf, IsCarried};
-ghost use Rattle.claims.specs.Due.{EndsOffer};
+ghost use Rattle.claims.specs.Due.{EndsOffer, IsAhead};
 
 use crate::carried::Work;
 use crate::due::operator_of;
@@ -172,4 +172,27 @@ pub fn offer<O: Operator>(
         Some(Role::Source(_)) => Err(CoreFault::NoSuchTask),
         None => Err(CoreFault::NoSuchTask),
     }
+}
+
+/// The work on the record at a place of a sink's input, counted from 0, with no barrier before it:
+/// it is due once those before it are taken. `None` where there is no such record, or memory is
+/// refused.
+pub fn offer_ahead<O: Operator>(
+    attempt: &Attempt<O>,
+    graph: &Graph,
+    task: u32,
+    input: u32,
+    index: usize,
+) -> Option<Work<O>>
+    ensures { IfSome result (IsAhead graph.now task input index attempt.now) }
+{
+    let Some(Role::Sink(_)) = graph.role(task) else {
+        return None;
+    };
+    let channel = input_of(graph, task, input)?;
+    let row = attempt.record(channel, index)?;
+    let row = row.copied().ok()?;
+    Some(Work {
+        given: Given::Sink(row),
+    })
 }

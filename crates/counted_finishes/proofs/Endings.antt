@@ -7,10 +7,10 @@ use Rattle.engine_model.specs.Language.{Language}
 use Rattle.engine_model.specs.declared.fault.CoreFault.{CoreFault}
 use Rattle.engine_model.specs.declared.fault.CoreFault.TheVariants.{NotRunning, NoSuchTask, NotReady, ChannelBlocked, Busy, Stale, WrongResult, CheckpointPending, NoCheckpoint, NotAllAcked, Memory, Device, CommitFault, NumbersSpent, BadSnapshot}
 use Rattle.job_state.specs.Held.{Held}
-use Rattle.dataflow_core.specs.Claims.{IsHeldAt, IsFreshTicket, EndsClaimed, EndsFinish, claims_left}
+use Rattle.dataflow_core.specs.Claims.{IsHeldAt, IsFreshTicket, EndsClaimed, EndsFinish, EndsAccepting, claims_left}
 use Rattle.dataflow_core.specs.CoreState.{CoreState}
 use Rattle.dataflow_core.specs.declared.held.Claim.{Claim}
-use Rattle.counted_finishes.specs.Counting.{EndsAClaim}
+use Rattle.counted_finishes.specs.Counting.{EndsAClaim, UsesASerial}
 
 -- one claim less where the result is taken, and else no more
 abbrev Fewer : Result Unit CoreFault → List Claim → List Claim → Type 0
@@ -56,3 +56,14 @@ module _ {R K S O : Type 0} (old : CoreState O R K S) (lang : Language R K S O) 
 
   pub finish_ends : EndsFinish old lang new attempt serial made result → EndsAClaim old new result
   finish_ends ends = by_held old.engine.held ends
+
+used : (result : Result Unit CoreFault) (now was : ℕ) → now ≡ was + 1 → MatchResult result (λ _. now ≡ was + 1) (λ _. was ≤ now)
+used (Ok u) now was e = e
+used (Err fault) now was e = omega (arith, e)
+
+module _ {R K S O : Type 0} (old : CoreState O R K S) (lang : Language R K S O) (new : CoreState O R K S) (task input : ℕ) (made : Made O K S R) (result : Result Unit CoreFault) where
+  pub accept_uses : EndsAccepting old lang new task input made result → UsesASerial old new result
+  accept_uses (inl ends) =
+      (used result new.serials old.serials (ap (λ (s : CoreState O R K S). s.serials) ends.2), ap (λ (s : CoreState O R K S). s.claims) ends.2)
+  accept_uses (inr refuses) =
+      (subst (λ r. MatchResult r (λ _. new.serials ≡ old.serials + 1) (λ _. old.serials ≤ new.serials)) (sym refuses.1) (subst (λ (s : CoreState O R K S). old.serials ≤ s.serials) (sym refuses.3) (omega arith)), ap (λ (s : CoreState O R K S). s.claims) refuses.3)

@@ -11,3 +11,8 @@ Within total core = total + 2 ^ 64 * length core.claims ≤ 2 ^ 64 * core.serial
 abbrev pub EndsAClaim : {O R K S : Type 0} → CoreState O R K S → CoreState O R K S → Result Unit CoreFault → Type 0
 EndsAClaim old new result =
     MatchResult result (λ _. length new.claims + 1 ≡ length old.claims) (λ _. length new.claims ≤ length old.claims) × (new.serials ≡ old.serials)
+
+-- a serial is used up where a result is taken with no claim, and the claims stay
+abbrev pub UsesASerial : {O R K S : Type 0} → CoreState O R K S → CoreState O R K S → Result Unit CoreFault → Type 0
+UsesASerial old new result =
+    MatchResult result (λ _. new.serials ≡ old.serials + 1) (λ _. old.serials ≤ new.serials) × (new.claims ≡ old.claims)

@@ -2,10 +2,11 @@
 
 ghost use Rattle.std.specs.Prelude.{◌≡◌, ◌+◌, ◌<◌, ◌^◌, MatchResult};
 ghost use Rattle.claims.specs.Carried.{given_of, records_of};
-ghost use Rattle.dataflow_core.specs.Claims.{EndsFinish, FinishMoves};
+ghost use Rattle.dataflow_core.specs.Claims.{EndsFinish, FinishMoves, EndsAccepting, AcceptMoves};
 ghost use Rattle.dataflow_core.specs.Steps.{IsStep};
-ghost use Rattle.counted_finishes.specs.Counting.{EndsAClaim, Within};
+ghost use Rattle.counted_finishes.specs.Counting.{EndsAClaim, UsesASerial, Within};
 
+use claims::Worked;
 use commit_sink::Transactions;
 use dataflow_core::{Core, CoreFault, Done, Rules};
 use operators::Operator;
@@ -65,4 +66,58 @@ fn finish<O: Operator, S: SnapshotStore, X: Transactions, P: Partitions<Record =
     ensures claims { EndsAClaim core.old core.new result }
 {
     core.finish(done)
+}
+
+/// Takes what was made of a task's work with no claim, as the core's own `accept` does, and adds
+/// the number of its records to the share and the book where it is taken.
+pub fn accept_counted<
+    O: Operator,
+    S: SnapshotStore,
+    X: Transactions,
+    P: Partitions<Record = O::Record>,
+    L: Ledger,
+>(
+    core: &mut Core<O, S, X, P>,
+    book: &mut Book<L>,
+    share: &mut Share<L>,
+    task: u32,
+    input: u32,
+    worked: Worked<O>,
+) -> Result<(), CoreFault>
+    requires parts { 0 < share.old.parts }
+    requires within { Within book.old.total core.old }
+    ensures within { Within book.new.total core.new }
+    ensures ends { EndsAccepting core.old ⟦<O as Rules>⟧.lang core.new task input worked result }
+    ensures step { IsStep ⟦<O as Rules>⟧.all core.old.engine core.new.engine }
+    ensures plain { AcceptMoves core.old ⟦<O as Rules>⟧.lang core.new task input worked result }
+    ensures total { MatchResult result (λ _. book.new.total ≡ book.old.total
+        + records_of (given_of worked)) (λ _. book.new.total ≡ book.old.total) }
+    ensures amount { MatchResult result (λ _. share.new.amount ≡ share.old.amount
+        + records_of (given_of worked)) (λ _. share.new.amount ≡ share.old.amount) }
+    ensures bound { share.new.amount < 2 ^ 128 }
+    ensures parts { share.new.parts ≡ share.old.parts }
+{
+    let records = worked.records() as u64;
+    let accepted = accept(core, task, input, worked);
+    if accepted.is_ok() {
+        book.add(share, records);
+    }
+    core.serials_bound();
+    book.audit(share);
+    accepted
+}
+
+/// The core's own `accept`. A serial is used up where the result is taken.
+fn accept<O: Operator, S: SnapshotStore, X: Transactions, P: Partitions<Record = O::Record>>(
+    core: &mut Core<O, S, X, P>,
+    task: u32,
+    input: u32,
+    worked: Worked<O>,
+) -> Result<(), CoreFault>
+    ensures ends { EndsAccepting core.old ⟦<O as Rules>⟧.lang core.new task input worked result }
+    ensures step { IsStep ⟦<O as Rules>⟧.all core.old.engine core.new.engine }
+    ensures plain { AcceptMoves core.old ⟦<O as Rules>⟧.lang core.new task input worked result }
+    ensures serials { UsesASerial core.old core.new result }
+{
+    core.accept(task, input, worked)
 }

@@ -15,7 +15,7 @@ use Rattle.dataflow_model.specs.Machine as machine
 use Rattle.engine.specs.Running.{OnTransactions}
 use Rattle.job_graph.specs.Expanded.{Expanded}
 use Rattle.job_state.specs.Held.{Held}
-use Rattle.dataflow_core.specs.Claims.{IsHeldAt, IsFreshTicket, EndsFinish, FinishMoves, claims_left}
+use Rattle.dataflow_core.specs.Claims.{IsHeldAt, IsFreshTicket, EndsFinish, FinishMoves, AcceptMoves, claims_left}
 use Rattle.dataflow_core.specs.CoreState.{CoreState}
 use Rattle.dataflow_core.specs.declared.held.Claim.{Claim}
 
@@ -74,3 +74,28 @@ module _ {R K S O : Type 0} (lang : Language R K S O) where
         let c = channel_of u old.engine.held takes in
         (at, c.0, claim, held, c.1, subst (λ (o : Option ℕ). Plain (Ok u) o) c.1 plain)
     moves (Err fault) takes plain = stays_by fault (input_at old.engine.graph claim.task claim.input) plain
+
+  module _ (old : CoreState O R K S) (engine : State O R K S) (serials task input : ℕ) (made : Made O K S R) where
+    abbrev next : CoreState O R K S
+    next = record { engine = engine; claims = old.claims; serials = serials }
+
+    abbrev Accepts : Result Unit CoreFault → Type 0
+    Accepts result = OnTransactions old.engine engine (λ h k. EndsAccept lang old.engine.graph old.engine.operators task input h k old.engine.ledger engine.ledger made) result
+
+    abbrev PlainAt : Result Unit CoreFault → Option ℕ → Type 0
+    PlainAt result channel = MatchOption channel (Stays lang old.engine engine) (λ c. StepsOftenIfOk result (records_of (given_of made)) lang (machine.Work task c) old.engine engine)
+
+    stays_at : (fault : CoreFault) (channel : Option ℕ) → PlainAt (Err fault) channel → Stays lang old.engine engine
+    stays_at fault (Some c) plain = plain
+    stays_at fault None plain = plain
+
+    channel_at : (u : Unit) (h : Option (Held R K S)) → MatchOption h ((◌≡◌ {A = Result Unit CoreFault} (Ok u) (Err NotRunning)) × (engine ≡ old.engine)) (λ h. (k : Held R K S) × EndsAccept lang old.engine.graph old.engine.operators task input h k old.engine.ledger engine.ledger made (Ok u) × (engine ≡ record old.engine { held = Some k; ledger = engine.ledger; faults = engine.faults }))
+        → (channel : ℕ) × (input_at old.engine.graph task input ≡ Some channel)
+    channel_at u (Some h) e = leads old.engine.graph old.engine.operators task input h e.0 old.engine.ledger engine.ledger made u e.1
+    channel_at u None e = (let never : ◌≡◌ {A = Result Unit CoreFault} (Ok u) (Err NotRunning) = e.0 in cc)
+
+    pub accept_moves : (result : Result Unit CoreFault) → Accepts result → PlainAt result (input_at old.engine.graph task input) → AcceptMoves old lang next task input made result
+    accept_moves (Ok u) takes plain =
+        let c = channel_at u old.engine.held takes in
+        (c.0, c.1, subst (λ (o : Option ℕ). PlainAt (Ok u) o) c.1 plain)
+    accept_moves (Err fault) takes plain = stays_at fault (input_at old.engine.graph task input) plain

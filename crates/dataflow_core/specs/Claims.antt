@@ -107,3 +107,30 @@ module _ {R K S O : Type 0} (old : CoreState O R K S) where
         (at channel : ℕ) × (claim : Claim) × IsHeldAt attempt serial at claim × (input_at old.engine.graph claim.task claim.input ≡ Some channel)
         × StepsOften (records_of (given_of made)) lang (machine.Work claim.task channel) old.engine new.engine
     FinishMoves made (Err fault) = Stays lang old.engine new.engine
+
+  -- the job runs, the task holds no claim, and a serial is left
+  abbrev pub MayAccept : ℕ → Type 0
+  MayAccept task = (old.engine.held ≢ None) × ¬ IsBusy task old.claims × (old.serials < 2 ^ 63)
+
+  -- why what was made of work is not looked at
+  abbrev pub RefusesAccept : ℕ → CoreFault → Type 0
+  RefusesAccept task NotRunning = old.engine.held ≡ None
+  RefusesAccept task Busy = (old.engine.held ≢ None) × IsBusy task old.claims
+  RefusesAccept task NumbersSpent = (old.engine.held ≢ None) × ¬ IsBusy task old.claims × (2 ^ 63 ≤ old.serials)
+  RefusesAccept task other = ⊥
+
+  module _ (lang : Language R K S O) (new : CoreState O R K S) (task input : ℕ) where
+    -- What was made of work is taken with no claim, as the task's work would end. A serial is used up for it, as for a claim.
+    abbrev pub EndsAccepting : Made O K S R → Result Unit CoreFault → Type 0
+    EndsAccepting made result =
+        (MayAccept task
+        × OnTransactions old.engine new.engine (λ h k. EndsAccept lang old.engine.graph old.engine.operators task input h k old.engine.ledger new.engine.ledger made) result
+        × (new ≡ record old { engine = new.engine; serials = old.serials + 1 }))
+        ⊎ ((fault : CoreFault) × (result ≡ Err fault) × RefusesAccept task fault × (new ≡ old))
+
+    -- what is taken is as many plain steps as the work has records, of this task and input, and what is refused is none
+    abbrev pub AcceptMoves : Made O K S R → Result Unit CoreFault → Type 0
+    AcceptMoves made (Ok u) =
+        (channel : ℕ) × (input_at old.engine.graph task input ≡ Some channel)
+        × StepsOften (records_of (given_of made)) lang (machine.Work task channel) old.engine new.engine
+    AcceptMoves made (Err fault) = Stays lang old.engine new.engine

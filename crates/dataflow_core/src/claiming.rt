@@ -1,18 +1,19 @@
 //! Claims are made and finished.
 
-ghost use Rattle.std.specs.Prelude.{◌≡◌, ◌≢◌, ◌⊎◌, ◌+◌, ◌↔◌, ◌≤◌, ◌<◌, ◌^◌, ℕ, None, length, IsTrue, IfOk, IfErr};
+ghost use Rattle.std.specs.Prelude.{◌≡◌, ◌≢◌, ◌⊎◌, ◌+◌, ◌↔◌, ◌≤◌, ◌<◌, ◌^◌, ℕ, None, length, IsTrue, IfOk, IfErr, IfSome, OnOk, MatchOption};
+ghost use Rattle.claims.specs.Due.{IsAhead};
 ghost use Rattle.claims.specs.declared.parts.Given.{Given};
 ghost use Rattle.engine_model.specs.declared.fault.CoreFault.TheVariants as CoreFault;
 ghost use Rattle.engine_plain.specs.Plain.{Stays};
 ghost use Rattle.engine.specs.Running.{IsCounted};
-ghost use Rattle.dataflow_core.specs.Claims.{IsHeldAt, IsFreshTicket, IsHeldUp, Refuses, MayClaim, Claims, TakesBarrierUnclaimed, EndsFinish, FinishMoves, spent_as};
+ghost use Rattle.dataflow_core.specs.Claims.{IsHeldAt, IsFreshTicket, IsHeldUp, Refuses, MayClaim, Claims, TakesBarrierUnclaimed, EndsFinish, FinishMoves, MayAccept, RefusesAccept, EndsAccepting, AcceptMoves, spent_as};
 ghost use Rattle.dataflow_core.specs.Steps.{IsStep};
 
 use crate::calls::Core;
 use crate::held::{Claim, claim_of, end_claim, is_busy, keep_claim};
 use crate::jobs::{Done, Job};
 use alignment::Effect;
-use claims::Work;
+use claims::{Work, Worked};
 use commit_sink::Transactions;
 use engine::CoreFault;
 use engine_model::Rules;
@@ -154,6 +155,48 @@ impl<O: Operator, S: SnapshotStore, X: Transactions, P: Partitions<Record = O::R
         let outcome = engine.accept(claim.task, claim.input, worked);
         end_claim(claims, at, &outcome);
         outcome
+    }
+
+    /// The work on the record at a place of a sink's input, counted from 0, which is due once those
+    /// before it are taken. `None` where there is no such record, or memory is refused.
+    pub fn offer_ahead(&self, task: u32, input: u32, index: usize) -> Option<Work<O>>
+        ensures { IfSome result (λ work. MatchOption self.now.engine.held ⊥
+            (λ h. IsAhead self.now.engine.graph task input index h work)) }
+    {
+        self.engine.offer_ahead(task, input, index)
+    }
+
+    /// Whether what was made of a task's work may be taken with no claim.
+    fn may_accept(&self, task: u32) -> Result<(), CoreFault>
+        ensures ok { OnOk result (MayAccept self.now task) }
+        ensures err { IfErr result (RefusesAccept self.now task) }
+    {
+        if !self.engine.is_running() {
+            return Err(CoreFault::NotRunning);
+        }
+        if is_busy(&self.claims, task) {
+            return Err(CoreFault::Busy);
+        }
+        if self.serials >= SERIALS {
+            return Err(CoreFault::NumbersSpent);
+        }
+        Ok(())
+    }
+
+    /// Takes what was made of the work of a task that holds no claim: as a claim of that work and
+    /// its finish in one call. What differs from what the task would do now is wrong (`K7`), and
+    /// changes nothing but the serials.
+    pub fn accept(&mut self, task: u32, input: u32, worked: Worked<O>) -> Result<(), CoreFault>
+        ensures ends { EndsAccepting self.old ⟦<O as Rules>⟧.lang self.new task input worked
+            result }
+        ensures step { IsStep ⟦<O as Rules>⟧.all self.old.engine self.new.engine }
+        ensures plain { AcceptMoves self.old ⟦<O as Rules>⟧.lang self.new task input worked
+            result }
+        ensures counted { IsCounted self.old.engine.faults self.new.engine.faults result }
+    {
+        self.may_accept(task)?;
+        self.serials += 1;
+        self.engine.accept(task, input, worked)
     }
 
     /// Whether a task would take a barrier over its claim.
