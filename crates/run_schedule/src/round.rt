@@ -20,8 +20,9 @@ enum Stage {
     Complete,
 }
 
-/// No more steps of records come between two pieces of a copy.
-const MOST_STEPS: u32 = 16;
+/// No more steps of records come between two pieces of a copy, and so many where there are as many
+/// pieces as records between two checkpoints.
+const MOST_STEPS: u64 = 16;
 
 /// The checkpoint that is made.
 #[derive(Drop)]
@@ -29,12 +30,14 @@ pub(crate) struct Round {
     stage: Stage,
     to_inject: VecDeque<u32>,
     to_persist: VecDeque<u32>,
-    /// So many steps of records come between two pieces of a copy, where they are to be had. A
-    /// checkpoint that was late doubles them, and one that was not halves them: so what writing
-    /// copies takes is a share of what records take, however many keys there are.
-    steps: u32,
+    /// So many steps of records come between two pieces of a copy, where they are to be had: more
+    /// where the last checkpoint had many pieces for the records between two of them. So what
+    /// writing copies takes is a share of what records take, however many keys there are.
+    steps: u64,
     /// How many of them come before work on the first copy goes on.
-    steps_left: u32,
+    steps_left: u64,
+    /// How many pieces of copies were written behind which more is left.
+    pieces: u64,
     /// How many parts are in the store.
     persisted: u32,
     /// The next sink to commit.
@@ -57,6 +60,7 @@ impl Round {
             to_persist,
             steps: 1,
             steps_left: 0,
+            pieces: 0,
             persisted: 0,
             sink: 0,
             tasks,
@@ -78,6 +82,7 @@ impl Round {
         self.to_inject.clear();
         self.to_persist.clear();
         self.steps_left = 0;
+        self.pieces = 0;
         self.persisted = 0;
         for &task in sources {
             let _ = self.to_inject.push_back(task);
@@ -126,6 +131,7 @@ impl Round {
 
     /// Work on the first copy has gone on, and more is left of it.
     pub(crate) fn has_more(&mut self) {
+        self.pieces = self.pieces.saturating_add(1);
         self.steps_left = self.steps;
     }
 
@@ -145,13 +151,10 @@ impl Round {
         }
     }
 
-    /// The checkpoint is complete. It is late where half of the way to the next one is gone.
-    pub(crate) fn completed(&mut self, is_late: bool) {
-        self.steps = if is_late {
-            self.steps.saturating_mul(2).min(MOST_STEPS)
-        } else {
-            (self.steps / 2).max(1)
-        };
+    /// The checkpoint is complete, and the next one comes after so many records.
+    pub(crate) fn completed(&mut self, every: u64) {
+        let steps = self.pieces.saturating_mul(MOST_STEPS).checked_div(every);
+        self.steps = steps.unwrap_or(1).clamp(1, MOST_STEPS);
         self.stage = Stage::Complete;
         self.sink = 0;
         self.end_if_committed();

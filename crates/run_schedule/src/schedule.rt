@@ -50,7 +50,7 @@ pub(crate) struct Node {
     pub(crate) is_busy: bool,
     /// Whether a source sends to it.
     pub(crate) is_fed: bool,
-    /// Whether it takes one record at a time, whatever the batch is.
+    /// Whether it takes no more than so many records at a time, whatever the batch is.
     pub(crate) is_sink: bool,
 }
 
@@ -65,6 +65,9 @@ impl Node {
 /// Where claims are of one record, so many are read ahead of the claims that are held, until a task
 /// that sources send to has been found without a record.
 const MOST_AHEAD: u32 = 64;
+
+/// A sink takes so many records at a time, at most.
+const MOST_OF_A_SINK: u32 = 64;
 
 /// What may have something, so that the next step is found in the same time whatever the number of
 /// tasks and channels. The task that stands furthest downstream comes first, so channels stay
@@ -151,6 +154,16 @@ impl Schedule {
         self.batch
     }
 
+    /// How many records a task takes at a time, at most.
+    pub(crate) fn most(&self, task: u32) -> u32
+        ensures { 1 ≤ result }
+    {
+        match self.nodes.get(task as usize) {
+            Some(node) if node.is_sink => self.batch.min(MOST_OF_A_SINK),
+            _ => self.batch,
+        }
+    }
+
     /// The job is down.
     pub(crate) fn went_down(&mut self) {
         self.is_down = true;
@@ -221,7 +234,7 @@ impl Schedule {
 
     /// Whether enough was read ahead of the claims that are held. Where these are of several
     /// records, an input may be full long after a task that sources send to was without a record: a
-    /// sink takes one at a time.
+    /// sink takes fewer at a time.
     fn is_far_ahead(&self) -> bool {
         if self.batch > 1 {
             return self.full.greatest().is_some();
@@ -461,8 +474,7 @@ impl Schedule {
     }
 
     pub(crate) fn completed(&mut self) {
-        let is_late = self.every > 0 && self.finished >= self.every / 2;
-        self.round.completed(is_late);
+        self.round.completed(self.every);
     }
 
     pub(crate) fn committed(&mut self) {
@@ -494,11 +506,7 @@ impl Schedule {
 
     /// Whether a claim of so many records has all that its input had, and no barrier may follow.
     fn takes_all(&self, task: u32, records: u64) -> bool {
-        let is_sink = self
-            .nodes
-            .get(task as usize)
-            .is_some_and(|node| node.is_sink);
-        records < self.batch as u64 && !is_sink && !self.is_pending()
+        records < self.most(task) as u64 && !self.is_pending()
     }
 
     /// A task's claim has ended.

@@ -71,6 +71,13 @@ impl Turns {
         self.schedule.batch()
     }
 
+    /// How many records a task takes at a time, at most.
+    pub fn most(&self, task: u32) -> u32
+        ensures { 1 ≤ result }
+    {
+        self.schedule.most(task)
+    }
+
     /// How many turns are left.
     pub fn left(&self) -> u64 {
         self.left
@@ -100,6 +107,11 @@ impl Turns {
         }
         self.awake -= 1;
         true
+    }
+
+    /// Whether the run is over.
+    pub fn is_over(&self) -> bool {
+        self.end.is_some()
     }
 
     /// A worker has rested.

@@ -1,9 +1,10 @@
 //! The core's calls, under their own names: each does what it does there, and adds nothing to the
 //! total.
 
-ghost use Rattle.std.specs.Prelude.{◌≡◌, ◌⊎◌, ◌≤◌, ◌<◌, IsTrue, IfOk, IfErr, OnOk, MatchOption, length, count_by, slice_get};
+ghost use Rattle.std.specs.Prelude.{◌≡◌, ◌⊎◌, ◌≤◌, ◌<◌, IsTrue, IfOk, IfErr, IfSome, OnOk, MatchOption, length, count_by, slice_get};
 ghost use Rattle.std.specs.Option.{option_map};
 ghost use Rattle.abs_codec.specs.Spelling.{Fits};
+ghost use Rattle.claims.specs.Due.{IsAhead};
 ghost use Rattle.commit_sink.specs.Ledger.{committed_rows};
 ghost use Rattle.engine_model.specs.ExactlyOnce.{IsExactlyOnce};
 ghost use Rattle.engine_model.specs.LastCommitted.{committed_of, complete_numbers};
@@ -20,6 +21,7 @@ ghost use Rattle.thread_runner.specs.Standing.{LeavesClaims, MakesStep, StaysPut
 
 use crate::station::Station;
 use alignment::Effect;
+use claims::Work;
 use commit_sink::Transactions;
 use dataflow_core::{CoreFault, Job, Persisted, Rules};
 use operators::Operator;
@@ -110,6 +112,15 @@ impl<
         ensures total { (self.new.total ≡ self.old.total) × (self.new.output ≡ self.old.output) }
     {
         self.core.claim_some(task, input, most)
+    }
+
+    /// The work on the record at a place of a sink's input, counted from 0, which is due once those
+    /// before it are taken. What was made of it is handed in by `accept_with`.
+    pub fn offer_ahead(&self, task: u32, input: u32, index: usize) -> Option<Work<O>>
+        ensures { IfSome result (λ work. MatchOption self.now.core.engine.held ⊥
+            (λ h. IsAhead self.now.core.engine.graph task input index h work)) }
+    {
+        self.core.offer_ahead(task, input, index)
     }
 
     /// A task that holds no claim takes the barrier at the head of its input.

@@ -2,11 +2,11 @@
 
 ghost use Rattle.std.specs.Prelude.{◌≡◌, ◌+◌, ◌≤◌, ◌<◌, ◌^◌, IfOk, vec_len};
 
+use crate::batch::{Batch, DoneBatch};
 use crate::patience::Patience;
 use crate::pause::Pause;
 use crate::station::{Next, Station};
 use commit_sink::Transactions;
-use dataflow_core::{Done, Job};
 use operators::Operator;
 use run_schedule::RunFault;
 use snapshot_store::SnapshotStore;
@@ -55,10 +55,17 @@ impl<L: Ledger> Worker<L> {
         W: Wait + Drop,
         H: Pause,
         R: Wait + Clock,
-    >(&mut self, rt: &R, station: &Mutex<Station<O, S, X, P, L, W>>, turns: u64, pause: &H) {
+    >(
+        &mut self,
+        rt: &R,
+        alloc: Global,
+        station: &Mutex<Station<O, S, X, P, L, W>>,
+        turns: u64,
+        pause: &H,
+    ) {
         let mut worked = None;
         for _ in 0..turns {
-            match self.take_turns(rt, station, worked.take()) {
+            match self.take_turns(rt, alloc, station, worked.take()) {
                 Next::Over => return,
                 Next::Idle => self.idled(rt, station),
                 Next::Again => self.made(rt, station),
@@ -66,8 +73,8 @@ impl<L: Ledger> Worker<L> {
                     let _ = station.lock(rt).publish();
                     self.made(rt, station);
                 }
-                Next::Run(task, job) => {
-                    worked = self.run_job(rt, station, turns, pause, task, job);
+                Next::Run(batch) => {
+                    worked = self.run_job(rt, alloc, station, turns, pause, batch);
                     if self.patience.is_tired() {
                         self.hand_in(&mut station.lock(rt), worked.take());
                         self.rests(rt, station, true);
@@ -90,13 +97,14 @@ impl<L: Ledger> Worker<L> {
     >(
         &mut self,
         rt: &R,
+        alloc: Global,
         station: &Mutex<Station<O, S, X, P, L, W>>,
-        worked: Option<(u32, Done<O>)>,
+        worked: Option<DoneBatch<O>>,
     ) -> Next<O> {
         let mut held = station.lock(rt);
         self.patience.has_lock(rt);
         self.hand_in(&mut held, worked);
-        let (next, before, left) = held.choose_some();
+        let (next, before, left) = held.choose_some(alloc);
         drop(held);
         self.patience.gave_lock(rt);
         self.patience.took_turns(before, left);
@@ -144,7 +152,12 @@ impl<L: Ledger> Worker<L> {
         if !is_tired || !station.lock(rt).rests() {
             return false;
         }
-        self.patience.rest(rt);
+        for _ in 0..self.patience.rests() {
+            self.patience.rest(rt);
+            if station.lock(rt).is_over() {
+                break;
+            }
+        }
         station.lock(rt).wakes();
         true
     }
@@ -162,13 +175,13 @@ impl<L: Ledger> Worker<L> {
     >(
         &mut self,
         rt: &R,
+        alloc: Global,
         station: &Mutex<Station<O, S, X, P, L, W>>,
         turns: u64,
         pause: &H,
-        task: u32,
-        job: Job<O>,
-    ) -> Option<(u32, Done<O>)> {
-        let (attempt, serial) = (job.attempt(), job.serial());
+        batch: Batch<O>,
+    ) -> Option<DoneBatch<O>> {
+        let (attempt, serial) = (batch.job.attempt(), batch.job.serial());
         for _ in 0..turns {
             if pause.before_run(attempt, serial) {
                 break;
@@ -177,10 +190,10 @@ impl<L: Ledger> Worker<L> {
                 return None;
             }
         }
-        let done = job.run();
+        let done = batch.run(alloc);
         pause.after_run(attempt, serial);
         self.patience.ran_job(rt);
-        Some((task, done))
+        Some(done)
     }
 
     /// Hands in what was done of a task's job, if there is something.
@@ -190,21 +203,16 @@ impl<L: Ledger> Worker<L> {
         X: Transactions + Drop,
         P: Partitions<Record = O::Record> + Drop,
         W: Wait + Drop,
-    >(&mut self, station: &mut Station<O, S, X, P, L, W>, worked: Option<(u32, Done<O>)>) {
-        let Some((task, done)) = worked else {
+    >(&mut self, station: &mut Station<O, S, X, P, L, W>, worked: Option<DoneBatch<O>>) {
+        let Some(batch) = worked else {
             return;
         };
-        let records = done.records();
         let Worker {
             share,
             finished,
             ..
         } = self;
-        let outcome = station.finish_with(share, done);
-        if outcome.is_ok() {
-            *finished += records as u128;
-        }
-        station.finished(task, outcome, records);
+        *finished += station.take_batch(share, batch);
     }
 }
 
@@ -293,7 +301,7 @@ where
         rt,
         crew.as_mut_slice(),
         workers,
-        &|_: usize, worker: &mut Worker<L>| worker.work(rt, station, turns, pause),
+        &|_: usize, worker: &mut Worker<L>| worker.work(rt, alloc, station, turns, pause),
     );
     let finished = gather(rt, station, all, crew);
     station.lock(rt).end()?;

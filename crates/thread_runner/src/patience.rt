@@ -9,9 +9,12 @@ const YIELDS: u32 = 16;
 /// No wait is longer than 1 microsecond, doubled so often: about a millisecond.
 const LONGEST: u32 = 10;
 
-/// The first rest is as long, and no rest is longer than that, doubled so often: about 32
-/// milliseconds.
-const RESTS: u32 = 5;
+/// The first rest is as long, and no rest is longer than that, doubled so often: about a quarter of
+/// a second.
+const RESTS: u32 = 8;
+
+/// A worker that rests looks whether the run is over about every four milliseconds.
+const LOOKS: u32 = 2;
 
 /// So long a worker is watched before it is judged, in microseconds.
 const WATCHED: u64 = 2000;
@@ -139,11 +142,18 @@ impl Patience {
         true
     }
 
-    /// Rests, longer each time up to a bound. What it rests is not counted.
-    pub(crate) fn rest<R: Clock>(&mut self, rt: &R) {
-        let doubled = LONGEST + self.rests.min(RESTS);
-        thread::sleep(rt, Duration::from_micros(1 << doubled));
+    /// The worker rests, longer each time up to a bound: in how many parts. What it rests is not
+    /// counted.
+    pub(crate) fn rests(&mut self) -> u32 {
+        let doubled = self.rests.min(RESTS);
         self.until = None;
         self.rests = self.rests.saturating_add(1);
+        1 << doubled.saturating_sub(LOOKS)
+    }
+
+    /// One part of a rest.
+    pub(crate) fn rest<R: Clock>(&self, rt: &R) {
+        let doubled = LONGEST + self.rests.saturating_sub(1).min(LOOKS);
+        thread::sleep(rt, Duration::from_micros(1 << doubled));
     }
 }

@@ -4,15 +4,17 @@
 ghost use Rattle.std.specs.Prelude.{◌≡◌, ◌+◌, ◌<◌, ◌≤◌, ◌^◌, [], ⊤, None, IfOk, IfErr, MatchOption, MatchResult, length, replicate};
 ghost use Rattle.std.specs.Option.{option_map};
 ghost use Rattle.claims.specs.Carried.{given_of, records_of};
-ghost use Rattle.dataflow_core.specs.Claims.{EndsFinish, FinishMoves};
+ghost use Rattle.dataflow_core.specs.Claims.{EndsFinish, FinishMoves, EndsAccepting, AcceptMoves};
 ghost use Rattle.dataflow_core.specs.Steps.{IsStep, Preserves};
 ghost use Rattle.output_readers.specs.Seeing.{IsOpening};
 ghost use Rattle.row_publishing.specs.Showing.{Begin, AreCommitted, Shows};
 ghost use Rattle.thread_runner.specs.Standing.{ClaimsOnce};
 
+use crate::batch::{Batch, DoneBatch};
+use claims::{Work, Worked};
 use commit_sink::Transactions;
-use counted_finishes::finish_counted;
-use dataflow_core::{Core, CoreFault, Done, Job, Rules};
+use counted_finishes::{accept_counted, finish_counted};
+use dataflow_core::{Core, CoreFault, Done, Rules};
 use operators::Operator;
 use output_readers::{OutputFault, OutputReader, OutputWriter, Told};
 use row_publishing::show_committed;
@@ -45,7 +47,7 @@ pub(crate) enum Next<O: Operator> {
     /// The rows of a round of commits are shown to readers.
     Publish,
     /// This task's job, with no lock held.
-    Run(u32, Job<O>),
+    Run(Batch<O>),
 }
 
 /// The core with all that belongs to it.
@@ -248,6 +250,81 @@ impl<
         finish_counted(core, book, share, done)
     }
 
+    /// Takes what was made of a task's work with no claim, as the core's own `accept` does, and adds
+    /// the number of its records to the share and the book where it is taken.
+    pub fn accept_with(
+        &mut self,
+        share: &mut Share<L>,
+        task: u32,
+        input: u32,
+        worked: Worked<O>,
+    ) -> Result<(), CoreFault>
+        requires { 0 < share.old.parts }
+        ensures ends { EndsAccepting self.old.core ⟦<O as Rules>⟧.lang self.new.core task input
+            worked result }
+        ensures step { IsStep ⟦<O as Rules>⟧.all self.old.core.engine self.new.core.engine }
+        ensures plain { AcceptMoves self.old.core ⟦<O as Rules>⟧.lang self.new.core task input
+            worked result }
+        ensures total { MatchResult result (λ _. self.new.total ≡ self.old.total
+            + records_of (given_of worked)) (λ _. self.new.total ≡ self.old.total) }
+        ensures output { self.new.output ≡ self.old.output }
+        ensures amount { MatchResult result (λ _. share.new.amount ≡ share.old.amount
+            + records_of (given_of worked)) (λ _. share.new.amount ≡ share.old.amount) }
+        ensures bound { share.new.amount < 2 ^ 128 }
+        ensures parts { share.new.parts ≡ share.old.parts }
+    {
+        let Station { core, book, .. } = self;
+        accept_counted(core, book, share, task, input, worked)
+    }
+
+    /// Takes what was made of the work on the records behind a sink's job, from the first to the
+    /// last: how many records were taken, and why no more.
+    pub(crate) fn accept_all(
+        &mut self,
+        share: &mut Share<L>,
+        place: Place,
+        ahead: Vec<Worked<O>>,
+    ) -> (u128, Result<(), CoreFault>)
+        requires { 0 < share.old.parts }
+        ensures amount { share.new.amount ≡ share.old.amount + result.0 }
+        ensures bound { share.old.amount < 2 ^ 128 → share.new.amount < 2 ^ 128 }
+        ensures parts { share.new.parts ≡ share.old.parts }
+    {
+        let mut count: u128 = 0;
+        for worked in ahead {
+            let records = worked.records();
+            if let Err(fault) = self.accept_with(share, place.task, place.input, worked) {
+                return (count, Err(fault));
+            }
+            count += records as u128;
+        }
+        (count, Ok(()))
+    }
+
+    /// Takes what was done of a task's job and of the work behind it, and tells the turns: how many
+    /// records were taken.
+    pub(crate) fn take_batch(&mut self, share: &mut Share<L>, batch: DoneBatch<O>) -> u128
+        requires { 0 < share.old.parts }
+        ensures amount { share.new.amount ≡ share.old.amount + result }
+        ensures bound { share.new.amount < 2 ^ 128 }
+        ensures parts { share.new.parts ≡ share.old.parts }
+    {
+        let DoneBatch { place, done, ahead } = batch;
+        let records = done.records();
+        if let Err(fault) = self.finish_with(share, done) {
+            self.finished(place.task, Err(fault), records);
+            return 0;
+        }
+        let (count, end) = self.accept_all(share, place, ahead);
+        let taken = records as u128 + count;
+        let all = u64::try_from(taken).unwrap_or(u64::MAX);
+        self.finished(place.task, Ok(()), all);
+        if end.is_err() {
+            self.finished(place.task, end, 0);
+        }
+        taken
+    }
+
     /// With all shares gathered, the total is their sum.
     pub fn audit(&mut self, share: &mut Share<L>)
         ensures whole { share.old.parts ≡ L.parts → share.old.amount ≡ self.old.total }
@@ -285,6 +362,11 @@ impl<
         self.turns.rests()
     }
 
+    /// Whether the run is over.
+    pub(crate) fn is_over(&self) -> bool {
+        self.turns.is_over()
+    }
+
     /// A worker has rested.
     pub(crate) fn wakes(&mut self)
         ensures { self.new ≡ self.old }
@@ -302,29 +384,29 @@ impl<
 
     /// One turn: what a worker does next, and how many turns are left. Every step but a task's work
     /// is made here.
-    pub(crate) fn choose(&mut self) -> (Next<O>, u64)
+    pub(crate) fn choose(&mut self, alloc: Global) -> (Next<O>, u64)
         ensures total { self.new.total ≡ self.old.total }
         ensures step { Preserves ⟦<O as Rules>⟧.all self.old.core.engine self.new.core.engine }
     {
         let Station { core, turns, .. } = self;
-        let next = take_turn(core, turns);
+        let next = take_turn(alloc, core, turns);
         (next, turns.left())
     }
 
     /// Turns of one hold of the lock, until one leaves the worker something to do: what that is,
     /// and how many turns were left before them and are after them.
-    pub(crate) fn choose_some(&mut self) -> (Next<O>, u64, u64)
+    pub(crate) fn choose_some(&mut self, alloc: Global) -> (Next<O>, u64, u64)
         ensures total { self.new.total ≡ self.old.total }
         ensures step { Preserves ⟦<O as Rules>⟧.all self.old.core.engine self.new.core.engine }
     {
         let before = self.turns.left();
         for _ in 1..TURNS_A_HOLD {
-            match self.choose() {
+            match self.choose(alloc) {
                 (Next::Again, _) => {}
                 (next, left) => return (next, before, left),
             }
         }
-        let (next, left) = self.choose();
+        let (next, left) = self.choose(alloc);
         (next, before, left)
     }
 
@@ -376,6 +458,7 @@ fn refused(fault: OutputFault) -> RunFault
 
 /// What a worker does next, where the step is not made at once.
 fn take_turn<O: Operator, S: SnapshotStore, X: Transactions, P: Partitions<Record = O::Record>>(
+    alloc: Global,
     core: &mut Core<O, S, X, P>,
     turns: &mut Turns,
 ) -> Next<O>
@@ -386,7 +469,7 @@ fn take_turn<O: Operator, S: SnapshotStore, X: Transactions, P: Partitions<Recor
         Step::Over => Next::Over,
         Step::Idle => Next::Idle,
         Step::Look => Next::Again,
-        Step::Work(place) => claim(core, turns, place),
+        Step::Work(place) => claim(alloc, core, turns, place),
         Step::Read(task) => read(core, turns, task),
         Step::Persist(task) => persist(core, turns, task),
         step => {
@@ -411,8 +494,9 @@ fn ends_commits<O: Operator, S: SnapshotStore, X: Transactions, P: Partitions<Re
 }
 
 /// A task claims records at the head of its input, a batch at most, or takes the barrier that may
-/// be there.
+/// be there. A sink claims one, and gets the work on those behind it too.
 fn claim<O: Operator, S: SnapshotStore, X: Transactions, P: Partitions<Record = O::Record>>(
+    alloc: Global,
     core: &mut Core<O, S, X, P>,
     turns: &mut Turns,
     place: Place,
@@ -422,8 +506,9 @@ fn claim<O: Operator, S: SnapshotStore, X: Transactions, P: Partitions<Record = 
 {
     match core.claim_some(place.task, place.input, turns.batch()) {
         Ok(job) => {
-            turns.claimed(place.task, job.records());
-            Next::Run(place.task, job)
+            let ahead = work_ahead(alloc, core, place, turns.most(place.task));
+            turns.claimed(place.task, job.records().saturating_add(ahead.len() as u64));
+            Next::Run(Batch { place, job, ahead })
         }
         Err(CoreFault::NotReady) if turns.awaits_barriers() => {
             let outcome = core.take_barrier(place.task, place.input);
@@ -435,6 +520,26 @@ fn claim<O: Operator, S: SnapshotStore, X: Transactions, P: Partitions<Record = 
             Next::Again
         }
     }
+}
+
+/// The work on the records behind the first of a sink's input, so that it is on so many with the
+/// first. Of an operator's there is none.
+fn work_ahead<O: Operator, S: SnapshotStore, X: Transactions, P: Partitions<Record = O::Record>>(
+    alloc: Global,
+    core: &Core<O, S, X, P>,
+    place: Place,
+    most: u32,
+) -> Vec<Work<O>> {
+    let mut ahead = Vec::new(alloc);
+    for index in 1..most as usize {
+        let Some(work) = core.offer_ahead(place.task, place.input, index) else {
+            break;
+        };
+        if ahead.push(work).is_err() {
+            break;
+        }
+    }
+    ahead
 }
 
 /// A source sends its next records: no more than a batch has, and one while a checkpoint is
