@@ -1,9 +1,9 @@
 #!/usr/bin/env bash
 # tests/wrong.sh [CRATE..]: lets the prover refuse the wrong bodies of crates/CRATE/wrong/, of all crates where none is named.
 #
-# In a clone of what is committed they take the place of the crate's must-fail/, which the gate tries, and `rt must-fail` tries
-# them there, as many crates side by side as there are processors. Libraries that `rt check` or `rt lib` have proved here are
-# taken over; the others are proved first. The last line is `N passed, M failed`.
+# In a clone of what is committed they take the place of the crate's must-fail/, and `rt ci CRATE..` tries them there, side by side, over the proofs that
+# earlier runs on this machine kept: the others are made first, so `make test` should come before. Then `rt must-fail` says what each came to.
+# The last line is `N passed, M failed`.
 set -euo pipefail
 cd "$(dirname "$0")/.."
 crates=("$@")
@@ -12,13 +12,6 @@ crates=("$@")
 room=$(mktemp -d "${TMPDIR:-/tmp}/wrong-XXXXXX")
 trap 'rm -rf "$room"' EXIT
 git clone --quiet . "$room/clone"
-for library in crates/*/out/rlib crates/*/out/incremental; do
-  crate=${library#crates/} && crate=${crate%%/*}
-  if [ -d "$library" ] && [ -d "$room/clone/crates/$crate" ]; then
-    mkdir -p "$room/clone/crates/$crate/out"
-    cp -r "$library" "$room/clone/crates/$crate/out/"
-  fi
-done
 cd "$room/clone"
 
 for crate in "${crates[@]}"; do
@@ -26,19 +19,20 @@ for crate in "${crates[@]}"; do
   rm -rf "crates/$crate/must-fail"
   mv "crates/$crate/wrong" "crates/$crate/must-fail"
   echo "wrong bodies of $crate: $(ls "crates/$crate/must-fail" | wc -l)"
-  # (proves the libraries below, and nothing of the crate)
-  (cd "crates/$crate" && rt check --only "" > "$room/$crate.below" 2>&1) || { tail -n 20 "$room/$crate.below"; exit 1; }
 done
 
-printf '%s\n' "${crates[@]}" | xargs -P "$(nproc)" -I{} sh -c 'rt must-fail {} > "$0/{}.tried" 2>&1 || true' "$room"
+rt ci "${crates[@]}" > "$room/proved" 2>&1 || true
+grep 'NOT PROVED' "$room/proved" || true
+rt must-fail "${crates[@]}" > "$room/tried" 2>&1 || true
 
 passed=0 failed=0
 for crate in "${crates[@]}"; do
+  grep "must-fail $crate/" "$room/tried" > "$room/$crate.tried" || true
   refused=$(grep -c ': refused, as it must be' "$room/$crate.tried" || true)
   edits=$(ls "crates/$crate/must-fail" | wc -l)
   passed=$((passed + refused)) failed=$((failed + edits - refused))
   grep 'only because a proof file names' "$room/$crate.tried" || true
-  [ "$refused" -eq "$edits" ] || grep -v ': refused, as it must be' "$room/$crate.tried" || true
+  [ "$refused" -eq "$edits" ] || grep -v ": refused, as it must be" "$room/$crate.tried" || tail -n 5 "$room/tried"
 done
 echo "$passed passed, $failed failed"
 [ "$failed" -eq 0 ]
