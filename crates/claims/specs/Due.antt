@@ -39,18 +39,29 @@ pub record IsRowDue {R K S : Type 0} (graph : Expanded) (task input : ℕ) (h : 
   pub leads : input_at graph task input ≡ Some channel
   pub first : IsRecordDue task input h channel row
 
--- the task is a sink, the input is this channel, and the record stands at this place of it, with no barrier before it
-pub record StandsAhead {R K S : Type 0} (graph : Expanded) (task input index : ℕ) (h : Held R K S) (row : R) : Type 0 where
-  pub subtask : ℕ
-  pub channel : ℕ
-  pub is_sink : slice_get graph.tasks task ≡ Some (role.Sink subtask)
-  pub leads : input_at graph task input ≡ Some channel
-  pub stands : slice_get (leading_records (items_at h.channels channel)) index ≡ Some row
+-- the task is a sink, and its input is this channel
+abbrev pub SinksFrom : Expanded → (task input channel : ℕ) → Type 0
+SinksFrom graph task input channel = (subtask : ℕ) × (slice_get graph.tasks task ≡ Some (role.Sink subtask)) × (input_at graph task input ≡ Some channel)
 
--- the work is a sink's, on the record at this place of its input
-abbrev pub IsAhead : {R K S O : Type 0} → Expanded → (task input index : ℕ) → Held R K S → Given O K S R → Type 0
-IsAhead graph task input index h (given.Operator operand) = ⊥
-IsAhead graph task input index h (given.Sink row) = StandsAhead graph task input index h row
+module _ {R K S : Type 0} (graph : Expanded) (task input index : ℕ) (h : Held R K S) where
+  -- the task is a sink, and this record stands at this place of its input, with no barrier before it
+  pub record StandsAhead (row : R) : Type 0 where
+    pub channel : ℕ
+    pub sinks : SinksFrom graph task input channel
+    pub stands : slice_get (leading_records (items_at h.channels channel)) index ≡ Some row
+
+  -- the work is a sink's, on the record at this place of its input
+  abbrev pub IsAhead : {O : Type 0} → Given O K S R → Type 0
+  IsAhead (given.Operator operand) = ⊥
+  IsAhead (given.Sink row) = StandsAhead row
+
+  -- that work is offered, or why it is not is told
+  abbrev pub EndsOfferAhead : {O : Type 0} → Result (Given O K S R) CoreFault → Type 0
+  EndsOfferAhead (Ok work) = IsAhead work
+  EndsOfferAhead (Err NoSuchTask) = (channel : ℕ) → ¬ SinksFrom graph task input channel
+  EndsOfferAhead (Err NotReady) = (channel : ℕ) × SinksFrom graph task input channel × (slice_get (leading_records (items_at h.channels channel)) index ≡ None)
+  EndsOfferAhead (Err Memory) = (row : R) × StandsAhead row
+  EndsOfferAhead (Err other) = ⊥
 
 -- whether there is such a task and input is answered
 abbrev pub EndsAsking : Expanded → (task input : ℕ) → Result Unit CoreFault → Type 0

@@ -1,6 +1,6 @@
 //! Work is offered.
 
-ghost use Rattle.std.specs.Prelude.{◌≡◌, ◌<◌, ◌≤◌, ◌++◌, ◌∷◌, [], ℕ, List, Some, true, length, take, slice_get, is_some, OnOk, IfOk, IfSome};
+ghost use Rattle.std.specs.Prelude.{◌≡◌, ◌<◌, ◌≤◌, ◌++◌, ◌∷◌, [], ℕ, List, Some, true, length, take, slice_get, is_some, OnOk, IfOk};
 ghost use Rattle.std.specs.List.Sorted.{IsStrictlySortedBy};
 ghost use Rattle.std.specs.Map.{keys_of};
 ghost use Rattle.abs_codec.specs.Entries.{value_at};
@@ -11,7 +11,7 @@ ghost use Rattle.job_state.specs.Sending.{items_at};
 ghost use Rattle.job_state.specs.declared.holding.Holding.TheVariants as Holding;
 ghost use Rattle.engine_model.specs.Keeps.{Shape};
 ghost use Rattle.claims.specs.Carried.{AreStatesOf, IsCarried};
-ghost use Rattle.claims.specs.Due.{EndsOffer, IsAhead};
+ghost use Rattle.claims.specs.Due.{EndsOffer, EndsOfferAhead};
 
 use crate::carried::Work;
 use crate::due::operator_of;
@@ -174,25 +174,28 @@ pub fn offer<O: Operator>(
     }
 }
 
-/// The work on the record at a place of a sink's input, counted from 0, with no barrier before it:
-/// it is due once those before it are taken. `None` where there is no such record, or memory is
-/// refused.
+/// Offers the work on the record at a place of a sink's input, counted from 0, with no barrier
+/// before it: it is due once those before it are taken. `K2` comes before `K4`, and `K11` last.
 pub fn offer_ahead<O: Operator>(
     attempt: &Attempt<O>,
     graph: &Graph,
     task: u32,
     input: u32,
     index: usize,
-) -> Option<Work<O>>
-    ensures { IfSome result (IsAhead graph.now task input index attempt.now) }
+) -> Result<Work<O>, CoreFault>
+    ensures { EndsOfferAhead graph.now task input index attempt.now result }
 {
     let Some(Role::Sink(_)) = graph.role(task) else {
-        return None;
+        return Err(CoreFault::NoSuchTask);
     };
-    let channel = input_of(graph, task, input)?;
-    let row = attempt.record(channel, index)?;
-    let row = row.copied().ok()?;
-    Some(Work {
+    let Some(channel) = input_of(graph, task, input) else {
+        return Err(CoreFault::NoSuchTask);
+    };
+    let Some(ahead) = attempt.record(channel, index) else {
+        return Err(CoreFault::NotReady);
+    };
+    let row = ahead.copied()?;
+    Ok(Work {
         given: Given::Sink(row),
     })
 }

@@ -1,10 +1,10 @@
 //! Claims are made and finished.
 
-ghost use Rattle.std.specs.Prelude.{◌≡◌, ◌≢◌, ◌⊎◌, ◌+◌, ◌↔◌, ◌≤◌, ◌<◌, ◌^◌, ℕ, None, length, IsTrue, IfOk, IfErr, IfSome, OnOk, MatchOption};
-ghost use Rattle.claims.specs.Due.{IsAhead};
+ghost use Rattle.std.specs.Prelude.{◌≡◌, ◌≢◌, ◌⊎◌, ◌+◌, ◌↔◌, ◌≤◌, ◌<◌, ◌^◌, ℕ, None, length, IsTrue, IfOk, IfErr, OnOk};
 ghost use Rattle.claims.specs.declared.parts.Given.{Given};
 ghost use Rattle.engine_model.specs.declared.fault.CoreFault.TheVariants as CoreFault;
 ghost use Rattle.engine_plain.specs.Plain.{Stays};
+ghost use Rattle.engine.specs.Claimed.{OffersAhead};
 ghost use Rattle.engine.specs.Running.{IsCounted};
 ghost use Rattle.dataflow_core.specs.Claims.{IsHeldAt, IsFreshTicket, IsHeldUp, Refuses, MayClaim, Claims, TakesBarrierUnclaimed, EndsFinish, FinishMoves, MayAccept, RefusesAccept, EndsAccepting, AcceptMoves, spent_as};
 ghost use Rattle.dataflow_core.specs.Steps.{IsStep};
@@ -157,11 +157,10 @@ impl<O: Operator, S: SnapshotStore, X: Transactions, P: Partitions<Record = O::R
         outcome
     }
 
-    /// The work on the record at a place of a sink's input, counted from 0, which is due once those
-    /// before it are taken. `None` where there is no such record, or memory is refused.
-    pub fn offer_ahead(&self, task: u32, input: u32, index: usize) -> Option<Work<O>>
-        ensures { IfSome result (λ work. MatchOption self.now.engine.held ⊥
-            (λ h. IsAhead self.now.engine.graph task input index h work)) }
+    /// Offers the work on the record at a place of a sink's input, counted from 0, which is due
+    /// once those before it are taken. It makes no claim, and changes nothing.
+    pub fn offer_ahead(&self, task: u32, input: u32, index: usize) -> Result<Work<O>, CoreFault>
+        ensures { OffersAhead self.now.engine task input index result }
     {
         self.engine.offer_ahead(task, input, index)
     }

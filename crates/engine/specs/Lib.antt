@@ -1,3 +1,4 @@
+pub mod Claimed
 pub mod Readers
 pub mod Rows
 pub mod Running

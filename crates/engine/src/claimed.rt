@@ -1,6 +1,6 @@
 //! A task's work in two halves: what is to be done is offered, and what was made of it is taken.
 
-ghost use Rattle.std.specs.Prelude.{◌≡◌, ◌≢◌, ◌<◌, ◌↔◌, ℕ, Err, None, Some, slice_get, IfSome, IsTrue, MatchOption};
+ghost use Rattle.std.specs.Prelude.{◌≡◌, ◌≢◌, ◌<◌, ◌↔◌, ℕ, Err, None, Some, slice_get, IsTrue, MatchOption};
 ghost use Rattle.commit_sink.specs.Ledger.{committed_rows};
 ghost use Rattle.dataflow_model.specs.Graph.{Begins};
 ghost use Rattle.dataflow_model.specs.Machine as machine;
@@ -11,7 +11,8 @@ ghost use Rattle.engine_model.specs.Goes.{Goes};
 ghost use Rattle.engine_model.specs.Sound.{IsSound};
 ghost use Rattle.engine_plain.specs.Plain.{StepsOftenIfOk, Stays};
 ghost use Rattle.claims.specs.Carried.{given_of, records_of};
-ghost use Rattle.claims.specs.Due.{EndsAsking, EndsOffer, EndsAccept, IsAhead};
+ghost use Rattle.claims.specs.Due.{EndsAsking, EndsOffer, EndsAccept};
+ghost use Rattle.engine.specs.Claimed.{OffersAhead};
 ghost use Rattle.engine.specs.Running.{IsCounted, IsSameJob, OnTransactions};
 
 use crate::calls::{Engine, leave};
@@ -78,14 +79,14 @@ impl<O: Operator, S: SnapshotStore, X: Transactions, P: Partitions<Record = O::R
         )
     }
 
-    /// Offers the work on the record at a place of a sink's input, counted from 0, which is due once
-    /// those before it are taken. It changes nothing. `None` where there is no such record, or
-    /// memory is refused.
-    pub fn offer_ahead(&self, task: u32, input: u32, index: usize) -> Option<Work<O>>
-        ensures { IfSome result (λ work. MatchOption self.now.held ⊥
-            (λ h. IsAhead self.now.graph task input index h work)) }
+    /// Offers the work on the record at a place of a sink's input, counted from 0, which is due
+    /// once those before it are taken, and changes nothing.
+    pub fn offer_ahead(&self, task: u32, input: u32, index: usize) -> Result<Work<O>, CoreFault>
+        ensures { OffersAhead self.now task input index result }
     {
-        let attempt = self.attempt.as_ref()?;
+        let Some(attempt) = &self.attempt else {
+            return Err(CoreFault::NotRunning);
+        };
         offer_ahead(attempt, &self.graph, task, input, index)
     }
 

@@ -1,11 +1,11 @@
 //! The core's calls, under their own names: each does what it does there, and adds nothing to the
 //! total.
 
-ghost use Rattle.std.specs.Prelude.{◌≡◌, ◌⊎◌, ◌≤◌, ◌<◌, IsTrue, IfOk, IfErr, IfSome, OnOk, MatchOption, length, count_by, slice_get};
+ghost use Rattle.std.specs.Prelude.{◌≡◌, ◌⊎◌, ◌≤◌, ◌<◌, IsTrue, IfOk, IfErr, OnOk, length, count_by, slice_get};
 ghost use Rattle.std.specs.Option.{option_map};
 ghost use Rattle.abs_codec.specs.Spelling.{Fits};
-ghost use Rattle.claims.specs.Due.{IsAhead};
 ghost use Rattle.commit_sink.specs.Ledger.{committed_rows};
+ghost use Rattle.engine.specs.Claimed.{OffersAhead};
 ghost use Rattle.engine_model.specs.ExactlyOnce.{IsExactlyOnce};
 ghost use Rattle.engine_model.specs.LastCommitted.{committed_of, complete_numbers};
 ghost use Rattle.engine_model.specs.Sound.{IsSound};
@@ -114,11 +114,10 @@ impl<
         self.core.claim_some(task, input, most)
     }
 
-    /// The work on the record at a place of a sink's input, counted from 0, which is due once those
-    /// before it are taken. What was made of it is handed in by `accept_with`.
-    pub fn offer_ahead(&self, task: u32, input: u32, index: usize) -> Option<Work<O>>
-        ensures { IfSome result (λ work. MatchOption self.now.core.engine.held ⊥
-            (λ h. IsAhead self.now.core.engine.graph task input index h work)) }
+    /// Offers the work on the record at a place of a sink's input, counted from 0, which is due
+    /// once those before it are taken. What was made of it is handed in by `accept_with`.
+    pub fn offer_ahead(&self, task: u32, input: u32, index: usize) -> Result<Work<O>, CoreFault>
+        ensures { OffersAhead self.now.core.engine task input index result }
     {
         self.core.offer_ahead(task, input, index)
     }

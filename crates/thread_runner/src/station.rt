@@ -532,7 +532,7 @@ fn work_ahead<O: Operator, S: SnapshotStore, X: Transactions, P: Partitions<Reco
 ) -> Vec<Work<O>> {
     let mut ahead = Vec::new(alloc);
     for index in 1..most as usize {
-        let Some(work) = core.offer_ahead(place.task, place.input, index) else {
+        let Ok(work) = core.offer_ahead(place.task, place.input, index) else {
             break;
         };
         if ahead.push(work).is_err() {
