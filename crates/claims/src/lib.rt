@@ -1,8 +1,9 @@
 //! What a claim carries: a task's work on the first records of an input, which is done outside the
 //! engine, with no lock held, and handed in later. Proved: a result carries the work that it was
-//! made of, and is what that work means, record by record; work is offered exactly where a task
-//! could do it now; and a result is taken, as so many steps of the task's own work would end,
-//! exactly where its work is what the task would do now (`K7` where it is not).
+//! made of, and is what that work means, record by record; `offer` offers work exactly where a task
+//! could do it now, and `offer_ahead` a sink's, exactly where it is due once those before it are
+//! taken; and a result is taken, as so many steps of the task's own work would end, exactly where
+//! its work is what the task would do now (`K7` where it is not).
 //!
 //! An operator's work carries the records that stand before the first barrier, as many as are asked
 //! for, and of each of their keys the present state, once. A sink's work is one record. With n

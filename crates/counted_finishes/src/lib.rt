@@ -1,7 +1,7 @@
 //! A finish that is counted: what the core's own `finish` does, or its `accept`, and the number of
-//! the result's records in a worker's share and in a book of totals exactly where it is taken. Proved, beside
-//! what the core proves of the call: of each claim that has ended fewer than 2^64 were counted, so
-//! no share reaches 2^128.
+//! the result's records in a worker's share and in a book of totals exactly where it is taken.
+//! Proved, beside what the core proves of the call: of each claim that has ended fewer than 2^64
+//! were counted, so no share reaches 2^128.
 #![tactic(auto)]
 
 mod counting;

@@ -4,10 +4,11 @@
 //! (`ends`); that it is steps of the model's engine, keeps the job, leaves a sound core sound and
 //! withdraws no committed row (`step`); that it is one plain step, or one for each record of a
 //! claim (`plain`), or none (`stays`); that a device's failure is counted exactly where it is told
-//! (`counted`); and what becomes of the claims (`claims`). A result is taken exactly where its
-//! attempt and serial are those of a claim that is held now (`K6` where not) and its work is what
-//! the task would do now (`K7` where not). A core over new devices is exactly once, whatever calls
-//! were made on it (`is_fresh`).
+//! (`counted`); and what becomes of the claims (`claims`). A result is taken exactly where its work
+//! is what the task would do now (`K7` where not): by `finish` where its attempt and serial are
+//! those of a claim that is held now (`K6` where not), and by `accept`, with no ticket, where its
+//! task holds no claim (`K5` where it does). A core over new devices is exactly once, whatever
+//! calls were made on it (`is_fresh`).
 //!
 //! A task's part is put in the store in one call (`persist`), or the work on it is done some
 //! entries a call, between other calls (`persist_some`); a part's bytes are the same.

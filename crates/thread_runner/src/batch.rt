@@ -23,7 +23,8 @@ pub(crate) struct DoneBatch<O: Operator> {
 }
 
 impl<O: Operator> Batch<O> {
-    /// Does the work. Where memory is refused, what is left of it is not done, and its records stay.
+    /// Does the work. Where memory is refused, what is left of it is not done, and its records
+    /// stay.
     pub(crate) fn run(self, alloc: Global) -> DoneBatch<O> {
         let Batch { place, job, ahead } = self;
         let done = job.run();

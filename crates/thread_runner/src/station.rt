@@ -250,8 +250,8 @@ impl<
         finish_counted(core, book, share, done)
     }
 
-    /// Takes what was made of a task's work with no claim, as the core's own `accept` does, and adds
-    /// the number of its records to the share and the book where it is taken.
+    /// Takes what was made of a task's work with no claim, as the core's own `accept` does, and
+    /// adds the number of its records to the share and the book where it is taken.
     pub fn accept_with(
         &mut self,
         share: &mut Share<L>,
