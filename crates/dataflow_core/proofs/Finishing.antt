@@ -12,7 +12,7 @@ use Rattle.engine_model.specs.declared.fault.CoreFault.{CoreFault}
 use Rattle.engine_model.specs.declared.fault.CoreFault.TheVariants.{NotRunning, Stale}
 use Rattle.engine_plain.specs.Plain.{StepsOftenIfOk, Stays}
 use Rattle.dataflow_model.specs.Machine as machine
-use Rattle.engine.specs.Running.{OnTransactions}
+use Rattle.engine.specs.Claimed.{Accepts}
 use Rattle.job_graph.specs.Expanded.{Expanded}
 use Rattle.job_state.specs.Held.{Held}
 use Rattle.dataflow_core.specs.Claims.{IsHeldAt, IsFreshTicket, EndsFinish, FinishMoves, AcceptMoves, claims_left}
@@ -42,12 +42,34 @@ module _ {R K S O : Type 0} (lang : Language R K S O) where
   refuses old attempt serial made fault (inl down) = refused _ _ _ old.engine.held (inl (down.1, (told fault NotRunning down.0, refl)))
   refuses old attempt serial made fault (inr stale) = refused _ _ _ old.engine.held (inr (stale.1, (told fault Stale stale.0, stale.2, refl)))
 
+  module _ (old : CoreState O R K S) (engine : State O R K S) (serials task input : ℕ) (made : Made O K S R) where
+    abbrev next : CoreState O R K S
+    next = record { engine = engine; claims = old.claims; serials = serials }
+
+    abbrev Plain : Result Unit CoreFault → Option ℕ → Type 0
+    Plain result channel = MatchOption channel (Stays lang old.engine engine) (λ c. StepsOftenIfOk result (records_of (given_of made)) lang (machine.Work task c) old.engine engine)
+
+    stays_by : (fault : CoreFault) (channel : Option ℕ) → Plain (Err fault) channel → Stays lang old.engine engine
+    stays_by fault (Some c) plain = plain
+    stays_by fault None plain = plain
+
+    channel_of : (u : Unit) (h : Option (Held R K S)) → MatchOption h ((◌≡◌ {A = Result Unit CoreFault} (Ok u) (Err NotRunning)) × (engine ≡ old.engine)) (λ h. (k : Held R K S) × EndsAccept lang old.engine.graph old.engine.operators task input h k old.engine.ledger engine.ledger made (Ok u) × (engine ≡ record old.engine { held = Some k; ledger = engine.ledger; faults = engine.faults }))
+        → (channel : ℕ) × (input_at old.engine.graph task input ≡ Some channel)
+    channel_of u (Some h) e = leads old.engine.graph old.engine.operators task input h e.0 old.engine.ledger engine.ledger made u e.1
+    channel_of u None e = (let never : ◌≡◌ {A = Result Unit CoreFault} (Ok u) (Err NotRunning) = e.0 in cc)
+
+    pub accept_moves : (result : Result Unit CoreFault) → Accepts lang old.engine engine task input made result → Plain result (input_at old.engine.graph task input) → AcceptMoves old lang next task input made result
+    accept_moves (Ok u) takes plain =
+        let c = channel_of u old.engine.held takes in
+        (c.0, c.1, subst (λ (o : Option ℕ). Plain (Ok u) o) c.1 plain)
+    accept_moves (Err fault) takes plain = stays_by fault (input_at old.engine.graph task input) plain
+
   module _ (old : CoreState O R K S) (engine : State O R K S) (claims : List Claim) (attempt serial at : ℕ) (claim : Claim) (made : Made O K S R) (held : IsHeldAt old attempt serial at claim) where
     abbrev new : CoreState O R K S
     new = record { engine = engine; claims = claims; serials = old.serials }
 
     abbrev Takes : Result Unit CoreFault → Type 0
-    Takes result = OnTransactions old.engine engine (λ h k. EndsAccept lang old.engine.graph old.engine.operators claim.task claim.input h k old.engine.ledger engine.ledger made) result
+    Takes result = Accepts lang old.engine engine claim.task claim.input made result
 
     running : (A Q : Type 0) (P : Held R K S → Type 0) (h : Option (Held R K S)) → h ≢ None → Q → MatchOption h A (λ k. P k ⊎ Q)
     running A Q P (Some h) some q = inr q
@@ -57,45 +79,8 @@ module _ {R K S O : Type 0} (lang : Language R K S O) where
     finishes result some takes same =
         running _ _ _ old.engine.held some (at, claim, held, (takes, λ i. record { engine = engine; claims = same i; serials = old.serials }))
 
-    abbrev Plain : Result Unit CoreFault → Option ℕ → Type 0
-    Plain result channel = MatchOption channel (Stays lang old.engine engine) (λ c. StepsOftenIfOk result (records_of (given_of made)) lang (machine.Work claim.task c) old.engine engine)
-
-    stays_by : (fault : CoreFault) (channel : Option ℕ) → Plain (Err fault) channel → Stays lang old.engine engine
-    stays_by fault (Some c) plain = plain
-    stays_by fault None plain = plain
-
-    channel_of : (u : Unit) (h : Option (Held R K S)) → MatchOption h ((◌≡◌ {A = Result Unit CoreFault} (Ok u) (Err NotRunning)) × (engine ≡ old.engine)) (λ h. (k : Held R K S) × EndsAccept lang old.engine.graph old.engine.operators claim.task claim.input h k old.engine.ledger engine.ledger made (Ok u) × (engine ≡ record old.engine { held = Some k; ledger = engine.ledger; faults = engine.faults }))
-        → (channel : ℕ) × (input_at old.engine.graph claim.task claim.input ≡ Some channel)
-    channel_of u (Some h) e = leads old.engine.graph old.engine.operators claim.task claim.input h e.0 old.engine.ledger engine.ledger made u e.1
-    channel_of u None e = (let never : ◌≡◌ {A = Result Unit CoreFault} (Ok u) (Err NotRunning) = e.0 in cc)
-
-    pub moves : (result : Result Unit CoreFault) → Takes result → Plain result (input_at old.engine.graph claim.task claim.input) → FinishMoves old lang new attempt serial made result
+    pub moves : (result : Result Unit CoreFault) → Takes result → Plain old engine old.serials claim.task claim.input made result (input_at old.engine.graph claim.task claim.input) → FinishMoves old lang new attempt serial made result
     moves (Ok u) takes plain =
-        let c = channel_of u old.engine.held takes in
-        (at, c.0, claim, held, c.1, subst (λ (o : Option ℕ). Plain (Ok u) o) c.1 plain)
-    moves (Err fault) takes plain = stays_by fault (input_at old.engine.graph claim.task claim.input) plain
-
-  module _ (old : CoreState O R K S) (engine : State O R K S) (serials task input : ℕ) (made : Made O K S R) where
-    abbrev next : CoreState O R K S
-    next = record { engine = engine; claims = old.claims; serials = serials }
-
-    abbrev Accepts : Result Unit CoreFault → Type 0
-    Accepts result = OnTransactions old.engine engine (λ h k. EndsAccept lang old.engine.graph old.engine.operators task input h k old.engine.ledger engine.ledger made) result
-
-    abbrev PlainAt : Result Unit CoreFault → Option ℕ → Type 0
-    PlainAt result channel = MatchOption channel (Stays lang old.engine engine) (λ c. StepsOftenIfOk result (records_of (given_of made)) lang (machine.Work task c) old.engine engine)
-
-    stays_at : (fault : CoreFault) (channel : Option ℕ) → PlainAt (Err fault) channel → Stays lang old.engine engine
-    stays_at fault (Some c) plain = plain
-    stays_at fault None plain = plain
-
-    channel_at : (u : Unit) (h : Option (Held R K S)) → MatchOption h ((◌≡◌ {A = Result Unit CoreFault} (Ok u) (Err NotRunning)) × (engine ≡ old.engine)) (λ h. (k : Held R K S) × EndsAccept lang old.engine.graph old.engine.operators task input h k old.engine.ledger engine.ledger made (Ok u) × (engine ≡ record old.engine { held = Some k; ledger = engine.ledger; faults = engine.faults }))
-        → (channel : ℕ) × (input_at old.engine.graph task input ≡ Some channel)
-    channel_at u (Some h) e = leads old.engine.graph old.engine.operators task input h e.0 old.engine.ledger engine.ledger made u e.1
-    channel_at u None e = (let never : ◌≡◌ {A = Result Unit CoreFault} (Ok u) (Err NotRunning) = e.0 in cc)
-
-    pub accept_moves : (result : Result Unit CoreFault) → Accepts result → PlainAt result (input_at old.engine.graph task input) → AcceptMoves old lang next task input made result
-    accept_moves (Ok u) takes plain =
-        let c = channel_at u old.engine.held takes in
-        (c.0, c.1, subst (λ (o : Option ℕ). PlainAt (Ok u) o) c.1 plain)
-    accept_moves (Err fault) takes plain = stays_at fault (input_at old.engine.graph task input) plain
+        let step = accept_moves old engine old.serials claim.task claim.input made (Ok u) takes plain in
+        (at, step.0, claim, held, step.1, step.2)
+    moves (Err fault) takes plain = accept_moves old engine old.serials claim.task claim.input made (Err fault) takes plain

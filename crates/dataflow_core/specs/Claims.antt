@@ -3,7 +3,7 @@ use Rattle.std.specs.Prelude.{◌≡◌, ◌≢◌, ◌⊎◌, ◌+◌, ◌<◌,
 use Rattle.std.specs.List.{remove}
 use Rattle.alignment.specs.declared.input.Effect.{Effect}
 use Rattle.claims.specs.Carried.{given_of, records_of}
-use Rattle.claims.specs.Due.{WorksFrom, EndsOffer, EndsAccept}
+use Rattle.claims.specs.Due.{WorksFrom, EndsOffer}
 use Rattle.claims.specs.declared.parts.Given.{Given}
 use Rattle.claims.specs.declared.parts.Made.{Made}
 use Rattle.engine_model.specs.Calls.{input_at, IsBlocked, NoRecord, IsRecordDue}
@@ -12,7 +12,7 @@ use Rattle.engine_model.specs.declared.fault.CoreFault.{CoreFault}
 use Rattle.engine_model.specs.declared.fault.CoreFault.TheVariants.{NotRunning, NoSuchTask, Busy, ChannelBlocked, NotReady, NumbersSpent, Memory, Stale, WrongResult}
 use Rattle.engine_plain.specs.Plain.{StepsOften, Stays}
 use Rattle.dataflow_model.specs.Machine as machine
-use Rattle.engine.specs.Running.{OnTransactions}
+use Rattle.engine.specs.Claimed.{Accepts}
 use Rattle.job_state.specs.Held.{Held}
 use Rattle.dataflow_core.specs.Calls.{TakesBarrier}
 use Rattle.dataflow_core.specs.CoreState.{CoreState}
@@ -91,7 +91,7 @@ module _ {R K S O : Type 0} (old : CoreState O R K S) where
     -- What was made of the claim's work is taken, as the task's work would end, and the claim ends; it stays where the work is not due.
     abbrev pub EndsClaimed : ℕ → Claim → Made O K S R → Result Unit CoreFault → Type 0
     EndsClaimed at claim made result =
-        OnTransactions old.engine new.engine (λ h k. EndsAccept lang old.engine.graph old.engine.operators claim.task claim.input h k old.engine.ledger new.engine.ledger made) result
+        Accepts lang old.engine new.engine claim.task claim.input made result
         × (new ≡ record old { engine = new.engine; claims = claims_left at result old.claims })
 
     -- A result is taken where it is a fresh ticket, and else it is stale.
@@ -124,7 +124,7 @@ module _ {R K S O : Type 0} (old : CoreState O R K S) where
     abbrev pub EndsAccepting : Made O K S R → Result Unit CoreFault → Type 0
     EndsAccepting made result =
         (MayAccept task
-        × OnTransactions old.engine new.engine (λ h k. EndsAccept lang old.engine.graph old.engine.operators task input h k old.engine.ledger new.engine.ledger made) result
+        × Accepts lang old.engine new.engine task input made result
         × (new ≡ record old { engine = new.engine; serials = old.serials + 1 }))
         ⊎ ((fault : CoreFault) × (result ≡ Err fault) × RefusesAccept task fault × (new ≡ old))
 

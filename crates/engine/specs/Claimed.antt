@@ -1,13 +1,21 @@
--- How an engine offers work.
+-- How an engine offers work, and takes what was made of it.
 use Rattle.std.specs.Prelude.{◌≡◌, ℕ, Result, Err, MatchOption}
-use Rattle.claims.specs.Due.{EndsOfferAhead}
+use Rattle.claims.specs.Due.{EndsOfferAhead, EndsAccept}
 use Rattle.claims.specs.declared.parts.Given.{Given}
+use Rattle.claims.specs.declared.parts.Made.{Made}
+use Rattle.engine_model.specs.Language.{Language}
 use Rattle.engine_model.specs.State.{State}
 use Rattle.engine_model.specs.declared.fault.CoreFault.{CoreFault}
 use Rattle.engine_model.specs.declared.fault.CoreFault.TheVariants.{NotRunning}
+use Rattle.engine.specs.Running.{OnTransactions}
 
 module _ {O R K S : Type 0} where
   -- while the job runs, the work on the record at a place of a sink's input is offered
   abbrev pub OffersAhead : State O R K S → (task input index : ℕ) → Result (Given O K S R) CoreFault → Type 0
   OffersAhead engine task input index result =
       MatchOption engine.held (result ≡ Err NotRunning) (λ h. EndsOfferAhead engine.graph task input index h result)
+
+  -- while the job runs, what was made of work is taken, as the task's work would end
+  abbrev pub Accepts : Language R K S O → (old new : State O R K S) → (task input : ℕ) → Made O K S R → Result Unit CoreFault → Type 0
+  Accepts lang old new task input made result =
+      OnTransactions old new (λ h k. EndsAccept lang old.graph old.operators task input h k old.ledger new.ledger made) result

@@ -11,9 +11,9 @@ ghost use Rattle.engine_model.specs.Goes.{Goes};
 ghost use Rattle.engine_model.specs.Sound.{IsSound};
 ghost use Rattle.engine_plain.specs.Plain.{StepsOftenIfOk, Stays};
 ghost use Rattle.claims.specs.Carried.{given_of, records_of};
-ghost use Rattle.claims.specs.Due.{EndsAsking, EndsOffer, EndsAccept};
-ghost use Rattle.engine.specs.Claimed.{OffersAhead};
-ghost use Rattle.engine.specs.Running.{IsCounted, IsSameJob, OnTransactions};
+ghost use Rattle.claims.specs.Due.{EndsAsking, EndsOffer};
+ghost use Rattle.engine.specs.Claimed.{Accepts, OffersAhead};
+ghost use Rattle.engine.specs.Running.{IsCounted, IsSameJob};
 
 use crate::calls::{Engine, leave};
 use claims::{Work, Worked, accept, channel_of, offer, offer_ahead};
@@ -94,9 +94,7 @@ impl<O: Operator, S: SnapshotStore, X: Transactions, P: Partitions<Record = O::R
     /// what the task is to do now, it is refused by `K7`, and where memory was refused for it by
     /// `K11`; then nothing has changed.
     pub fn accept(&mut self, task: u32, input: u32, worked: Worked<O>) -> Result<(), CoreFault>
-        ensures ends { OnTransactions self.old self.new (λ h k. EndsAccept ⟦<O as Rules>⟧.lang
-            self.old.graph self.old.operators task input h k self.old.ledger self.new.ledger worked)
-            result }
+        ensures ends { Accepts ⟦<O as Rules>⟧.lang self.old self.new task input worked result }
         ensures goes { Goes ⟦<O as Rules>⟧.lang self.old self.new }
         ensures sound { IsSound ⟦<O as Rules>⟧.all self.old → IsSound ⟦<O as Rules>⟧.all self.new }
         ensures begins { (task subtask : ℕ) → slice_get self.old.graph.tasks task
