@@ -1,5 +1,5 @@
 -- A number read digit by digit.
-use Rattle.std.proofs.Common.{◌≡◌, ◌∙◌, ◌<◌, ◌≤◌, ◌^◌, ◌⊎◌, inl, inr, ℕ, zero, suc, ◌+◌, ◌-◌, ◌*◌, ◌/◌, ◌%◌, List, [], ◌∷◌, ◌++◌, length, take, get_or, refl, sym, ap, ap₂, arith, take-suc, add-one, eq-zero-or-pos, subst, IsUtf8, FitsSigned, ℤ, pos, negsuc}
+use Rattle.std.proofs.Common.{◌≡◌, ◌∙◌, ◌<◌, ◌≤◌, ◌^◌, ◌⊎◌, inl, inr, ℕ, ◌+◌, ◌-◌, ◌*◌, ◌/◌, ◌%◌, List, [], ◌∷◌, ◌++◌, length, take, get_or, sym, ap, ap₂, arith, take-suc, add-one, eq-zero-or-pos, subst, IsUtf8, FitsSigned, ℤ, pos, negsuc}
 use Rattle.std.specs.Fmt.{decimal, signed_decimal}
 use Rattle.std.specs.Int.{w64}
 use Rattle.std.proofs.lemmas.Str.{IsUtf8-from_ascii}

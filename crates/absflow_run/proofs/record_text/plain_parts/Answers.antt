@@ -1,4 +1,4 @@
-use Rattle.std.proofs.Common.{rules, ◌≡◌, [], ◌∷◌, ◌++◌, ◌∙◌, true, ℕ, ℤ, ◌<◌, ◌≤◌, length, drop, take, ◌-◌, take_all, length-drop, List, sym, ap, ap₂, arith, append_assoc, subst}
+use Rattle.std.proofs.Common.{rules, ◌≡◌, ◌++◌, ◌∙◌, true, length, drop, take, ◌-◌, take_all, length-drop, sym, ap, ap₂, arith, append_assoc, subst}
 use Rattle.std.specs.Int.{w32, w64, to_be_bytes}
 use Rattle.std.proofs.lemmas.Int.{to_z-of_z}
 use Rattle.std.proofs.lemmas.List.{take-append-drop}

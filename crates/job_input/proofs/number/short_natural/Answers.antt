@@ -1,4 +1,4 @@
-use Rattle.std.proofs.Common.{rules, ◌≡◌, ◌<◌, ◌≤◌, ◌^◌, ℕ, ◌+◌, ◌-◌, ◌*◌, length, take, arith, slice_index_or}
+use Rattle.std.proofs.Common.{rules, ◌<◌, ◌≤◌, arith, slice_index_or}
 use Rattle.job_input.proofs.Digits.{next_digit}
 use Rattle.job_input.proofs.number.short_natural.Goals.{then-n-eq0, else-n-eq0}
 use Rattle.job_input.proofs.number.short_natural.Goals as goal
