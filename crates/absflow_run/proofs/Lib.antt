@@ -1,3 +1,4 @@
 pub mod JobTasks
 mod Rows
 mod ScriptParts
+mod PlainText

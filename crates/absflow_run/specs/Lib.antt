@@ -1,4 +1,5 @@
 pub mod Calls
 pub mod Log
+pub mod RecordText
 pub mod RowText
 pub mod Telling

@@ -1,11 +1,10 @@
 //! The committed rows, as the program prints them.
 
+use crate::record_text::append_record;
 use crate::refusal::Refusal;
-use crate::row_text::row_line;
-use abs_codec::decode_all;
 use commit_sink::Transactions;
 use dataflow_core::{Core, CoreFault};
-use operators::{Operator, Row};
+use operators::Operator;
 use snapshot_store::SnapshotStore;
 use source_log::Partitions;
 use std::alloc::Global;
@@ -55,8 +54,8 @@ fn print_sink<C: CommittedRows, W: Write>(
         let Some(record) = core.committed(sink, number)? else {
             return Ok(());
         };
-        let row: Row = decode_all(alloc, &record)?;
-        line = row_line(line, &row)?;
+        line.clear();
+        line = append_record(alloc, line, &record)?;
         out.write_all(&line).map_err(|_| Refusal::Output)?;
     }
     Ok(())

@@ -13,6 +13,7 @@ mod fault;
 mod input;
 mod job;
 mod line;
+mod number;
 mod plain;
 mod rows;
 

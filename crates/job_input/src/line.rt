@@ -7,6 +7,7 @@ ghost use Rattle.std.specs.Io.BufRead.{take_through, DropsThrough};
 
 use crate::fault::LineFault;
 use crate::input::line_fault;
+use memchr::memchr;
 use std::io;
 use std::io::{BufRead, ErrorKind};
 
@@ -19,14 +20,10 @@ fn len_through_end(bytes: &[u8]) -> usize
     ensures some { 0 < length bytes.now → 0 < result }
     ensures before { All (λ x. x ≢ 10) (take (result - 1) bytes.now) }
 {
-    let mut i = 0;
-    while i < bytes.len() {
-        if bytes[i] == b'\n' {
-            return i + 1;
-        }
-        i += 1;
+    match memchr(b'\n', bytes) {
+        Some(at) => at + 1,
+        None => bytes.len(),
     }
-    i
 }
 
 /// Moves what the reader has ready into the line, through the line's end. True: the line is whole.

@@ -7,6 +7,7 @@ ghost use Rattle.job_input.specs.Lines.{row_of_line};
 ghost use Rattle.job_input.specs.Plain.{is_plain, IsPlainLine};
 ghost use Rattle.script_file.specs.Rows.{row_with};
 
+use crate::number::short_number;
 use crate::rows::is_blank;
 use itoa::Buffer;
 
@@ -58,6 +59,9 @@ fn printed_number(text: &[u8]) -> Option<i64>
     ensures printed { IfSome result (λ z. FitsSigned w64 z × (text.now ≡ signed_decimal z)) }
     ensures utf8 { IfSome result (λ _. IsUtf8 text.now) }
 {
+    if let Some(n) = short_number(text) {
+        return Some(n);
+    }
     let Ok(text) = str::from_utf8(text) else {
         return None;
     };
