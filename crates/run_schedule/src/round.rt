@@ -20,9 +20,11 @@ enum Stage {
     Complete,
 }
 
-/// No more steps of records come between two pieces of a copy, and so many where there are as many
-/// pieces as records between two checkpoints.
+/// So many steps of records come between two pieces of a copy that would be late.
 const MOST_STEPS: u64 = 16;
+
+/// A copy is late where it has more than one piece for so many records between two checkpoints.
+const RECORDS_A_PIECE: u64 = 3;
 
 /// The checkpoint that is made.
 #[derive(Drop)]
@@ -153,8 +155,8 @@ impl Round {
 
     /// The checkpoint is complete, and the next one comes after so many records.
     pub(crate) fn completed(&mut self, every: u64) {
-        let steps = self.pieces.saturating_mul(MOST_STEPS).checked_div(every);
-        self.steps = steps.unwrap_or(1).clamp(1, MOST_STEPS);
+        let is_late = every > 0 && self.pieces.saturating_mul(RECORDS_A_PIECE) >= every;
+        self.steps = if is_late { MOST_STEPS } else { 1 };
         self.stage = Stage::Complete;
         self.sink = 0;
         self.end_if_committed();
