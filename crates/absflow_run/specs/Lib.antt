@@ -1,4 +1,5 @@
 pub mod Calls
 pub mod Log
+pub mod Printed
 pub mod RowText
 pub mod Telling

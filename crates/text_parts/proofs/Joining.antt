@@ -1,6 +1,7 @@
 -- Lines after lines, and parts after parts.
 use Rattle.std.proofs.Common.{◌≡◌, ◌∙◌, ◌<◌, ◌≤◌, ◌+◌, ◌-◌, ◌*◌, ℕ, zero, suc, min, List, [], ◌∷◌, ◌++◌, Option, length, get_or, refl, sym, ap, subst, arith, append_assoc, append-nil}
 use Rattle.std.specs.List.{All, flat_map}
+use Rattle.std.specs.Io.KnownBytes.{Appends}
 use Rattle.std.proofs.KnownBytes.{Appends-nil, Appends-trans}
 use Rattle.std.proofs.lemmas.List.Elements.{All-head, All-tail}
 use Rattle.text_parts.specs.Lines.{AreLines, WritesLines, lines_before}
@@ -31,6 +32,10 @@ none_written P first (suc n) old none = absurd (omega (arith, none))
 pub more_written : (P : ℕ → List ℕ → Type 0) (first n k m all : ℕ) (old mid new : Option (List ℕ)) → WritesLines P first n old mid → k ≡ first + n → WritesLines P k m mid new → all ≡ n + m → WritesLines P first all old new
 more_written P first n k m all old mid new before at after is =
     (before.0 ++ after.0, joined P first n k m all before.0 after.0 before.1 at after.1 is, Appends-trans old mid new before.0 after.0 before.2 after.2)
+
+pub line_written : (P : ℕ → List ℕ → Type 0) (n : ℕ) (line : List ℕ) (old mid new : Option (List ℕ)) → WritesLines P 0 n old mid → P n line → Appends mid new line → WritesLines P 0 (n + 1) old new
+line_written P n line old mid new before its after =
+    (before.0 ++ line, one_more P 0 n n (n + 1) before.0 line before.1 (omega arith) its refl, Appends-trans old mid new before.0 line before.2 after)
 
 -- the lines before a part, and those of the part, are those before the next
 next_part : (count size k : ℕ) → lines_before count size (suc k) ≡ lines_before count size k + min size (count - lines_before count size k)

@@ -1,1 +1,1 @@
-mod Joining
+pub mod Joining

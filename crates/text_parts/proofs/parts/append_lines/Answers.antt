@@ -1,7 +1,10 @@
-use Rattle.std.proofs.Common.{◌≡◌, ◌∙◌, ◌-◌, ◌++◌, [], refl, sym, ap, subst, arith, append_assoc, append-nil}
+use Rattle.std.proofs.Common.{List, ℕ, ◌≡◌, ◌∙◌, ◌-◌, ◌++◌, [], refl, sym, ap, subst, arith, append_assoc, append-nil}
 use Rattle.text_parts.specs.Lines.{AreLines}
 use Rattle.text_parts.proofs.Joining.{no_lines, one_more}
 use Rattle.text_parts.proofs.parts.append_lines.Goals as goal
+
+line_behind : (old bytes line mid new : List ℕ) → new ≡ mid ++ line → mid ≡ old ++ bytes → new ≡ old ++ (bytes ++ line)
+line_behind old bytes line mid new after before = after ∙ ap (λ b. b ++ line) before ∙ append_assoc old bytes line
 
 pub loop-number-init : goal.loop-number-init
 loop-number-init g c =
@@ -18,7 +21,7 @@ loop-number-preserved g c =
       (
         bytes ++ c.in_ok-line.line.items,
         one_more (g.L.Lines.IsLine c.args.lines.now) c.args.first (c.loop-number.number - c.args.first) c.loop-number.number _ bytes c.in_ok-line.line.items lines (omega (arith, from)) line.0 (omega (arith, from)),
-        line.1 ∙ ap (λ b. b ++ c.in_ok-line.line.items) text ∙ append_assoc c.args.text.now.items bytes c.in_ok-line.line.items,
+        line_behind c.args.text.now.items bytes c.in_ok-line.line.items _ _ line.1 text,
       ),
     )
 
