@@ -1,6 +1,6 @@
 //! The committed rows are printed by the threads of the run.
 
-ghost use Rattle.std.specs.Prelude.{◌≡◌, ◌<◌, OnOk};
+ghost use Rattle.std.specs.Prelude.{OnOk};
 ghost use Rattle.absflow_run.specs.Printed.{IsRecordLine};
 ghost use Rattle.text_parts.specs.Lines.{WritesLines};
 
@@ -20,7 +20,6 @@ fn print_rows<C: CommittedRows + Sync, R: Threads + Sync, W: Write>(
     workers: u64,
     out: &mut W,
 ) -> Result<(), Refusal>
-    requires { 0 < workers }
     ensures { OnOk result (WritesLines (IsRecordLine (C.records core.now sink)) 0 rows
         (W.contents out.old) (W.contents out.new)) }
 {
@@ -38,7 +37,6 @@ fn print_sink<C: CommittedRows + Sync, R: Threads + Sync, W: Write>(
     workers: u64,
     out: &mut W,
 ) -> Result<(), Refusal>
-    requires { 0 < workers }
 {
     let rows = core.committed_len(sink)?;
     print_head(sink, rows, out)?;

@@ -1,8 +1,8 @@
 //! The text of many lines, which several threads spell and one thread writes. Proved: what is
 //! written is the text of the lines in their order, each line once, as one thread would write it.
 //!
-//! The lines go by rounds, each of so many for each thread, so that memory is bounded however many
-//! lines there are. Few lines are spelled with no other thread.
+//! The lines go by rounds of at most so many, so that memory is bounded however many lines there
+//! are. Few lines are spelled with no other thread.
 #![tactic(auto)]
 
 mod fault;

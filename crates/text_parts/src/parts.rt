@@ -1,6 +1,6 @@
 //! The parts of a text, each of which one thread spells.
 
-ghost use Rattle.std.specs.Prelude.{◌≡◌, ◌+◌, ◌*◌, ◌-◌, ◌^◌, ◌<◌, ◌≤◌, ◌++◌, ℕ, List, min, IfOk, IfNone, OnOk, length, slice_index_or};
+ghost use Rattle.std.specs.Prelude.{◌≡◌, ◌+◌, ◌*◌, ◌-◌, ◌^◌, ◌<◌, ◌≤◌, ◌++◌, ℕ, List, max, min, IfOk, IfNone, OnOk, length, slice_index_or};
 ghost use Rattle.text_parts.specs.Lines.{AreLines, lines_before};
 
 use crate::fault::TextFault;
@@ -30,7 +30,7 @@ impl Round {
         requires { first + count < 2 ^ 64 }
         ensures first { result.first ≡ first }
         ensures count { result.count ≡ count }
-        ensures parts { 0 < threads → result.parts ≤ threads }
+        ensures parts { result.parts ≤ max 1 threads }
     {
         let parts = count.div_ceil(LEAST).min(threads).max(1);
         let size = count.div_ceil(parts);

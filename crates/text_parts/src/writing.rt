@@ -12,8 +12,8 @@ use std::alloc::Global;
 use std::io::Write;
 use std::thread::Threads;
 
-/// A round has so many lines for each thread.
-const LINES: u64 = 16_384;
+/// A round has at most so many lines, whose text is in memory.
+const LINES: u64 = 131_072;
 
 /// Writes the text of a part.
 fn write_part<E: Drop, W: Write>(part: Part<E>, out: &mut W) -> Result<(), TextFault<E>>
@@ -72,14 +72,12 @@ pub fn write_lines<L: Lines + Sync, R: Threads + Sync, W: Write>(
 ) -> Result<(), TextFault<L::Fault>>
 where
     L::Fault: Send,
-    requires { 0 < threads }
     ensures { OnOk result (WritesLines (L.IsLine lines.now) 0 count
         (W.contents out.old) (W.contents out.new)) }
 {
-    let most = threads.saturating_mul(LINES);
     let mut done = 0;
     while done < count {
-        let next = most.min(count - done);
+        let next = LINES.min(count - done);
         write_round(rt, alloc, lines, Round::new(done, next, threads), out)?;
         done += next;
     }

@@ -5,25 +5,22 @@ use Rattle.text_parts.proofs.writing.write_lines.Goals as goal
 
 pub loop-done-init : goal.loop-done-init
 loop-done-init g c =
-    let most = c.saturating_mul-most.ensures in
-    let some = c.requires in
-    (omega arith, omega (arith, most, some), none_written (g.L.Lines.IsLine c.args.lines.now) 0 0 (g.W.Write.contents c.args.out.now) refl)
+    (omega arith, none_written (g.L.Lines.IsLine c.args.lines.now) 0 0 (g.W.Write.contents c.args.out.now) refl)
 
 pub loop-done-preserved : goal.loop-done-preserved
 loop-done-preserved g c =
-    let (within, some, written) = c.loop-done.invariant in
+    let (within, written) = c.loop-done.invariant in
     let round = c.in_ok-write_round.ensures in
     let next = c.min-next.ensures in
     let made = c.new.ensures in
     let less = c.loop-done-test.true in (
       search rules,
-      some,
       more_written (g.L.Lines.IsLine c.args.lines.now) 0 c.loop-done.done c.new.result.first c.new.result.count _ _ _ _ written (search rules) round (search rules),
     )
 
 pub returns : goal.returns
 returns g c =
-    let (within, some, written) = c.loop-done.invariant in
+    let (within, written) = c.loop-done.invariant in
     let past = c.loop-done-test.false in
     let all : c.loop-done.done ≡ c.args.count = omega (arith, within, past) in
     subst (λ n. WritesLines (g.L.Lines.IsLine c.args.lines.now) 0 n (g.W.Write.contents c.args.out.now) (g.W.Write.contents c.loop-done.out)) all written

@@ -14,5 +14,5 @@ loop-part-preserved g c =
     let more : flat_map (λ part. part.text.items) c.loop-part.yielded ++ text ≡ flat_map (λ part. part.text.items) (c.loop-part.yielded ++ c.in-Some.part ∷ []) =
     ap (λ b. flat_map (λ part. part.text.items) c.loop-part.yielded ++ b) (sym (append-nil text)) ∙ sym (flat_map-append (λ part. part.text.items) c.loop-part.yielded (c.in-Some.part ∷ [])) in (
       All-push (λ part. part.fault ≡ None) c.loop-part.yielded c.in-Some.part before.0 now.whole,
-      subst (Appends (g.W.Write.contents c.args.out.now) (g.W.Write.contents c.write_part.new.out)) more (Appends-trans _ _ _ (flat_map (λ part. part.text.items) c.loop-part.yielded) text before.1 now.bytes),
+      subst (Appends (g.W.Write.contents c.args.out.now) (g.W.Write.contents c.write_part.new.out)) more (Appends-trans (g.W.Write.contents c.args.out.now) (g.W.Write.contents c.loop-part.out) (g.W.Write.contents c.write_part.new.out) (flat_map (λ part. part.text.items) c.loop-part.yielded) text before.1 now.bytes),
     )
