@@ -36,8 +36,7 @@ fn print_sink<C: CommittedRows + Sync, R: Threads + Sync, W: Write>(
     sink: u32,
     workers: u64,
     out: &mut W,
-) -> Result<(), Refusal>
-{
+) -> Result<(), Refusal> {
     let rows = core.committed_len(sink)?;
     print_head(sink, rows, out)?;
     print_rows(rt, alloc, core, sink, rows, workers, out)
