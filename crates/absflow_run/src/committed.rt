@@ -1,7 +1,13 @@
 //! The committed rows, as the program prints them.
 
-use crate::record_text::append_record;
+ghost use Rattle.std.specs.Prelude.{◌≡◌, ℕ, List, IfOk, OnOk, length, slice_get};
+ghost use Rattle.std.specs.Option.{option_map};
+ghost use Rattle.commit_sink.specs.Ledger.{committed_rows};
+ghost use Rattle.text_parts.specs.Lines.{WritesLines};
+ghost use Rattle.absflow_run.specs.Printed.{IsRecordLine};
+
 use crate::refusal::Refusal;
+use crate::sink_lines::SinkLines;
 use commit_sink::Transactions;
 use dataflow_core::{Core, CoreFault};
 use operators::Operator;
@@ -9,17 +15,24 @@ use snapshot_store::SnapshotStore;
 use source_log::Partitions;
 use std::alloc::Global;
 use std::io::Write;
+use text_parts::Lines;
 
 /// What a core tells of the rows that are committed.
 pub trait CommittedRows {
+    /// The records that a sink subtask has committed, in order.
+    ghost records: { Self → ℕ → List (List ℕ) };
+
     /// How many sink subtasks there are.
     fn sinks(&self) -> u32;
 
     /// How many records a sink subtask has committed.
-    fn committed_len(&self, sink: u32) -> Result<u64, CoreFault>;
+    fn committed_len(&self, sink: u32) -> Result<u64, CoreFault>
+        ensures { IfOk result (λ len. len ≡ length (records self.now sink)) };
 
     /// The record of this number, from 0.
-    fn committed(&self, sink: u32, number: u64) -> Result<Option<Vec<u8>>, CoreFault>;
+    fn committed(&self, sink: u32, number: u64) -> Result<Option<Vec<u8>>, CoreFault>
+        ensures { IfOk result (λ row. option_map (λ bytes. bytes.items) row
+            ≡ slice_get (records self.now sink) number) };
 }
 
 impl<
@@ -28,6 +41,8 @@ impl<
     X: Transactions,
     P: Partitions<Record = O::Record>,
 > CommittedRows for Core<O, S, X, P> {
+    ghost records = { λ core sink. committed_rows core.engine.ledger sink };
+
     fn sinks(&self) -> u32 {
         self.sinks()
     }
@@ -41,6 +56,30 @@ impl<
     }
 }
 
+/// Writes the line `sink S rows N`.
+pub fn print_head<W: Write>(sink: u32, rows: u64, out: &mut W) -> Result<(), Refusal> {
+    writeln!(out, "sink {sink} rows {rows}").map_err(|_| Refusal::Output)
+}
+
+/// Writes the first so many lines, one after the other.
+fn print_lines<C: CommittedRows, W: Write>(
+    alloc: Global,
+    lines: &SinkLines<'_, C>,
+    rows: u64,
+    out: &mut W,
+) -> Result<(), Refusal>
+    ensures { OnOk result (WritesLines (IsRecordLine
+        (C.records lines.now.core.now lines.now.sink)) 0 rows
+        (W.contents out.old) (W.contents out.new)) }
+{
+    let mut line = Vec::new(alloc);
+    for number in 0..rows {
+        line = lines.line(number, line)?;
+        out.write_all(&line).map_err(|_| Refusal::Output)?;
+    }
+    Ok(())
+}
+
 fn print_sink<C: CommittedRows, W: Write>(
     alloc: Global,
     core: &C,
@@ -48,17 +87,8 @@ fn print_sink<C: CommittedRows, W: Write>(
     out: &mut W,
 ) -> Result<(), Refusal> {
     let rows = core.committed_len(sink)?;
-    writeln!(out, "sink {sink} rows {rows}").map_err(|_| Refusal::Output)?;
-    let mut line = Vec::new(alloc);
-    for number in 0..rows {
-        let Some(record) = core.committed(sink, number)? else {
-            return Ok(());
-        };
-        line.clear();
-        line = append_record(alloc, line, &record)?;
-        out.write_all(&line).map_err(|_| Refusal::Output)?;
-    }
-    Ok(())
+    print_head(sink, rows, out)?;
+    print_lines(alloc, &SinkLines::new(alloc, core, sink), rows, out)
 }
 
 /// For each sink subtask in order the line `sink S rows N`, then the rows.

@@ -15,6 +15,7 @@ use source_log::SourceFault;
 use std::alloc::{AllocError, AllocFailed};
 use std::io;
 use std::io::Write;
+use text_parts::TextFault;
 use thiserror::Error;
 
 /// Why a script or a job was refused or given up. Its text is the line on standard error, without
@@ -116,6 +117,22 @@ impl From<AllocError> for Refusal {
 
     fn from(_e: AllocError) -> Refusal {
         Refusal::Memory
+    }
+}
+
+impl From<TextFault<Refusal>> for Refusal {
+    ghost use Rattle.text_parts.specs.declared.fault.TextFault.TheVariants as text;
+
+    ghost from_gives = { λ fault e. (fault ≡ text.Memory → e ≡ Refusal.Memory)
+        × (fault ≡ text.Output → e ≡ Refusal.Output)
+        × ((refusal : _) → fault ≡ text.Line refusal → e ≡ refusal) };
+
+    fn from(fault: TextFault<Refusal>) -> Refusal {
+        match fault {
+            TextFault::Line(refusal) => refusal,
+            TextFault::Memory => Refusal::Memory,
+            TextFault::Output => Refusal::Output,
+        }
     }
 }
 

@@ -29,13 +29,3 @@ pub fn append_row(mut text: Vec<u8>, row: &Row) -> Result<Vec<u8>, AllocError>
     text.push(b'}')?;
     Ok(text)
 }
-
-/// The row's line with its end, which is made in this buffer in place of what stood there.
-pub fn row_line(mut line: Vec<u8>, row: &Row) -> Result<Vec<u8>, AllocError>
-    ensures { IfOk result (λ l. l.items ≡ row_text row.now ++ 10 ∷ []) }
-{
-    line.clear();
-    let mut line = append_row(line, row)?;
-    line.push(b'\n')?;
-    Ok(line)
-}

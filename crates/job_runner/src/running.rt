@@ -5,8 +5,8 @@ ghost use Rattle.job_input.specs.Judged.{IsJudged};
 
 use crate::opening::open;
 use crate::options::Options;
+use crate::printing::print_by;
 use crate::refusal::{RunRefusal, finish_run};
-use absflow_run::print_committed;
 use commit_sink::Transactions;
 use dataflow_core::Core;
 use job_input::{Input, JobInput, judge};
@@ -28,10 +28,10 @@ const RESTARTS: u64 = 8;
 /// Takes the job of this core to rest and prints what is committed, also where the run is refused.
 /// A job that goes down is restarted so often. It answers how many records the workers have worked.
 pub fn run_core<
-    O: Operator + Send,
-    S: SnapshotStore + Drop + Send,
-    X: Transactions + Drop + Send,
-    P: Partitions<Record = O::Record> + Drop + Send,
+    O: Operator + Send + Sync,
+    S: SnapshotStore + Drop + Send + Sync,
+    X: Transactions + Drop + Send + Sync,
+    P: Partitions<Record = O::Record> + Drop + Send + Sync,
     L: Ledger + Send + Sync,
     H: Pause + Sync,
     R: Threads + Wait + Clock + Sync,
@@ -48,9 +48,9 @@ pub fn run_core<
     out: &mut W,
 ) -> Result<Report, RunRefusal<'static>>
 where
-    O::Record: Send,
-    O::Key: Send,
-    O::State: Send,
+    O::Record: Send + Sync,
+    O::Key: Send + Sync,
+    O::State: Send + Sync,
     requires name { blank.name ≡ L.name }
     requires parts { (blank.parts ≡ L.parts) × (L.parts ≡ 65) }
 {
@@ -75,7 +75,7 @@ where
         batch,
     );
     let core = station.into_inner().into_core();
-    let printed = print_committed(alloc, &core, out);
+    let printed = print_by(rt, alloc, &core, workers, out);
     let report = report?;
     printed?;
     Ok(report)

@@ -28,10 +28,10 @@ pub(crate) struct How {
 
 /// Runs a job over these devices, where they are the graph's, and prints what is committed.
 fn run_over<
-    O: Operator + Send,
-    S: SnapshotStore + Drop + Send,
-    X: Transactions + Drop + Send,
-    P: Partitions<Record = O::Record> + Drop + Send,
+    O: Operator + Send + Sync,
+    S: SnapshotStore + Drop + Send + Sync,
+    X: Transactions + Drop + Send + Sync,
+    P: Partitions<Record = O::Record> + Drop + Send + Sync,
     H: Pause + Sync,
     R: Threads + Wait + Clock + Sync,
 >(
@@ -45,9 +45,9 @@ fn run_over<
     out: &mut Vec<u8>,
 ) -> Result<Result<Report, RunRefusal<'static>>, Fail>
 where
-    O::Record: Send,
-    O::Key: Send,
-    O::State: Send,
+    O::Record: Send + Sync,
+    O::Key: Send + Sync,
+    O::State: Send + Sync,
 {
     if operators.len() != graph.operators() as usize || log.count() != graph.sources() {
         return Err(Fail::new("other operators or partitions than the job's"));

@@ -1,0 +1,10 @@
+use Rattle.std.proofs.Common.{◌≤◌}
+use Rattle.text_parts.specs.Lines.{WritesLines}
+use Rattle.absflow_run.specs.Printed.{IsRecordLine}
+use Rattle.absflow_run.proofs.committed.print_lines.Given as goal
+
+-- so many lines are written
+abbrev pub invariant-loop-number : goal.invariant-loop-number
+invariant-loop-number g l =
+    (l.number ≤ l.rows)
+    × WritesLines (IsRecordLine (g.C.CommittedRows.records l.lines.core.now l.lines.sink)) 0 l.number (g.W.Write.contents l.fn.out) (g.W.Write.contents l.out)
