@@ -1,6 +1,6 @@
 //! A row as the program prints it.
 
-ghost use Rattle.std.specs.Prelude.{◌≡◌, [], ◌∷◌, ◌++◌, IfOk};
+ghost use Rattle.std.specs.Prelude.{◌≡◌, ◌++◌, IfOk};
 ghost use Rattle.json.specs.Print.{quoted};
 ghost use Rattle.absflow_run.specs.RowText.{row_text};
 
