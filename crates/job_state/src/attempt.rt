@@ -23,6 +23,7 @@ use channels::{Channel, Item};
 use commit_sink::Sink;
 use coordinator::Coordinator;
 use job_graph::Graph;
+use keyed_state::LentStates;
 use operators::Operator;
 use std::alloc::Global;
 use std::marker::Model;
@@ -118,6 +119,15 @@ impl<O: Operator> Attempt<O> {
             → option_copied result ≡ value_at O.Key.cmp entries key.now }
     {
         self.tasks.get(task as usize)?.state(key)
+    }
+
+    /// An operator's states, for a reader, who may keep them however they are written here. `None`
+    /// where they are not ready for that. It takes no memory.
+    pub fn lend(&self, task: u32) -> Option<LentStates<O::Key, O::State>>
+        ensures { IfSome result (λ lent. slice_get self.now.tasks task
+            ≡ Some (Holding.Operator lent)) }
+    {
+        self.tasks.get(task as usize)?.lend()
     }
 
     /// The item that stands first in a channel.

@@ -15,6 +15,7 @@ ghost use Rattle.job_state.specs.Held.{Keeps};
 use crate::holding::Holding;
 use abs_codec::{Codec, Items, NoMemory};
 use commit_sink::Sink;
+use keyed_state::LentStates;
 use operator_state::OperatorState;
 use operators::Operator;
 use std::alloc::Global;
@@ -123,6 +124,17 @@ impl<R: Codec, K: Codec + Ord, S: Codec> Task<R, K, S> {
         match &self.kind {
             Kind::Source(_, _) => None,
             Kind::Operator(states) => states.get(key),
+            Kind::Sink(_, _) => None,
+        }
+    }
+
+    /// An operator's states, for a reader.
+    pub(crate) fn lend(&self) -> Option<LentStates<K, S>>
+        ensures { IfSome result (λ lent. self.now.holding ≡ Holding.Operator lent) }
+    {
+        match &self.kind {
+            Kind::Source(_, _) => None,
+            Kind::Operator(states) => states.lend(),
             Kind::Sink(_, _) => None,
         }
     }

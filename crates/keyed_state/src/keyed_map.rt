@@ -10,7 +10,8 @@ ghost use Rattle.keyed_state.specs.KeyedMap.{entries_above, frozen_entries};
 ghost use Rattle.keyed_state.specs.Overlay.{put_over};
 ghost use Rattle.keyed_state.specs.Putting.{has_key};
 
-use crate::putting::{put_all, put_all_in, put_in_both};
+use crate::lending::{Lendable, Lent};
+use crate::putting::{insert_in, put_all, put_all_in, put_in_both};
 use abs_codec::{Codec, CodecFault, Map, NoMemory};
 use std::alloc::Global;
 use std::collections::BTreeMap;
@@ -22,7 +23,7 @@ use std::ops::Bound;
 #[derive(Drop)]
 pub struct KeyedState<K: Ord, S> {
     /// The map as it was at `freeze`, or as it is but for what is in the overlay.
-    base: Map<K, S>,
+    base: Lendable<Map<K, S>>,
     /// What was written since `freeze`, and is not merged yet.
     overlay: BTreeMap<K, S>,
     /// How many keys the map has that is seen.
@@ -47,6 +48,29 @@ impl<K: Ord, S> Model for KeyedState<K, S> {
     ghost invariant = { λ k. IsLaidOver K.cmp k.base k.overlay.entries k.len };
 }
 
+/// The states as they were when they were lent.
+#[derive(Drop)]
+pub struct LentStates<K: Ord, S> {
+    base: Lent<Map<K, S>>,
+}
+
+impl<K: Ord, S> Model for LentStates<K, S> {
+    ghost use Rattle.std.specs.Prelude.{List};
+
+    ghost Value = { List (K × S) };
+
+    ghost view = { λ l. l.base };
+}
+
+impl<K: Ord, S> LentStates<K, S> {
+    /// The state at a key.
+    pub fn get(&self, key: &K) -> Option<&S>
+        ensures { option_copied result ≡ value_at K.cmp self.now key.now }
+    {
+        self.base.value().get(key)
+    }
+}
+
 impl<K: Ord, S> KeyedState<K, S> {
     /// An empty map. It takes no memory.
     pub fn new(alloc: Global) -> Self
@@ -61,7 +85,7 @@ impl<K: Ord, S> KeyedState<K, S> {
     {
         let len = map.len();
         KeyedState {
-            base: map,
+            base: Lendable::new(map),
             overlay: BTreeMap::new(alloc),
             len,
             is_frozen: false,
@@ -91,7 +115,7 @@ impl<K: Ord, S> KeyedState<K, S> {
     {
         match self.overlay.get(key) {
             Some(state) => Some(state),
-            None => self.base.get(key),
+            None => self.base.value().get(key),
         }
     }
 
@@ -103,60 +127,8 @@ impl<K: Ord, S> KeyedState<K, S> {
         if self.get(key).is_some() {
             return self.len;
         }
-        prove!(self.len <= self.base.as_btree_map().len() + self.overlay.len());
+        prove!(self.len <= self.base.value().as_btree_map().len() + self.overlay.len());
         self.len + 1
-    }
-
-    /// Gives the key this state. The frozen map stays.
-    pub fn set(&mut self, key: K, state: S) -> Result<(), NoMemory>
-    where
-        K: Drop,
-        S: Drop,
-        ensures entries { OnOk result
-            (self.new.entries ≡ insert_entry K.cmp self.old.entries key state) }
-        ensures states { OnOk result ((q : K) → value_at K.cmp self.new.entries q
-            ≡ (if is_at (K.cmp key) q then Some state else value_at K.cmp self.old.entries q)) }
-        ensures frozen { self.new.frozen ≡ self.old.frozen }
-        // Only a frozen map has more to merge after it.
-        ensures unmerged { self.new.unmerged
-            ≤ self.old.unmerged + (if is_some self.old.frozen then 1 else 0) }
-        ensures none_merged { self.old.unmerged ≤ self.new.unmerged }
-        ensures ordered { IsStrictlySortedBy K.cmp (keys_of self.new.entries) }
-        ensures err { OnErr result (self.new ≡ self.old) }
-    {
-        if !self.is_frozen && self.overlay.is_empty() {
-            return self.set_alone(key, state);
-        }
-        let len = self.len_with(&key);
-        if self.is_frozen || self.overlay.contains_key(&key) {
-            self.overlay.insert(key, state)?;
-            self.len = len;
-            return Ok(());
-        }
-        self.base.insert(key, state)?;
-        self.len = len;
-        Ok(())
-    }
-
-    /// Gives the key this state, where no other map is kept beside the one that is seen: the key is
-    /// looked up once.
-    fn set_alone(&mut self, key: K, state: S) -> Result<(), NoMemory>
-    where
-        K: Drop,
-        S: Drop,
-        requires none_frozen { self.old.frozen ≡ None }
-        requires none_left { self.old.unmerged ≡ 0 }
-        ensures entries { OnOk result
-            (self.new.entries ≡ insert_entry K.cmp self.old.entries key state) }
-        ensures states { OnOk result ((q : K) → value_at K.cmp self.new.entries q
-            ≡ (if is_at (K.cmp key) q then Some state else value_at K.cmp self.old.entries q)) }
-        ensures stays { self.new ≡ record self.old { entries = self.new.entries } }
-        ensures ordered { IsStrictlySortedBy K.cmp (keys_of self.new.entries) }
-        ensures err { OnErr result (self.new ≡ self.old) }
-    {
-        self.base.insert(key, state)?;
-        self.len = self.base.len();
-        Ok(())
     }
 
     /// Whether there is a frozen map.
@@ -178,7 +150,7 @@ impl<K: Ord, S> KeyedState<K, S> {
         ensures { option_copied result ≡ self.now.frozen }
     {
         if self.is_frozen {
-            Some(&self.base)
+            Some(self.base.value())
         } else {
             None
         }
@@ -201,6 +173,19 @@ impl<K: Ord, S> KeyedState<K, S> {
         }
     }
 
+    /// The states for a reader, who may keep them however they are written here. `None` where the
+    /// map is not ready for that. It takes no memory.
+    pub fn lend(&self) -> Option<LentStates<K, S>>
+        ensures { IfSome result (λ lent. lent ≡ self.now.entries) }
+    {
+        if self.is_frozen || !self.overlay.is_empty() {
+            return None;
+        }
+        Some(LentStates {
+            base: self.base.lend()?,
+        })
+    }
+
     /// Ends the frozen map. It takes no memory, and what was written since stays to be merged.
     pub fn thaw(&mut self)
         ensures { self.new ≡ record self.old { frozen = None } }
@@ -210,6 +195,54 @@ impl<K: Ord, S> KeyedState<K, S> {
 }
 
 impl<K: Codec + Ord, S: Codec> KeyedState<K, S> {
+    /// Gives the key this state. The frozen map stays.
+    pub fn set(&mut self, key: K, state: S) -> Result<(), NoMemory>
+        ensures entries { OnOk result
+            (self.new.entries ≡ insert_entry K.Ord.cmp self.old.entries key state) }
+        ensures states { OnOk result ((q : K) → value_at K.Ord.cmp self.new.entries q
+            ≡ (if is_at (K.Ord.cmp key) q then Some state
+            else value_at K.Ord.cmp self.old.entries q)) }
+        ensures frozen { self.new.frozen ≡ self.old.frozen }
+        // Only a frozen map has more to merge after it.
+        ensures unmerged { self.new.unmerged
+            ≤ self.old.unmerged + (if is_some self.old.frozen then 1 else 0) }
+        ensures none_merged { self.old.unmerged ≤ self.new.unmerged }
+        ensures ordered { IsStrictlySortedBy K.Ord.cmp (keys_of self.new.entries) }
+        ensures err { OnErr result (self.new ≡ self.old) }
+    {
+        if !self.is_frozen && self.overlay.is_empty() {
+            return self.set_alone(key, state);
+        }
+        let len = self.len_with(&key);
+        if self.is_frozen || self.overlay.contains_key(&key) {
+            self.overlay.insert(key, state)?;
+            self.len = len;
+            return Ok(());
+        }
+        insert_in(self.alloc, &mut self.base, key, state)?;
+        self.len = len;
+        Ok(())
+    }
+
+    /// Gives the key this state, where no other map is kept beside the one that is seen: the key is
+    /// looked up once.
+    fn set_alone(&mut self, key: K, state: S) -> Result<(), NoMemory>
+        requires none_frozen { self.old.frozen ≡ None }
+        requires none_left { self.old.unmerged ≡ 0 }
+        ensures entries { OnOk result
+            (self.new.entries ≡ insert_entry K.Ord.cmp self.old.entries key state) }
+        ensures states { OnOk result ((q : K) → value_at K.Ord.cmp self.new.entries q
+            ≡ (if is_at (K.Ord.cmp key) q then Some state
+            else value_at K.Ord.cmp self.old.entries q)) }
+        ensures stays { self.new ≡ record self.old { entries = self.new.entries } }
+        ensures ordered { IsStrictlySortedBy K.Ord.cmp (keys_of self.new.entries) }
+        ensures err { OnErr result (self.new ≡ self.old) }
+    {
+        insert_in(self.alloc, &mut self.base, key, state)?;
+        self.len = self.base.value().len();
+        Ok(())
+    }
+
     /// How many keys there are once these, each there once, have a state.
     fn len_with_all(&self, entries: &[(K, S)]) -> Result<usize, NoMemory>
         ensures len { IfOk result (λ len. len ≡ length self.now.entries
@@ -270,7 +303,7 @@ impl<K: Codec + Ord, S: Codec> KeyedState<K, S> {
         ensures err { OnErr result (self.new ≡ self.old) }
     {
         put_all_in(self.alloc, &mut self.base, entries)?;
-        self.len = self.base.len();
+        self.len = self.base.value().len();
         Ok(())
     }
 
@@ -323,7 +356,7 @@ impl<K: Codec + Ord, S: Codec> KeyedState<K, S> {
     {
         if let Some((key, later)) = self.overlay.first_key_value() {
             let (key, later) = (key.copied()?, later.copied()?);
-            self.base.insert(key, later)?;
+            insert_in(self.alloc, &mut self.base, key, later)?;
             let _merged = self.overlay.pop_first();
         }
         Ok(())
@@ -338,7 +371,7 @@ impl<K: Codec + Ord, S: Codec> KeyedState<K, S> {
         ensures err { OnErr result (self.new ≡ self.old) }
     {
         if !self.overlay.is_empty() {
-            self.base = self.whole()?;
+            self.base = Lendable::new(self.whole()?);
             self.overlay.clear();
         }
         Ok(())
@@ -348,7 +381,7 @@ impl<K: Codec + Ord, S: Codec> KeyedState<K, S> {
     fn whole(&self) -> Result<Map<K, S>, NoMemory>
         ensures { IfOk result (λ map. map ≡ self.now.entries) }
     {
-        let mut whole = self.base.copied()?;
+        let mut whole = self.base.value().copied()?;
         for (key, state) in &self.overlay {
             whole.insert(key.copied()?, state.copied()?)?;
         }
@@ -365,7 +398,7 @@ impl<K: Codec + Ord, S: Codec> KeyedState<K, S> {
             → (f ≡ CodecFault.TooLong) × ¬ ⟦<Map<K, S> as Codec>⟧.HasSpelling self.now.entries) }
     {
         if self.overlay.is_empty() {
-            return self.base.encode(out);
+            return self.base.value().encode(out);
         }
         let whole = self.whole()?;
         whole.encode(out)

@@ -25,6 +25,7 @@
 #![tactic(auto)]
 
 mod keyed_map;
+mod lending;
 mod putting;
 
-pub use keyed_map::KeyedState;
+pub use keyed_map::{KeyedState, LentStates};

@@ -1,12 +1,14 @@
 //! Several entries that are put into a map at once, or none of them.
 
-ghost use Rattle.std.specs.Prelude.{◌≡◌, ◌+◌, ◌<◌, length, vec_len, vec_capacity, OnOk, OnErr};
+ghost use Rattle.std.specs.Prelude.{◌≡◌, ◌+◌, ◌<◌, length, vec_len, vec_capacity, Some, OnOk, OnErr, IfOk, if◌then◌else◌};
 ghost use Rattle.std.specs.List.Sorted.{IsStrictlySortedBy};
 ghost use Rattle.std.specs.Map.{keys_of};
-ghost use Rattle.std.specs.BTreeMap.{insert_entry};
+ghost use Rattle.std.specs.BTreeMap.{insert_entry, is_at};
+ghost use Rattle.abs_codec.specs.Entries.{value_at};
 ghost use Rattle.keyed_state.specs.Overlay.{put_over};
 ghost use Rattle.keyed_state.specs.Putting.{with_former, undone};
 
+use crate::lending::Lendable;
 use abs_codec::{Codec, Map, NoMemory};
 use std::alloc::Global;
 use std::collections::BTreeMap;
@@ -100,19 +102,63 @@ pub(crate) fn put_all<K: Codec + Ord, S: Drop>(
     done
 }
 
-/// Gives each of these keys its state, or none of them where memory is refused. The map itself is
-/// not copied.
-pub(crate) fn put_all_in<K: Codec + Ord, S: Drop>(
+/// The map, to be written and put back, or a copy of it where others read it. At an `Err` it stays
+/// in its place.
+fn taken<K: Codec + Ord, S: Codec>(
     alloc: Global,
-    map: &mut Map<K, S>,
+    map: &mut Lendable<Map<K, S>>,
+) -> Result<Map<K, S>, NoMemory>
+    ensures ok { IfOk result (λ own. own ≡ map.old) }
+    ensures err { OnErr result (map.new ≡ map.old) }
+{
+    match replace(map, Lendable::new(Map::new(alloc))).into_value() {
+        Ok(own) => Ok(own),
+        Err(shared) => {
+            let copy = shared.value().copied();
+            *map = shared;
+            copy
+        }
+    }
+}
+
+/// Gives the key this state.
+pub(crate) fn insert_in<K: Codec + Ord, S: Codec>(
+    alloc: Global,
+    map: &mut Lendable<Map<K, S>>,
+    key: K,
+    state: S,
+) -> Result<(), NoMemory>
+    ensures entries { OnOk result (map.new ≡ insert_entry K.Ord.cmp map.old key state) }
+    ensures states { OnOk result ((q : K) → value_at K.Ord.cmp map.new q
+        ≡ (if is_at (K.Ord.cmp key) q then Some state else value_at K.Ord.cmp map.old q)) }
+    ensures ordered { OnOk result (IsStrictlySortedBy K.Ord.cmp (keys_of map.new)) }
+    ensures err { OnErr result (map.new ≡ map.old) }
+{
+    let mut own = taken(alloc, map)?;
+    let done = own.insert(key, state);
+    *map = Lendable::new(own);
+    done?;
+    Ok(())
+}
+
+/// A map that takes so many entries at once is made ready to be lent.
+const MANY: usize = 16;
+
+/// Gives each of these keys its state, or none of them where memory is refused. The map itself is
+/// not copied where nobody reads it.
+pub(crate) fn put_all_in<K: Codec + Ord, S: Codec>(
+    alloc: Global,
+    map: &mut Lendable<Map<K, S>>,
     entries: Vec<(K, S)>,
 ) -> Result<(), NoMemory>
     ensures ok { OnOk result (map.new ≡ put_over K.Ord.cmp map.old entries.items) }
     ensures err { OnErr result (map.new ≡ map.old) }
 {
-    let mut tree = replace(map, Map::new(alloc)).into_btree_map();
+    let is_many = entries.len() >= MANY;
+    let mut tree = taken(alloc, map)?.into_btree_map();
     let done = put_all(alloc, &mut tree, entries);
-    *map = Map::from_btree_map(alloc, tree);
+    let own = Lendable::new(Map::from_btree_map(alloc, tree));
+    *map = if is_many { own.ready(alloc) } else { own };
     done
 }
 
@@ -154,9 +200,9 @@ fn put_both_noting<K: Codec + Ord, S: Drop>(
 
 /// Gives each of these keys its state, or none of them where memory is refused: in the overlay
 /// where it has the key, else in the base.
-pub(crate) fn put_in_both<K: Codec + Ord, S: Drop>(
+pub(crate) fn put_in_both<K: Codec + Ord, S: Codec>(
     alloc: Global,
-    base: &mut Map<K, S>,
+    base: &mut Lendable<Map<K, S>>,
     overlay: &mut BTreeMap<K, S>,
     entries: Vec<(K, S)>,
 ) -> Result<(), NoMemory>
@@ -172,12 +218,12 @@ pub(crate) fn put_in_both<K: Codec + Ord, S: Drop>(
 {
     let mut below = Vec::new(alloc);
     let mut above = Vec::new(alloc);
-    let mut tree = replace(base, Map::new(alloc)).into_btree_map();
+    let mut tree = taken(alloc, base)?.into_btree_map();
     let done = put_both_noting(&mut tree, overlay, &mut below, &mut above, entries);
     if done.is_err() {
         undo(&mut tree, below);
         undo(overlay, above);
     }
-    *base = Map::from_btree_map(alloc, tree);
+    *base = Lendable::new(Map::from_btree_map(alloc, tree));
     done
 }

@@ -1,6 +1,6 @@
 //! States by key, and the copy for the pending checkpoint as far as it is spelled.
 
-ghost use Rattle.std.specs.Prelude.{◌≡◌, ◌≤◌, ◌+◌, ◌-◌, ◌++◌, ℕ, List, [], take, drop, length, is_some, Some, None, IsTrue, IsOk, OnOk, OnErr, IfOk, if◌then◌else◌};
+ghost use Rattle.std.specs.Prelude.{◌≡◌, ◌≤◌, ◌+◌, ◌-◌, ◌++◌, ℕ, List, [], take, drop, length, is_some, Some, None, IsTrue, IsOk, OnOk, OnErr, IfOk, IfSome, if◌then◌else◌};
 ghost use Rattle.std.specs.Option.{option_copied, option_or};
 ghost use Rattle.std.specs.List.Sorted.{IsStrictlySortedBy};
 ghost use Rattle.std.specs.List.{All, flat_map};
@@ -14,7 +14,7 @@ ghost use Rattle.task_part.specs.declared.part.Part.TheVariants as Part;
 ghost use Rattle.task_part.specs.Spelling.{logs_now, part_spelling, PartIsSpelled};
 
 use abs_codec::{Codec, Map, NoMemory};
-use keyed_state::KeyedState;
+use keyed_state::{KeyedState, LentStates};
 use std::alloc::Global;
 use std::marker::Model;
 use task_part::{write_count, write_logs};
@@ -154,6 +154,14 @@ impl<K: Codec + Ord, S: Codec> OperatorState<K, S> {
         ensures { option_copied result ≡ value_at K.Ord.cmp self.now.entries key.now }
     {
         self.states.get(key)
+    }
+
+    /// The states that are seen, for a reader, who may keep them however they are written here.
+    /// `None` where they are not ready for that. It takes no memory.
+    pub fn lend(&self) -> Option<LentStates<K, S>>
+        ensures { IfSome result (λ lent. lent ≡ self.now.entries) }
+    {
+        self.states.lend()
     }
 
     /// Gives the key this state. The copy stays.

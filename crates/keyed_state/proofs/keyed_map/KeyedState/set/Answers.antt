@@ -33,14 +33,14 @@ returns-then-self-clause-ordered g c = put_over-rises g.met.K.Ord.total c.self.i
 
 below : goal.returns-clause-entries
 below g c =
-    seen_below g.met.K.Ord.total c.self.inside.base c.self.inside.overlay.entries c.args.self.now.entries c.args.key c.args.state (ap (λ m. m.entries) c.self.view_is) c.insert-2.new.self (sym c.contains_key.ensures ∙ c.if-contains_key.false) c.in_ok-insert-2.ensures.entries
+    seen_below g.met.K.Ord.total c.self.inside.base c.self.inside.overlay.entries c.args.self.now.entries c.args.key c.args.state (ap (λ m. m.entries) c.self.view_is) c.insert_in.new.map (sym c.contains_key.ensures ∙ c.if-contains_key.false) c.in_ok-insert_in.ensures.entries
 
-pub returns-in_err-insert-2-clause-ordered : goal.returns-in_err-insert-2-clause-ordered
-returns-in_err-insert-2-clause-ordered g c = put_over-rises g.met.K.Ord.total c.insert-2.new.self c.self.inside.overlay.entries c.insert-2.ensures.ordered
+pub returns-in_err-insert_in-clause-ordered : goal.returns-in_err-insert_in-clause-ordered
+returns-in_err-insert_in-clause-ordered g c = rw c.in_err-insert_in.ensures.err (put_over-rises g.met.K.Ord.total c.self.inside.base c.self.inside.overlay.entries c.self.invariant.base_rises)
 
 pub invariant_of-self-2 : goal.invariant_of-self-2
 invariant_of-self-2 g c = record {
-  base_rises = c.insert-2.ensures.ordered;
+  base_rises = c.in_ok-insert_in.ensures.ordered;
   overlay_rises = c.self.invariant.overlay_rises;
   counted = counted_after g.met.K.Ord.total c.self.inside.base c.self.inside.overlay.entries c.args.self.now.entries c.args.key c.args.state (ap (λ m. m.entries) c.self.view_is) c.len_with-len.result _ c.self.invariant.base_rises c.len_with-len.ensures (below g c);
 }
@@ -53,4 +53,4 @@ returns-clause-states g c = λ q.
     ap (λ es. value_at g.K.Ord.cmp es q) (below g c) ∙ value_at-insert_entry g.met.K.Ord.total c.args.self.now.entries c.args.key c.args.state q
 
 pub returns-clause-ordered : goal.returns-clause-ordered
-returns-clause-ordered g c = put_over-rises g.met.K.Ord.total c.insert-2.new.self c.self.inside.overlay.entries c.insert-2.ensures.ordered
+returns-clause-ordered g c = put_over-rises g.met.K.Ord.total c.insert_in.new.map c.self.inside.overlay.entries c.in_ok-insert_in.ensures.ordered
