@@ -1,6 +1,7 @@
 pub mod Dues
 pub mod Holdings
 pub mod InTurn
+pub mod Keys
 pub mod Leading
 pub mod Places
 pub mod Serving

@@ -1,5 +1,6 @@
 pub mod Carried
 pub mod Due
+pub mod Keys
 pub mod Left
 pub mod Places
 pub mod Tasks

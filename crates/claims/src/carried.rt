@@ -129,13 +129,35 @@ fn outcomes_of<O: Operator>(
     requires { IsOperand ⟦<O as Rules>⟧.all operand.now }
     ensures { IfOk result (IsOutcome O.meaning O.Key.cmp operand.now) }
 {
-    let mut left = places_of(alloc, &operand.states)?;
+    let Some(states) = operand.states.as_map() else {
+        return Err(NoMemory);
+    };
+    let mut left = places_of(alloc, states)?;
     let mut sent = Vec::with_capacity(alloc, operand.rows.len())?;
     for row in &operand.rows {
         work_row(alloc, operand, row, &mut left, &mut sent)?;
     }
     let states = entries_of(alloc, left)?;
     Ok(Outcomes { states, sent })
+}
+
+/// The same work, with states of its own where there is memory for that.
+fn settled<O: Operator>(
+    alloc: Global,
+    operand: Operand<O, O::Key, O::State, O::Record>,
+) -> Operand<O, O::Key, O::State, O::Record>
+    ensures { result ≡ operand }
+{
+    let Operand {
+        operator,
+        states,
+        rows,
+    } = operand;
+    Operand {
+        operator,
+        states: states.settled(alloc),
+        rows,
+    }
 }
 
 /// An operator's work is done.
@@ -146,6 +168,7 @@ fn worked_operand<O: Operator>(
     requires { IsOperand ⟦<O as Rules>⟧.all operand }
     ensures { given_of result ≡ Given.Operator operand }
 {
+    let operand = settled(alloc, operand);
     match outcomes_of(alloc, &operand) {
         Ok(outcomes) => Worked {
             made: Made::Operator(operand, outcomes),

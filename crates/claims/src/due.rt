@@ -11,14 +11,17 @@ ghost use Rattle.job_state.specs.declared.holding.Holding.TheVariants as Holding
 ghost use Rattle.engine_model.specs.Calls.{IsRecordDue};
 ghost use Rattle.engine_model.specs.Keeps.{GateFits, Shape};
 ghost use Rattle.claims.specs.Carried.{AreStatesOf};
+ghost use Rattle.claims.specs.Keys.{states_under};
 ghost use Rattle.claims.specs.Due.{WorksFrom, IsOperandDue, IsRowDue, IsDue};
 
 use crate::inputs::{first_record, input_of};
 use crate::parts::{Given, Operand};
+use crate::states::{Kept, States};
 use abs_codec::Map;
 use engine_model::Rules;
 use job_graph::{Graph, Role};
 use job_state::Attempt;
+use keyed_state::LentStates;
 use operators::Operator;
 
 /// The operator of a number.
@@ -97,11 +100,11 @@ fn has_state<O: Operator>(
     attempt: &Attempt<O>,
     task: u32,
     key: &O::Key,
-    state: &Option<O::State>,
+    state: Option<&O::State>,
 ) -> bool
     ensures { (entries : List (O.Key × O.State))
         → slice_get attempt.now.tasks task ≡ Some (Holding.Operator entries) → IsTrue result
-        ↔ (value_at O.Key.cmp entries key.now ≡ state.now) }
+        ↔ (value_at O.Key.cmp entries key.now ≡ option_copied state.entry) }
 {
     match attempt.state(task, key) {
         Some(found) => match state {
@@ -112,8 +115,8 @@ fn has_state<O: Operator>(
     }
 }
 
-/// Whether a task has these states.
-fn has_states<O: Operator>(
+/// Whether a task has these states, which were copied.
+fn has_copied<O: Operator>(
     attempt: &Attempt<O>,
     task: u32,
     states: &Map<O::Key, Option<O::State>>,
@@ -123,11 +126,47 @@ fn has_states<O: Operator>(
         ↔ AreStatesOf O.Key.cmp entries states.now }
 {
     for (key, state) in states.iter() {
-        if !has_state(attempt, task, key, state) {
+        if !has_state(attempt, task, key, state.as_ref()) {
             return false;
         }
     }
     true
+}
+
+/// Whether a task has the states that these keys have among the entries that were lent.
+fn has_lent<O: Operator>(
+    attempt: &Attempt<O>,
+    task: u32,
+    keys: &[O::Key],
+    lent: &LentStates<O::Key, O::State>,
+) -> bool
+    ensures { (entries : List (O.Key × O.State))
+        → slice_get attempt.now.tasks task ≡ Some (Holding.Operator entries) → IsTrue result
+        ↔ AreStatesOf O.Key.cmp entries (states_under O.Key.cmp lent.now keys.now) }
+{
+    for index in 0..keys.len() {
+        let key = &keys[index];
+        if !has_state(attempt, task, key, lent.get(key)) {
+            return false;
+        }
+    }
+    true
+}
+
+/// Whether a task has these states.
+fn has_states<O: Operator>(
+    attempt: &Attempt<O>,
+    task: u32,
+    states: &States<O::Key, O::State>,
+) -> bool
+    ensures { (entries : List (O.Key × O.State))
+        → slice_get attempt.now.tasks task ≡ Some (Holding.Operator entries) → IsTrue result
+        ↔ AreStatesOf O.Key.cmp entries states.now }
+{
+    match &states.kept {
+        Kept::Copied(states) => has_copied(attempt, task, states),
+        Kept::Lent(keys, lent) => has_lent(attempt, task, keys, lent),
+    }
 }
 
 /// The channel from which a task is to take an operator's records, where that work is due.

@@ -19,6 +19,7 @@ mod inputs;
 mod left;
 mod offers;
 mod parts;
+mod states;
 
 pub use accepts::accept;
 pub use carried::{Work, Worked};
@@ -26,3 +27,4 @@ pub use due::{channel_of, operator_of};
 pub use inputs::input_of;
 pub use offers::{offer, offer_ahead};
 pub use parts::{Given, Made, Operand, Outcomes};
+pub use states::States;

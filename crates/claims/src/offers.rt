@@ -1,99 +1,96 @@
 //! Work is offered.
 
-ghost use Rattle.std.specs.Prelude.{◌≡◌, ◌<◌, ◌≤◌, ◌++◌, ◌∷◌, [], ℕ, List, Some, true, length, take, slice_get, is_some, OnOk, IfOk};
-ghost use Rattle.std.specs.List.Sorted.{IsStrictlySortedBy};
-ghost use Rattle.std.specs.Map.{keys_of};
-ghost use Rattle.abs_codec.specs.Entries.{value_at};
+ghost use Rattle.std.specs.Prelude.{◌≡◌, ◌<◌, ◌≤◌, ◌++◌, ◌∷◌, [], List, Some, length, take, slice_get, OnOk, IfOk};
+ghost use Rattle.std.specs.List.{All, IsAmong};
 ghost use Rattle.channels.specs.Items.{leading_records};
 ghost use Rattle.job_graph.specs.Expanded.{IsExpanded};
 ghost use Rattle.job_graph.specs.PlainGraph.{HaveOperators};
 ghost use Rattle.job_state.specs.Sending.{items_at};
 ghost use Rattle.job_state.specs.declared.holding.Holding.TheVariants as Holding;
 ghost use Rattle.engine_model.specs.Keeps.{Shape};
-ghost use Rattle.claims.specs.Carried.{AreStatesOf, IsCarried};
+ghost use Rattle.claims.specs.Carried.{IsCarried};
 ghost use Rattle.claims.specs.Due.{EndsOffer, EndsOfferAhead};
+ghost use Rattle.claims.specs.Keys.{HasItsKey};
 
 use crate::carried::Work;
 use crate::due::operator_of;
 use crate::inputs::{first_record, free_records, input_of};
 use crate::parts::{Given, Operand};
-use abs_codec::{Codec, Map, NoMemory};
+use crate::states::states_of;
+use abs_codec::{Codec, NoMemory};
 use engine_model::{CoreFault, Rules};
 use job_graph::{Graph, Role};
 use job_state::Attempt;
 use operators::Operator;
 use std::alloc::Global;
 
-/// A copy of the state under a key, if there is one.
-fn state_copied<O: Operator>(
-    attempt: &Attempt<O>,
-    task: u32,
-    key: &O::Key,
-) -> Result<Option<O::State>, NoMemory>
-    ensures { IfOk result (λ state. (entries : List (O.Key × O.State))
-        → slice_get attempt.now.tasks task ≡ Some (Holding.Operator entries)
-        → value_at O.Key.cmp entries key.now ≡ state) }
-{
-    match attempt.state(task, key) {
-        Some(state) => Ok(Some(state.copied()?)),
-        None => Ok(None),
-    }
+/// The first records of a channel, and the keys of those that have one.
+#[derive(Drop)]
+struct Gathered<R, K> {
+    rows: Vec<R>,
+    keys: Vec<K>,
 }
 
-/// The state under a record's key is carried, where it is not carried yet.
-fn carry_state<O: Operator>(
-    attempt: &Attempt<O>,
-    task: u32,
-    key: Option<O::Key>,
-    states: &mut Map<O::Key, Option<O::State>>,
-) -> Result<(), NoMemory>
-    ensures rising { OnOk result (IsStrictlySortedBy O.Key.cmp (keys_of states.old)
-        → IsStrictlySortedBy O.Key.cmp (keys_of states.new)) }
-    ensures stays { OnOk result ((other : O.Key)
-        → is_some (value_at O.Key.cmp states.old other) ≡ true
-        → is_some (value_at O.Key.cmp states.new other) ≡ true) }
-    ensures there { OnOk result ((one : O.Key) → key ≡ Some one
-        → is_some (value_at O.Key.cmp states.new one) ≡ true) }
-    ensures same { OnOk result ((entries : List (O.Key × O.State))
-        → slice_get attempt.now.tasks task ≡ Some (Holding.Operator entries)
-        → AreStatesOf O.Key.cmp entries states.old → AreStatesOf O.Key.cmp entries states.new) }
+/// A key is put last, if there is one.
+fn push_key<K: Drop>(keys: &mut Vec<K>, key: Option<K>) -> Result<(), NoMemory>
+    ensures stay { OnOk result ((q : K) → IsAmong keys.old.items q → IsAmong keys.new.items q) }
+    ensures there { OnOk result ((q : K) → key ≡ Some q → IsAmong keys.new.items q) }
 {
-    let Some(key) = key else {
-        return Ok(());
-    };
-    if states.contains_key(&key) {
-        return Ok(());
+    if let Some(key) = key {
+        keys.push(key)?;
     }
-    let state = state_copied(attempt, task, &key)?;
-    states.insert(key, state)?;
     Ok(())
 }
 
-/// A record is carried too, and the state under its key.
-fn carry_record<O: Operator>(
+/// A record is carried too, and its key, if it has one.
+fn gather_record<O: Operator>(
+    alloc: Global,
+    operator: &O,
+    row: &O::Record,
+    gathered: &mut Gathered<O::Record, O::Key>,
+) -> Result<(), NoMemory>
+    requires { All (HasItsKey O.meaning operator.now gathered.old.keys.items)
+        gathered.old.rows.items }
+    ensures rows { OnOk result (gathered.new.rows.items
+        ≡ gathered.old.rows.items ++ row.now ∷ []) }
+    ensures keys { OnOk result (All (HasItsKey O.meaning operator.now gathered.new.keys.items)
+        gathered.new.rows.items) }
+{
+    push_key(&mut gathered.keys, operator.key(alloc, row)?)?;
+    gathered.rows.push(row.copied()?)?;
+    Ok(())
+}
+
+/// Copies of the first records of a channel, and their keys.
+fn gather<O: Operator>(
     alloc: Global,
     attempt: &Attempt<O>,
-    task: u32,
-    row: &O::Record,
-    operand: &mut Operand<O, O::Key, O::State, O::Record>,
-) -> Result<(), NoMemory>
-    requires { (entries : List (O.Key × O.State))
-        → slice_get attempt.now.tasks task ≡ Some (Holding.Operator entries)
-        → IsCarried O.meaning O.Key.cmp entries operand.old }
-    ensures operator { operand.new.operator ≡ operand.old.operator }
-    ensures rows { OnOk result (operand.new.rows.items ≡ operand.old.rows.items ++ row.now ∷ []) }
-    ensures carried { OnOk result ((entries : List (O.Key × O.State))
-        → slice_get attempt.now.tasks task ≡ Some (Holding.Operator entries)
-        → IsCarried O.meaning O.Key.cmp entries operand.new) }
+    operator: &O,
+    channel: u32,
+    count: usize,
+) -> Result<Gathered<O::Record, O::Key>, NoMemory>
+    requires within { count
+        ≤ length (leading_records (items_at attempt.now.channels channel)) }
+    ensures rows { IfOk result (λ gathered. gathered.rows.items
+        ≡ take count (leading_records (items_at attempt.now.channels channel))) }
+    ensures keys { IfOk result (λ gathered.
+        All (HasItsKey O.meaning operator.now gathered.keys.items) gathered.rows.items) }
 {
-    let key = operand.operator.key(alloc, row)?;
-    carry_state(attempt, task, key, &mut operand.states)?;
-    operand.rows.push(row.copied()?)?;
-    Ok(())
+    let mut gathered = Gathered {
+        rows: Vec::with_capacity(alloc, count)?,
+        keys: Vec::new(alloc),
+    };
+    for index in 0..count {
+        let Some(row) = attempt.record(channel, index) else {
+            return Err(NoMemory);
+        };
+        gather_record(alloc, operator, row, &mut gathered)?;
+    }
+    Ok(gathered)
 }
 
-/// An operator's work on the first records of a channel: one copy each of the operator, of the
-/// records, and of the state under each of their keys.
+/// An operator's work on the first records of a channel: copies of the operator and of the records,
+/// with their keys, and the task's states, lent or copied for each of these keys.
 fn operand_of<O: Operator>(
     alloc: Global,
     attempt: &Attempt<O>,
@@ -111,23 +108,17 @@ fn operand_of<O: Operator>(
         → slice_get attempt.now.tasks task ≡ Some (Holding.Operator entries)
         → IsCarried O.meaning O.Key.cmp entries operand) }
 {
-    let mut operand = Operand {
+    let Gathered { rows, keys } = gather(alloc, attempt, operator, channel, count)?;
+    Ok(Operand {
         operator: operator.copy()?,
-        states: Map::new(alloc),
-        rows: Vec::with_capacity(alloc, count)?,
-    };
-    for index in 0..count {
-        let Some(row) = attempt.record(channel, index) else {
-            return Err(NoMemory);
-        };
-        carry_record(alloc, attempt, task, row, &mut operand)?;
-    }
-    Ok(operand)
+        states: states_of(alloc, attempt, task, keys)?,
+        rows,
+    })
 }
 
 /// Offers the work that a task is to do at an input now: an operator's on the records before the
-/// first barrier, at most so many, and a sink's on one. It copies the operator, the records and the
-/// state under each of their keys, each once, and no more. `K2` comes before `K4`, that before
+/// first barrier, at most so many, and a sink's on one. It copies the operator, the records and
+/// their keys, and the state under each key, once, where the task's states are not lent. `K2` comes before `K4`, that before
 /// `K3`, and `K11` last.
 pub fn offer<O: Operator>(
     alloc: Global,

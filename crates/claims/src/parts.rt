@@ -1,13 +1,13 @@
 //! Work and results as plain data.
 
-use abs_codec::Map;
+use crate::states::States;
 
 /// What an operator works: the first records of an input, and under each of their keys the present
 /// state, `None` where the key has none yet.
 #[derive(Drop)]
 pub struct Operand<O, K: Ord, S, R> {
     pub operator: O,
-    pub states: Map<K, Option<S>>,
+    pub states: States<K, S>,
     pub rows: Vec<R>,
 }
 

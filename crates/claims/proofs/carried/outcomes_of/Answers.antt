@@ -13,7 +13,7 @@ use Rattle.claims.proofs.carried.outcomes_of.Goals as goal
 pub loop-row-init : goal.loop-row-init
 loop-row-init g c = record {
   works = works_from_first g.O.Operator.meaning g.O.Key.Ord.cmp c.args.operand.now (left_at c.in_ok-left.left.items) c.in_ok-sent.sent.items c.in_ok-left.ensures.none c.in_ok-sent.ensures.items;
-  given = c.in_ok-left.ensures.given;
+  given = c.in_ok-left.ensures.given ∙ c.in-Some.ensures;
   good = none_good g.O.Key.Ord.cmp (IsGoodState (Fits g.O.State.Codec.HasSpelling g.O.State.Codec.spelling) g.O.Operator.Suits c.args.operand.now.operator) (left_at c.in_ok-left.left.items) c.in_ok-left.ensures.none;
 }
 

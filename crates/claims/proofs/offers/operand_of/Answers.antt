@@ -1,17 +1,11 @@
-use Rattle.std.proofs.Common.{sym, ap, ◌∙◌}
-use Rattle.std.specs.Option.{option_copied}
-use Rattle.channels.specs.Items.{leading_records}
-use Rattle.job_state.specs.Sending.{items_at}
-use Rattle.claims.proofs.Leading.{taken_more}
+use Rattle.std.proofs.Common.{sym, subst}
+use Rattle.std.specs.List.{All}
+use Rattle.claims.specs.Keys.{HasItsKey}
+use Rattle.claims.proofs.Keys.{carried_under}
 use Rattle.claims.proofs.offers.operand_of.Goals as goal
 
-pub loop-index-preserved : goal.loop-index-preserved
-loop-index-preserved g c =
-    let was = c.loop-index.invariant in
-    let now = c.in_ok-carry_record.ensures in
-    let leading = leading_records (items_at c.args.attempt.now.channels c.args.channel) in
-    record {
-      operator = c.carry_record.ensures.operator ∙ was.operator;
-      rows = taken_more leading c.loop-index.operand.rows.items c.carry_record.new.operand.rows.items c.in-Some.row.now c.loop-index.index (sym c.record.ensures ∙ ap option_copied c.in-Some.is) was.rows now.rows;
-      carried = now.carried;
-    }
+pub returns-clause-carried : goal.returns-clause-carried
+returns-clause-carried g c = λ entries held.
+    let gathered = c.in_ok-rows.field-0 in
+    let keyed = subst (λ operator. All (HasItsKey g.O.Operator.meaning operator gathered.keys.items) gathered.rows.items) (sym c.in_ok-copy.ensures) c.in_ok-rows.ensures.keys in
+    carried_under g.O.Operator.meaning g.O.Key.Ord.cmp g.met.O.Key.Ord.total g.met.O.Operator.key_is_exact entries gathered.keys.items (record { operator = c.in_ok-copy.field-0; states = c.in_ok-states_of.field-0; rows = gathered.rows }) (c.in_ok-states_of.ensures entries held) keyed

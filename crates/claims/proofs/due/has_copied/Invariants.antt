@@ -2,7 +2,7 @@ use Rattle.std.proofs.Common.{◌≡◌, List, Some, slice_get}
 use Rattle.std.specs.List.{All}
 use Rattle.job_state.specs.declared.holding.Holding.TheVariants as holds
 use Rattle.claims.proofs.Working.{Has}
-use Rattle.claims.proofs.due.has_states.Given as goal
+use Rattle.claims.proofs.due.has_copied.Given as goal
 
 -- the task has all these states if it has those that were not met yet, and the other way round
 abbrev pub invariant-loop-key : goal.invariant-loop-key

@@ -5,7 +5,7 @@ use Rattle.std.proofs.lemmas.Map.Iter.{rest_more}
 use Rattle.std.specs.Map.Iter.{deref_pair}
 use Rattle.abs_codec.proofs.Entries.{each_goes_on, some_goes_on, some_here}
 use Rattle.claims.proofs.Working.{Has, same_by_place, place_by_place}
-use Rattle.claims.proofs.due.has_states.Goals as goal
+use Rattle.claims.proofs.due.has_copied.Goals as goal
 
 pub loop-key-preserved : goal.loop-key-preserved
 loop-key-preserved g c =
@@ -15,7 +15,7 @@ loop-key-preserved g c =
     let turn = rest_more deref_pair before after c.next.result (c.in-Some.key, c.in-Some.state) c.in-Some.is c.next.ensures.steps in
     let x = deref_pair (c.in-Some.key, c.in-Some.state) in
     record {
-      each = λ entries held. each_goes_on (Has g.O.Key.Ord.cmp entries) all before after x turn ((c.has_state.ensures entries held).0 c.if-not-has_state.false) (c.loop-key.invariant.each entries held);
+      each = λ entries held. each_goes_on (Has g.O.Key.Ord.cmp entries) all before after x turn ((c.has_state.ensures entries held).0 c.if-not-has_state.false ∙ c.as_ref.ensures.value) (c.loop-key.invariant.each entries held);
       some = λ entries held. some_goes_on (Has g.O.Key.Ord.cmp entries) all before after x turn (c.loop-key.invariant.some entries held);
     }
 
@@ -27,7 +27,7 @@ returns-then-not-has_state g c = λ entries held.
     let turn = rest_more deref_pair before after c.next.result (c.in-Some.key, c.in-Some.state) c.in-Some.is c.next.ensures.steps in
     let x = deref_pair (c.in-Some.key, c.in-Some.state) in (
       λ e. absurd (false≢true e),
-      λ same. absurd (false≢true (sym c.if-not-has_state.true ∙ (c.has_state.ensures entries held).1 (some_here (Has g.O.Key.Ord.cmp entries) all before after x turn (c.loop-key.invariant.some entries held) (place_by_place g.met.O.Operator.key_is_exact entries all c.iter-key-items.ensures.found same)))),
+      λ same. absurd (false≢true (sym c.if-not-has_state.true ∙ (c.has_state.ensures entries held).1 (some_here (Has g.O.Key.Ord.cmp entries) all before after x turn (c.loop-key.invariant.some entries held) (place_by_place g.met.O.Operator.key_is_exact entries all c.iter-key-items.ensures.found same) ∙ sym c.as_ref.ensures.value))),
     )
 
 pub returns : goal.returns
