@@ -56,8 +56,8 @@ fn watched_over<
 ) -> Result<Option<Played>, Fail>
 where
     O::Record: Send,
-    O::Key: Send,
-    O::State: Send,
+    O::Key: Send + Sync,
+    O::State: Send + Sync,
 {
     if operators.len() != graph.operators() as usize || log.count() != graph.sources() {
         return Err(Fail::new("other operators or partitions than the job's"));

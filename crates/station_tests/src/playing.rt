@@ -171,8 +171,8 @@ pub(crate) fn play<
 ) -> Option<Played>
 where
     O::Record: Send,
-    O::Key: Send,
-    O::State: Send,
+    O::Key: Send + Sync,
+    O::State: Send + Sync,
     requires name { blank.name ≡ L.name }
     requires parts { (blank.parts ≡ L.parts) × (L.parts ≡ 65) }
 {

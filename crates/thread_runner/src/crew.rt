@@ -239,8 +239,8 @@ pub fn run<
 ) -> Result<Report, RunFault>
 where
     O::Record: Send,
-    O::Key: Send,
-    O::State: Send,
+    O::Key: Send + Sync,
+    O::State: Send + Sync,
     requires whole { (all.old.parts ≡ L.parts) × (L.parts ≡ 65) }
     ensures parts { all.new.parts ≡ all.old.parts }
     ensures finished { IfOk result (λ r. all.new.amount ≡ all.old.amount + r.finished) }
@@ -277,8 +277,8 @@ pub fn run_batched<
 ) -> Result<Report, RunFault>
 where
     O::Record: Send,
-    O::Key: Send,
-    O::State: Send,
+    O::Key: Send + Sync,
+    O::State: Send + Sync,
     requires whole { (all.old.parts ≡ L.parts) × (L.parts ≡ 65) }
     requires batch { (1 ≤ batch) × (batch ≤ 1024) }
     ensures parts { all.new.parts ≡ all.old.parts }
