@@ -3,9 +3,10 @@ use Rattle.std.proofs.Common.{◌≡◌, ◌<◌, inl, inr, All, Option, Some, N
 use Rattle.std.proofs.lemmas.Option.{same_Some, slice_get-get_or}
 use Rattle.engine_model.specs.AllRules.{AllRules}
 use Rattle.commit_sink.specs.Ledger.{Ledger}
-use Rattle.engine_model.specs.Restart.{IsStart, AreStarts, Takes, before_tasks, EndsRestart}
+use Rattle.engine_model.specs.Restart.{IsStart, AreStarts, Takes, InTurn, before_tasks, Restarts, EndsRestart}
 use Rattle.engine_model.specs.declared.fault.CoreFault.TheVariants as core
 use Rattle.engine_model.proofs.Turns.{up_to_end}
+use Rattle.job_state.specs.Held.{Held, begun}
 use Rattle.job_state.specs.declared.holding.Holding.{Holding}
 use Rattle.engine_model.specs.declared.start.Start.{Start}
 use Rattle.engine_model.specs.declared.start.Start.TheVariants as start
@@ -71,3 +72,15 @@ module _ {R K S O : Type 0} (rules : AllRules R K S O) (graph : Expanded) (opera
     are = are;
     then_ends = record { middle = record { ledger = new; tasks = x.0 }; taken = up_to_end Takes starts (before_tasks old) (record { ledger = new; tasks = x.0 }) done.0; either = inl refl };
   })
+
+  -- all of them have, and the attempt begins with what they hold
+  pub restart_whole : (old new : Ledger) (last number : Option ℕ) (starts : List (Start R K S)) (x : List (Holding K S) × Logs R) (k : Held R K S) → number ≡ last → AreStarts rules graph operators partitions stored last starts
+      → TakeAll old new starts x → k ≡ begun graph x.0 x.1 number → Restarts rules graph operators partitions stored old new number k
+  restart_whole old new last number starts x k same are done is =
+      let tasks : x.0 ≡ k.tasks = sym (ap (λ (h : Held R K S). h.tasks) is) in
+      record {
+        starts = starts;
+        are = subst (λ (l : Option ℕ). AreStarts rules graph operators partitions stored l starts) (sym same) are;
+        take = subst (λ (ts : List (Holding K S)). InTurn Takes starts (before_tasks old) (record { ledger = new; tasks = ts })) tasks done.0;
+        ends = is ∙ (ap (λ (ts : List (Holding K S)). begun graph ts x.1 number) tasks ∙ ap (λ (os : Logs R). begun graph k.tasks os number) done.1);
+      }
