@@ -1,0 +1,2 @@
+mod Joining
+mod Through
