@@ -1,7 +1,7 @@
 -- Lines after lines.
 use Rattle.std.proofs.Common.{◌≡◌, ◌∙◌, ℕ, zero, suc, ◌+◌, ◌-◌, ◌<◌, ◌==◌, Bool, true, false, cond, ◌≢◌, ◌⊎◌, inl, inr, is_none, Option, None, Some, List, [], ◌∷◌, ◌++◌, length, get_or, refl, sym, ap, subst, arith, append_assoc, append-nil}
 use Rattle.std.proofs.lemmas.Bool.{eqb-false, false≢true}
-use Rattle.std.proofs.Math.Option.{some-ne-none}
+use Rattle.std.proofs.lemmas.Option.{none-some}
 use Rattle.std.specs.Io.{IsEmptyOrEndsWith}
 use Rattle.std.specs.Io.BufRead.{take_through, drop_through}
 use Rattle.line_parts.specs.Lines.{items_of, BeginsWithLines, ReadsLines}
@@ -107,5 +107,5 @@ module _ {X : Type 0} (HasItem : List ℕ → Option X → Type 0) where
       by (inl (its, lines, same)) = rw (is, its, same) (both_parts n m all front back items more (is_none next) lines ends first second)
       by (inr (its, lines, same)) = rw (is, its, lines, same) (first_alone n front back items true ends first)
   together text front back n m all items more whole (Some f) next end none_left is ends first second faulty made =
-      let (its, lines, same) = faulty (λ e. absurd (some-ne-none f e)) in
+      let (its, lines, same) = faulty (λ e. absurd (none-some f (sym e))) in
       rw (is, its, lines, same) (first_alone n front back items false ends first)
