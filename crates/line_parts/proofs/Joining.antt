@@ -1,48 +1,11 @@
 -- Lines after lines.
 use Rattle.std.proofs.Common.{◌≡◌, ◌∙◌, ℕ, zero, suc, ◌+◌, ◌-◌, ◌<◌, ◌==◌, Bool, true, false, cond, ◌≢◌, ◌⊎◌, inl, inr, is_none, Option, None, Some, List, [], ◌∷◌, ◌++◌, length, get_or, refl, sym, ap, subst, arith, append_assoc, append-nil}
-use Rattle.std.proofs.lemmas.Bool.{eqb-false, false≢true}
+use Rattle.std.proofs.lemmas.Bool.{false≢true}
 use Rattle.std.proofs.lemmas.Option.{none-some}
 use Rattle.std.specs.Io.{IsEmptyOrEndsWith}
 use Rattle.std.specs.Io.BufRead.{take_through, drop_through}
+use Rattle.line_parts.proofs.Through.{take_front, drop_front, still_ends}
 use Rattle.line_parts.specs.Lines.{items_of, BeginsWithLines, ReadsLines}
-
--- ---- a text whose last line has its end
-
-ends_behind : (x : ℕ) (xs : List ℕ) → IsEmptyOrEndsWith (x ∷ xs) 10 → IsEmptyOrEndsWith xs 10
-ends_behind x [] ends some = absurd (omega (arith, some))
-ends_behind x (y ∷ ys) ends some =
-    let index : suc (length (y ∷ ys)) - 1 ≡ suc (length (y ∷ ys) - 1) = omega arith in
-    sym (ap (λ k. get_or (x ∷ y ∷ ys) k 0) index) ∙ ends (omega arith)
-
-more_behind : (x : ℕ) (xs : List ℕ) → (x == 10) ≡ false → IsEmptyOrEndsWith (x ∷ xs) 10 → 0 < length xs
-more_behind x [] other ends = absurd (eqb-false x 10 other (ends (omega arith)))
-more_behind x (y ∷ ys) other ends = omega arith
-
-take_front : (xs ys : List ℕ) → 0 < length xs → IsEmptyOrEndsWith xs 10 → take_through 10 (xs ++ ys) ≡ take_through 10 xs
-take_front [] ys some ends = absurd (omega (arith, some))
-take_front (x ∷ xs) ys some ends = by (x == 10) refl (λ e. take_front xs ys (more_behind x xs e ends) (ends_behind x xs ends))
-  where
-    by : (b : Bool) → (x == 10) ≡ b → ((x == 10) ≡ false → take_through 10 (xs ++ ys) ≡ take_through 10 xs) → cond b (x ∷ []) (x ∷ take_through 10 (xs ++ ys)) ≡ cond b (x ∷ []) (x ∷ take_through 10 xs)
-    by true e rest = refl
-    by false e rest = ap (λ l. x ∷ l) (rest e)
-
-drop_front : (xs ys : List ℕ) → 0 < length xs → IsEmptyOrEndsWith xs 10 → drop_through 10 (xs ++ ys) ≡ drop_through 10 xs ++ ys
-drop_front [] ys some ends = absurd (omega (arith, some))
-drop_front (x ∷ xs) ys some ends = by (x == 10) refl (λ e. drop_front xs ys (more_behind x xs e ends) (ends_behind x xs ends))
-  where
-    by : (b : Bool) → (x == 10) ≡ b → ((x == 10) ≡ false → drop_through 10 (xs ++ ys) ≡ drop_through 10 xs ++ ys) → cond b (xs ++ ys) (drop_through 10 (xs ++ ys)) ≡ cond b xs (drop_through 10 xs) ++ ys
-    by true e rest = refl
-    by false e rest = rest e
-
-still_ends : (xs : List ℕ) → IsEmptyOrEndsWith xs 10 → IsEmptyOrEndsWith (drop_through 10 xs) 10
-still_ends [] ends = ends
-still_ends (x ∷ xs) ends = by (x == 10) (still_ends xs (ends_behind x xs ends))
-  where
-    by : (b : Bool) → IsEmptyOrEndsWith (drop_through 10 xs) 10 → IsEmptyOrEndsWith (cond b xs (drop_through 10 xs)) 10
-    by true rest = ends_behind x xs ends
-    by false rest = rest
-
--- ---- lines, and those behind them
 
 module _ {X : Type 0} (HasItem : List ℕ → Option X → Type 0) where
   -- what stands behind a text whose last line has its end stands behind its lines

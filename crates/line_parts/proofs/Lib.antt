@@ -1,2 +1,3 @@
 mod Joining
-mod Through
+mod Kept
+pub mod Through

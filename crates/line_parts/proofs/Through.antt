@@ -1,6 +1,8 @@
 -- The first line of a text.
 use Rattle.std.proofs.Common.{◌≡◌, ◌≢◌, ◌∙◌, ℕ, zero, suc, ◌+◌, ◌-◌, ◌<◌, ◌≤◌, ◌==◌, Bool, true, false, cond, List, [], ◌∷◌, ◌++◌, length, get_or, get_or-take, length-take-le, length-drop, take, drop, refl, sym, ap, ap₂, subst, arith, eq-eqb, eqb-true, ne_eqb}
+use Rattle.std.proofs.lemmas.Bool.{eqb-false}
 use Rattle.std.proofs.lemmas.List.{get_or-drop}
+use Rattle.std.specs.Io.{IsEmptyOrEndsWith}
 use Rattle.std.specs.Io.BufRead.{take_through, drop_through}
 
 -- its length, where its end stands at k
@@ -78,3 +80,39 @@ cut_ends text front back at n within is made all some =
     let long : length front ≡ at + n = ap length made ∙ length-take-le (at + n) text (omega (arith, all)) in
     let index : length front - 1 ≡ at + (n - 1) = omega (arith, long, is, one) in
     ap₂ (λ l k. get_or l k 0) made index ∙ get_or-take (at + n) text (at + (n - 1)) 0 (omega (arith, is, one)) ∙ sym (get_or-drop at text (n - 1) 0) ∙ byte
+
+-- ---- a text whose last line has its end
+
+ends_behind : (x : ℕ) (xs : List ℕ) → IsEmptyOrEndsWith (x ∷ xs) 10 → IsEmptyOrEndsWith xs 10
+ends_behind x [] ends some = absurd (omega (arith, some))
+ends_behind x (y ∷ ys) ends some =
+    let index : suc (length (y ∷ ys)) - 1 ≡ suc (length (y ∷ ys) - 1) = omega arith in
+    sym (ap (λ k. get_or (x ∷ y ∷ ys) k 0) index) ∙ ends (omega arith)
+
+more_behind : (x : ℕ) (xs : List ℕ) → (x == 10) ≡ false → IsEmptyOrEndsWith (x ∷ xs) 10 → 0 < length xs
+more_behind x [] other ends = absurd (eqb-false x 10 other (ends (omega arith)))
+more_behind x (y ∷ ys) other ends = omega arith
+
+pub take_front : (xs ys : List ℕ) → 0 < length xs → IsEmptyOrEndsWith xs 10 → take_through 10 (xs ++ ys) ≡ take_through 10 xs
+take_front [] ys some ends = absurd (omega (arith, some))
+take_front (x ∷ xs) ys some ends = by (x == 10) refl (λ e. take_front xs ys (more_behind x xs e ends) (ends_behind x xs ends))
+  where
+    by : (b : Bool) → (x == 10) ≡ b → ((x == 10) ≡ false → take_through 10 (xs ++ ys) ≡ take_through 10 xs) → cond b (x ∷ []) (x ∷ take_through 10 (xs ++ ys)) ≡ cond b (x ∷ []) (x ∷ take_through 10 xs)
+    by true e rest = refl
+    by false e rest = ap (λ l. x ∷ l) (rest e)
+
+pub drop_front : (xs ys : List ℕ) → 0 < length xs → IsEmptyOrEndsWith xs 10 → drop_through 10 (xs ++ ys) ≡ drop_through 10 xs ++ ys
+drop_front [] ys some ends = absurd (omega (arith, some))
+drop_front (x ∷ xs) ys some ends = by (x == 10) refl (λ e. drop_front xs ys (more_behind x xs e ends) (ends_behind x xs ends))
+  where
+    by : (b : Bool) → (x == 10) ≡ b → ((x == 10) ≡ false → drop_through 10 (xs ++ ys) ≡ drop_through 10 xs ++ ys) → cond b (xs ++ ys) (drop_through 10 (xs ++ ys)) ≡ cond b xs (drop_through 10 xs) ++ ys
+    by true e rest = refl
+    by false e rest = rest e
+
+pub still_ends : (xs : List ℕ) → IsEmptyOrEndsWith xs 10 → IsEmptyOrEndsWith (drop_through 10 xs) 10
+still_ends [] ends = ends
+still_ends (x ∷ xs) ends = by (x == 10) (still_ends xs (ends_behind x xs ends))
+  where
+    by : (b : Bool) → IsEmptyOrEndsWith (drop_through 10 xs) 10 → IsEmptyOrEndsWith (cond b xs (drop_through 10 xs)) 10
+    by true rest = ends_behind x xs ends
+    by false rest = rest

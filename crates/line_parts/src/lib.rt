@@ -6,12 +6,12 @@
 //! A short text is read with no other thread.
 #![tactic(auto)]
 
-mod filling;
+mod buffer;
 mod part;
 mod reader;
 mod reading;
 
-pub use filling::{fill, whole_len};
+pub use buffer::LineBuffer;
 pub use part::{Part, PartFault};
 pub use reader::LineReader;
 pub use reading::read_lines;
