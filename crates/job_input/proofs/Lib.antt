@@ -1,4 +1,4 @@
 mod Digits
 mod PlainLines
 mod Putting
-mod Rounds
+mod Texts

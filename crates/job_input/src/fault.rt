@@ -57,6 +57,7 @@ impl From<SourceFault> for LineFault {
 }
 
 impl From<PartFault<LineFault>> for LineFault {
+    ghost use Rattle.job_input.specs.declared.fault.LineFault.{LineFault};
     ghost use Rattle.line_parts.specs.declared.part.PartFault.TheVariants as PartFault;
 
     ghost from_gives = { λ fault e. (fault ≡ PartFault.Memory → e ≡ one.Memory)

@@ -21,7 +21,7 @@ mod rows;
 
 pub use fault::{InputFault, LineFault};
 pub use input::Input;
-pub use job::{JobInput, judge, judge_by};
+pub use job::{JobInput, judge};
 pub use line::{MAX_LINE_BYTES, next_line};
 pub use rounds::read_rows_by;
 pub use rows::{put_line, read_rows, row_of_line};

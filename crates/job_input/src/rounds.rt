@@ -1,6 +1,7 @@
 //! The rows of an input, read by several threads.
 
-ghost use Rattle.std.specs.Prelude.{◌≡◌, ◌≤◌, false, length, take, drop, All, Ok, OnOk, OnSome, IfSome};
+ghost use Rattle.std.specs.Prelude.{◌≡◌, ◌≤◌, ◌++◌, ℕ, List, false, length, take, drop, All, Ok, OnOk, OnSome, IfSome};
+ghost use Rattle.std.specs.Io.{IsEmptyOrEndsWith};
 ghost use Rattle.std.specs.Io.KnownBytes.{IsAtEnd, prepend_known};
 ghost use Rattle.abs_codec.specs.Spelling.{Fits};
 ghost use Rattle.operators.specs.RowSpelling.{RowIsSpelled, row_spelling};
@@ -9,7 +10,7 @@ ghost use Rattle.job_input.specs.Lines.{with_rows, HasRow, PutsFront, PutsRows, 
 use crate::fault::LineFault;
 use crate::input::line_fault;
 use crate::line::is_too_long;
-use crate::rows::{is_blank, row_of_line};
+use crate::rows::{is_blank, read_rows, row_of_line};
 use line_parts::{LineBuffer, LineReader, Part, read_lines};
 use operators::Row;
 use source_log::{MemoryLog, Partitions};
@@ -101,6 +102,31 @@ fn put_lines<R: Threads + Sync>(
     }
 }
 
+/// Puts the rows of the lines that are in the buffer with their ends last in the partition, as
+/// [`put_lines`] does.
+fn put_whole_lines<R: Threads + Sync>(
+    rt: &R,
+    alloc: Global,
+    log: &mut MemoryLog<Row>,
+    partition: u32,
+    buffer: &mut LineBuffer,
+    threads: usize,
+) -> Result<(), (u64, LineFault)>
+    ensures puts { PutsRows partition (⟦<MemoryLog<Row> as Partitions>⟧.records log.old)
+        (⟦<MemoryLog<Row> as Partitions>⟧.records log.new) }
+    ensures text { OnOk result ((text : List ℕ)
+        × (buffer.old.text.items ≡ text ++ buffer.new.text.items) × IsEmptyOrEndsWith text 10
+        × PutsText partition text (⟦<MemoryLog<Row> as Partitions>⟧.records log.old)
+        (⟦<MemoryLog<Row> as Partitions>⟧.records log.new)) }
+{
+    let count = buffer.whole_len();
+    put_lines(rt, alloc, log, partition, buffer, count, threads)?;
+    if is_too_long(&buffer.text) {
+        return Err((buffer.lines.saturating_add(1), LineFault::BadRow));
+    }
+    Ok(())
+}
+
 /// Reads a round of the file, and puts the rows of its lines last in the partition. False: the
 /// file has no more.
 fn put_round<F: BufRead, R: Threads + Sync>(
@@ -119,28 +145,29 @@ fn put_round<F: BufRead, R: Threads + Sync>(
         (prepend_known buffer.new.text.items (F.remaining file.new))
         (⟦<MemoryLog<Row> as Partitions>⟧.records log.old)
         (⟦<MemoryLog<Row> as Partitions>⟧.records log.new)) }
-    ensures end { result ≡ Ok false → OnSome (F.remaining file.old)
+    ensures end { result ≡ Ok false
+        → OnSome (prepend_known buffer.old.text.items (F.remaining file.old))
         (IsAtEnd (prepend_known buffer.new.text.items (F.remaining file.new))) }
 {
-    let filled = buffer.fill(file, ROUND);
-    let count = match &filled {
-        Ok(false) => buffer.text.len(),
-        _ => buffer.whole_len(),
-    };
-    put_lines(rt, alloc, log, partition, buffer, count, threads)?;
-    let next = buffer.lines.saturating_add(1);
-    if is_too_long(&buffer.text) {
-        return Err((next, LineFault::BadRow));
-    }
-    match filled {
-        Ok(more) => Ok(more),
-        Err(error) => Err((next, line_fault(&error))),
+    match buffer.fill(file, ROUND) {
+        Ok(true) => {
+            put_whole_lines(rt, alloc, log, partition, buffer, threads)?;
+            Ok(true)
+        }
+        Ok(false) => {
+            let count = buffer.text.len();
+            put_lines(rt, alloc, log, partition, buffer, count, threads)?;
+            Ok(false)
+        }
+        Err(error) => {
+            put_whole_lines(rt, alloc, log, partition, buffer, threads)?;
+            Err((buffer.lines.saturating_add(1), line_fault(&error)))
+        }
     }
 }
 
-/// Puts the rows of the file last in the partition as [`read_rows`](crate::read_rows) does, but
-/// its lines are read by so many threads, this one included.
-#[tactic(auto, using(crate::proofs::Putting::puts_none, crate::proofs::Putting::puts_more))]
+/// Puts the rows of the file last in the partition as [`read_rows`] does. Its lines are read by so
+/// many threads, this one included.
 pub fn read_rows_by<F: BufRead, R: Threads + Sync>(
     rt: &R,
     alloc: Global,
@@ -156,6 +183,9 @@ pub fn read_rows_by<F: BufRead, R: Threads + Sync>(
         (λ bytes. PutsText partition bytes (⟦<MemoryLog<Row> as Partitions>⟧.records log.old)
         (⟦<MemoryLog<Row> as Partitions>⟧.records log.new))) }
 {
+    if threads < 2 {
+        return read_rows(alloc, log, partition, file, &mut Vec::new(alloc));
+    }
     let mut buffer = LineBuffer::new(alloc);
     for _ in 0..u64::MAX {
         match put_round(rt, alloc, log, partition, file, &mut buffer, threads) {

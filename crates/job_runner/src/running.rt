@@ -9,7 +9,7 @@ use crate::printing::print_by;
 use crate::refusal::{RunRefusal, finish_run};
 use commit_sink::Transactions;
 use dataflow_core::Core;
-use job_input::{Input, JobInput, judge_by};
+use job_input::{Input, JobInput, judge};
 use operators::{Operator, Row};
 use snapshot_store::SnapshotStore;
 use source_log::{MemoryLog, Partitions};
@@ -124,7 +124,7 @@ pub fn run_job<
 ) -> u8
     ensures { result ≤ 1 }
 {
-    let outcome = match judge_by(rt, alloc, job, inputs, options.workers) {
+    let outcome = match judge(rt, alloc, job, inputs, options.workers) {
         Ok(input) => { run_judged::<Brand, R, W>(rt, alloc, input, Blank::new(65), options, out) }
         Err(fault) => Err(RunRefusal::from(fault)),
     };

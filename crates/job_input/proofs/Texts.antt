@@ -1,5 +1,6 @@
 -- The rows of texts that stand one after the other.
-use Rattle.std.proofs.Common.{◌≡◌, ◌∙◌, ◌<◌, ◌≤◌, ℕ, zero, suc, Bool, true, false, Option, None, Some, IfSome, OnSome, List, [], ◌∷◌, ◌++◌, All, length, take, drop, refl, sym, ap, subst, arith, append_assoc, append-nil, take-append-drop, ◌+◌, ◌-◌, get_or, length-append}
+use Rattle.std.proofs.Common.{◌≡◌, ◌∙◌, ◌<◌, ◌≤◌, ℕ, zero, suc, Bool, true, false, Option, None, Some, IfSome, OnSome, List, [], ◌∷◌, ◌++◌, All, length, take, drop, refl, sym, ap, subst, arith, append_assoc, append-nil, take-append-drop, ◌+◌, ◌-◌, get_or, length-append, drop_of_length-le}
+use Rattle.std.proofs.lemmas.List.{get_or-append-add}
 use Rattle.std.proofs.lemmas.List.Elements.{All-nil, All-push, All-append}
 use Rattle.std.specs.Io.{IsEmptyOrEndsWith}
 use Rattle.std.specs.Io.BufRead.{take_through, drop_through}
@@ -77,7 +78,7 @@ none_yet p (Some xs) (y ∷ ys) old none = absurd (omega (arith, none))
 ends_append : (xs ys : List ℕ) → 0 < length ys → IsEmptyOrEndsWith ys 10 → IsEmptyOrEndsWith (xs ++ ys) 10
 ends_append xs ys some ends more =
     let index : length (xs ++ ys) - 1 ≡ length xs + (length ys - 1) = omega (arith, length-append xs ys, some) in
-    ap (λ k. get_or (xs ++ ys) k 0) index ∙ get_or-append xs ys (length ys - 1) 0 ∙ ends some
+    ap (λ k. get_or (xs ++ ys) k 0) index ∙ get_or-append-add xs ys (length ys - 1) 0 ∙ ends some
 
 -- two texts, of which the second may be empty
 both_end : (xs ys zs : List ℕ) → (0 < length (ys ++ zs) → IsEmptyOrEndsWith xs 10) → (0 < length zs → IsEmptyOrEndsWith ys 10) → 0 < length zs → IsEmptyOrEndsWith (xs ++ ys) 10
@@ -97,20 +98,29 @@ more_put p (Some xs) (Some ys) (Some zs) old mid new (front, is, text, ends) (ne
     )
 
 -- all is put where nothing is left
-pub all_put : (p : ℕ) (a b : Option (List ℕ)) (old new : List (List Row)) → PutsFront p a b old new → OnSome a (IsAtEnd b) → IfSome a (λ bytes. PutsText p bytes old new)
-all_put p None b old new front end = tt
-all_put p (Some xs) None old new front end = absurd front
-all_put p (Some xs) (Some ys) old new (text, is, puts, ends) end =
+pub all_put : (p : ℕ) (a b c : Option (List ℕ)) (old mid new : List (List Row)) → PutsFront p a b old mid → PutsFront p b c mid new → OnSome b (IsAtEnd c) → IfSome a (λ bytes. PutsText p bytes old new)
+all_put p None b c old mid new first second end = tt
+all_put p (Some xs) None c old mid new first second end = absurd first
+all_put p (Some xs) (Some ys) None old mid new first second end = absurd second
+all_put p (Some xs) (Some ys) (Some zs) old mid new first second end =
+    let (text, is, puts, ends) = more_put p (Some xs) (Some ys) (Some zs) old mid new first second in
     subst (λ l. PutsText p l old new) (sym (is ∙ ap (λ l. text ++ l) end ∙ append-nil text)) puts
 
--- a round: the text is filled, and its front is put
-pub round : (p count : ℕ) (a b : Option (List ℕ)) (text full : List ℕ) (old new : List (List Row)) → Keeps (prepend_known text a) (prepend_known full b) → PutsText p (take count full) old new
-    → IfSome b (λ ys. 0 < length (drop count full ++ ys) → IsEmptyOrEndsWith (take count full) 10) → PutsFront p (prepend_known text a) (prepend_known (drop count full) b) old new
-round p count None b text full old new kept puts ends = tt
-round p count (Some xs) None text full old new kept puts ends = absurd kept
-round p count (Some xs) (Some ys) text full old new kept puts ends = (
-  take count full,
-  sym kept ∙ ap (λ l. l ++ ys) (sym (take-append-drop count full)) ∙ append_assoc (take count full) (drop count full) ys,
-  puts,
-  ends,
-)
+-- a round: the text is filled, and its whole lines are put
+pub round : (p : ℕ) (a b : Option (List ℕ)) (text full front tail : List ℕ) (old new : List (List Row)) → Keeps (prepend_known text a) (prepend_known full b) → full ≡ front ++ tail
+    → IsEmptyOrEndsWith front 10 → PutsText p front old new → PutsFront p (prepend_known text a) (prepend_known tail b) old new
+round p None b text full front tail old new kept is ends puts = tt
+round p (Some xs) None text full front tail old new kept is ends puts = absurd kept
+round p (Some xs) (Some ys) text full front tail old new kept is ends puts =
+    (front, sym kept ∙ ap (λ l. l ++ ys) is ∙ append_assoc front tail ys, puts, λ some. ends)
+
+-- the last round: all that is there is put
+pub last_round : (p count : ℕ) (a b : Option (List ℕ)) (text full rest : List ℕ) (old new : List (List Row)) → Keeps (prepend_known text a) (prepend_known full b) → OnSome a (IsAtEnd b) → count ≡ length full
+    → rest ≡ drop count full → PutsText p (take count full) old new → PutsFront p (prepend_known text a) (prepend_known rest b) old new × OnSome (prepend_known text a) (IsAtEnd (prepend_known rest b))
+last_round p count None b text full rest old new kept end all left puts = (tt, tt)
+last_round p count (Some xs) None text full rest old new kept end all left puts = absurd kept
+last_round p count (Some xs) (Some ys) text full rest old new kept end all left puts =
+    let nothing : rest ++ ys ≡ [] = ap (λ l. rest ++ l) end ∙ append-nil rest ∙ left ∙ drop_of_length-le full (omega (arith, all)) in
+    let split : text ++ xs ≡ take count full ++ (rest ++ ys) =
+    sym kept ∙ ap (λ l. l ++ ys) (sym (take-append-drop count full) ∙ ap (λ l. take count full ++ l) (sym left)) ∙ append_assoc (take count full) rest ys in
+    ((take count full, split, puts, λ some. absurd (omega (arith, some, ap length nothing))), nothing)
