@@ -1,5 +1,5 @@
 -- The rows of texts that stand one after the other.
-use Rattle.std.proofs.Common.{◌≡◌, ◌∙◌, ◌<◌, ◌≤◌, ℕ, zero, suc, Bool, true, false, Option, None, Some, IfSome, OnSome, List, [], ◌∷◌, ◌++◌, All, length, take, drop, refl, sym, ap, subst, arith, append_assoc, append-nil, take-append-drop, ◌+◌, ◌-◌, get_or, length-append, drop_of_length-le}
+use Rattle.std.proofs.Common.{◌≡◌, ◌∙◌, ◌<◌, ℕ, zero, suc, Option, None, Some, IfSome, OnSome, List, [], ◌∷◌, ◌++◌, All, length, take, drop, refl, sym, ap, subst, arith, append_assoc, append-nil, take-append-drop, ◌+◌, ◌-◌, get_or, length-append, drop_of_length-le}
 use Rattle.std.proofs.lemmas.List.{get_or-append-add}
 use Rattle.std.proofs.lemmas.List.Elements.{All-nil, All-push, All-append}
 use Rattle.std.specs.Io.{IsEmptyOrEndsWith}
@@ -10,7 +10,7 @@ use Rattle.line_parts.specs.Lines.{items_of, BeginsWithLines}
 use Rattle.line_parts.proofs.Through.{take_front, drop_front, still_ends}
 use Rattle.operators.specs.RowSpelling.{RowIsSpelled, row_spelling}
 use Rattle.operators.specs.declared.row.Row.{Row}
-use Rattle.job_input.specs.Lines.{is_blank, row_of_line, with_rows, HasRow, PutsLine, PutsLines, PutsText, PutsFront}
+use Rattle.job_input.specs.Lines.{is_blank, with_rows, HasRow, PutsLine, PutsLines, PutsText, PutsFront}
 use Rattle.job_input.proofs.Putting.{no_rows, more_rows}
 
 -- ---- the rows of a text that was read

@@ -47,11 +47,7 @@ impl LineReader for RowReader {
 }
 
 /// Puts these rows last in the partition.
-fn append_rows(
-    log: &mut MemoryLog<Row>,
-    partition: u32,
-    rows: Vec<Row>,
-) -> Result<(), LineFault>
+fn append_rows(log: &mut MemoryLog<Row>, partition: u32, rows: Vec<Row>) -> Result<(), LineFault>
     requires { All (Fits RowIsSpelled row_spelling) rows.items }
     ensures puts { PutsRows partition (⟦<MemoryLog<Row> as Partitions>⟧.records log.old)
         (⟦<MemoryLog<Row> as Partitions>⟧.records log.new) }

@@ -48,7 +48,9 @@ impl<X: Drop, E: Drop> Part<X, E> {
             return self;
         }
         let Part {
-            mut items, lines, ..
+            mut items,
+            lines,
+            ..
         } = self;
         let Part {
             items: mut more,

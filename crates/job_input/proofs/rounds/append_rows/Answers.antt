@@ -1,4 +1,4 @@
-use Rattle.std.proofs.Common.{◌≡◌, ◌∙◌, ◌∷◌, [], All, sym, ap, subst}
+use Rattle.std.proofs.Common.{◌∙◌, ◌∷◌, [], All, sym, ap, subst}
 use Rattle.std.proofs.lemmas.List.Elements.{All-tail}
 use Rattle.abs_codec.specs.Spelling.{Fits}
 use Rattle.operators.specs.RowSpelling.{RowIsSpelled, row_spelling}

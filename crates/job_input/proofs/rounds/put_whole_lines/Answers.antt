@@ -1,4 +1,4 @@
-use Rattle.std.proofs.Common.{take, drop, sym, ap, ◌++◌, ◌∙◌, take-append-drop}
+use Rattle.std.proofs.Common.{take, sym, ap, ◌++◌, ◌∙◌, take-append-drop}
 use Rattle.job_input.proofs.rounds.put_whole_lines.Goals as goal
 
 pub returns-clause-text : goal.returns-clause-text

@@ -1,6 +1,5 @@
-use Rattle.std.proofs.Common.{◌≡◌, ◌∙◌, ◌+◌, ◌<◌, length, drop, take, sym, ap, subst, arith, rules}
+use Rattle.std.proofs.Common.{◌≡◌, ◌∙◌, ◌<◌, length, drop, take, ap, subst, arith, rules}
 use Rattle.std.specs.Io.BufRead.{take_through, drop_through}
-use Rattle.line_parts.specs.Lines.{items_of, BeginsWithLines}
 use Rattle.line_parts.proofs.Through.{len_within, some_line, take_line, drop_line}
 use Rattle.line_parts.proofs.Joining.{one_more}
 use Rattle.line_parts.proofs.part.read_part.Goals as goal

@@ -1,4 +1,4 @@
-use Rattle.std.proofs.Common.{◌≡◌, ◌∙◌, ◌+◌, ◌≤◌, rules, arith, ap, length}
+use Rattle.std.proofs.Common.{◌∙◌, ◌+◌, ◌≤◌, rules, arith, ap, length}
 use Rattle.std.specs.Io.BufRead.{take_through}
 use Rattle.line_parts.proofs.Through.{len_within, cut_ends}
 use Rattle.line_parts.proofs.reading.cut.Goals as goal
