@@ -105,22 +105,3 @@ all_put p (Some xs) (Some ys) None old mid new first second end = absurd second
 all_put p (Some xs) (Some ys) (Some zs) old mid new first second end =
     let (text, is, puts, ends) = more_put p (Some xs) (Some ys) (Some zs) old mid new first second in
     subst (λ l. PutsText p l old new) (sym (is ∙ ap (λ l. text ++ l) end ∙ append-nil text)) puts
-
--- a round: the text is filled, and its whole lines are put
-pub round : (p : ℕ) (a b : Option (List ℕ)) (text full front tail : List ℕ) (old new : List (List Row)) → Keeps (prepend_known text a) (prepend_known full b) → full ≡ front ++ tail
-    → IsEmptyOrEndsWith front 10 → PutsText p front old new → PutsFront p (prepend_known text a) (prepend_known tail b) old new
-round p None b text full front tail old new kept is ends puts = tt
-round p (Some xs) None text full front tail old new kept is ends puts = absurd kept
-round p (Some xs) (Some ys) text full front tail old new kept is ends puts =
-    (front, sym kept ∙ ap (λ l. l ++ ys) is ∙ append_assoc front tail ys, puts, λ some. ends)
-
--- the last round: all that is there is put
-pub last_round : (p count : ℕ) (a b : Option (List ℕ)) (text full rest : List ℕ) (old new : List (List Row)) → Keeps (prepend_known text a) (prepend_known full b) → OnSome a (IsAtEnd b) → count ≡ length full
-    → rest ≡ drop count full → PutsText p (take count full) old new → PutsFront p (prepend_known text a) (prepend_known rest b) old new × OnSome (prepend_known text a) (IsAtEnd (prepend_known rest b))
-last_round p count None b text full rest old new kept end all left puts = (tt, tt)
-last_round p count (Some xs) None text full rest old new kept end all left puts = absurd kept
-last_round p count (Some xs) (Some ys) text full rest old new kept end all left puts =
-    let nothing : rest ++ ys ≡ [] = ap (λ l. rest ++ l) end ∙ append-nil rest ∙ left ∙ drop_of_length-le full (omega (arith, all)) in
-    let split : text ++ xs ≡ take count full ++ (rest ++ ys) =
-    sym kept ∙ ap (λ l. l ++ ys) (sym (take-append-drop count full) ∙ ap (λ l. take count full ++ l) (sym left)) ∙ append_assoc (take count full) rest ys in
-    ((take count full, split, puts, λ some. absurd (omega (arith, some, ap length nothing))), nothing)
