@@ -1,10 +1,10 @@
 -- The rows of texts that stand one after the other.
-use Rattle.std.proofs.Common.{◌≡◌, ◌∙◌, ◌<◌, ℕ, zero, suc, Option, None, Some, IfSome, OnSome, List, [], ◌∷◌, ◌++◌, All, length, take, drop, refl, sym, ap, subst, arith, append_assoc, append-nil, take-append-drop, ◌+◌, ◌-◌, get_or, length-append, drop_of_length-le}
+use Rattle.std.proofs.Common.{◌≡◌, ◌∙◌, ◌<◌, ℕ, zero, suc, Option, None, Some, IfSome, OnSome, List, [], ◌∷◌, ◌++◌, All, length, refl, sym, ap, subst, arith, append_assoc, append-nil, ◌+◌, ◌-◌, get_or, length-append}
 use Rattle.std.proofs.lemmas.List.{get_or-append-add}
 use Rattle.std.proofs.lemmas.List.Elements.{All-nil, All-push, All-append}
 use Rattle.std.specs.Io.{IsEmptyOrEndsWith}
 use Rattle.std.specs.Io.BufRead.{take_through, drop_through}
-use Rattle.std.specs.Io.KnownBytes.{Keeps, IsAtEnd, prepend_known}
+use Rattle.std.specs.Io.KnownBytes.{IsAtEnd, prepend_known}
 use Rattle.abs_codec.specs.Spelling.{Fits}
 use Rattle.line_parts.specs.Lines.{items_of, BeginsWithLines}
 use Rattle.line_parts.proofs.Through.{take_front, drop_front, still_ends}
