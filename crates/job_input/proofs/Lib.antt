@@ -1,3 +1,4 @@
 mod Digits
 mod PlainLines
 mod Putting
+mod Texts

@@ -6,12 +6,12 @@ use Rattle.source_log.specs.Partitions.{records_at}
 use Rattle.std.specs.Io.BufRead.{take_through, drop_through, DropsThrough}
 use Rattle.job_input.specs.Lines.{is_blank, PutsLine, PutsRows, PutsText}
 
-no_rows : (partitions : List (List Row)) (p : ℕ) → slice_set partitions p (records_at partitions p ++ []) ≡ partitions
+pub no_rows : (partitions : List (List Row)) (p : ℕ) → slice_set partitions p (records_at partitions p ++ []) ≡ partitions
 no_rows [] p = refl
 no_rows (x ∷ xs) zero = ap (λ rows. rows ∷ xs) (append-nil x)
 no_rows (x ∷ xs) (suc p) = ap (λ ys. x ∷ ys) (no_rows xs p)
 
-more_rows : (partitions : List (List Row)) (p : ℕ) (rows more : List Row)
+pub more_rows : (partitions : List (List Row)) (p : ℕ) (rows more : List Row)
     → slice_set (slice_set partitions p (records_at partitions p ++ rows)) p (records_at (slice_set partitions p (records_at partitions p ++ rows)) p ++ more)
     ≡ slice_set partitions p (records_at partitions p ++ (rows ++ more))
 more_rows [] p rows more = refl

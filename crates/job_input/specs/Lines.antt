@@ -1,7 +1,10 @@
 -- The rows of lines.
-use Rattle.std.specs.Prelude.{◌≡◌, ℕ, zero, suc, ◌==◌, ◌||◌, List, [], ◌++◌, Bool, true, false, Result, Ok, slice_set}
+use Rattle.std.specs.Prelude.{◌≡◌, ℕ, zero, suc, ◌==◌, ◌||◌, ◌<◌, length, List, [], ◌++◌, Bool, true, false, Option, None, Some, IfSome, Result, Ok, ⊤, slice_set}
 use Rattle.std.specs.List.{list_all}
+use Rattle.std.specs.Io.{IsEmptyOrEndsWith}
 use Rattle.std.specs.Io.BufRead.{take_through, drop_through}
+use Rattle.abs_codec.specs.Spelling.{Fits}
+use Rattle.operators.specs.RowSpelling.{RowIsSpelled, row_spelling}
 use Rattle.operators.specs.declared.row.Row.{Row}
 use Rattle.script_file.specs.declared.fault.ItemFault.{ItemFault}
 use Rattle.script_file.specs.declared.fault.ItemFault.TheVariants.{Bad}
@@ -36,6 +39,24 @@ PutsLines (suc n) partition bytes old new = (mid : List (List Row)) × PutsLine 
 abbrev pub PutsText : ℕ → List ℕ → List (List Row) → List (List Row) → Type 0
 PutsText partition bytes old new = (n : ℕ) × PutsLines n partition bytes old new
 
+-- the partitions with these rows put last in this one
+abbrev pub with_rows : List (List Row) → ℕ → List Row → List (List Row)
+with_rows partitions partition rows = slice_set partitions partition (records_at partitions partition ++ rows)
+
 -- Rows are put last in this partition, and the others stay as they are.
 abbrev pub PutsRows : ℕ → List (List Row) → List (List Row) → Type 0
-PutsRows partition old new = (rows : List Row) × (new ≡ slice_set old partition (records_at old partition ++ rows))
+PutsRows partition old new = (rows : List Row) × (new ≡ with_rows old partition rows)
+
+-- A blank line has no row, and any other has that of its JSON, which fits.
+abbrev pub HasRow : List ℕ → Option Row → Type 0
+HasRow line row =
+    (is_blank line ≡ true → row ≡ None)
+    × (is_blank line ≡ false → (r : Row) × (row_of_line line ≡ Ok r) × (row ≡ Some r))
+    × IfSome row (Fits RowIsSpelled row_spelling)
+
+-- Known bytes lose a text at their front, whose rows are put last in this partition. What is behind it begins with a line.
+abbrev pub PutsFront : ℕ → Option (List ℕ) → Option (List ℕ) → List (List Row) → List (List Row) → Type 0
+PutsFront partition None rest old new = ⊤
+PutsFront partition (Some xs) None old new = ⊥
+PutsFront partition (Some xs) (Some ys) old new =
+    (text : List ℕ) × (xs ≡ text ++ ys) × PutsText partition text old new × (0 < length ys → IsEmptyOrEndsWith text 10)

@@ -7,6 +7,7 @@ ghost use Rattle.job_input.specs.declared.fault.LineFault.TheVariants as one;
 
 use abs_codec::NoMemory;
 use job_spec::JobFault;
+use line_parts::PartFault;
 use script_file::ItemFault;
 use source_log::SourceFault;
 use thiserror::Error;
@@ -51,6 +52,21 @@ impl From<SourceFault> for LineFault {
         match fault {
             SourceFault::Memory => LineFault::Memory,
             other => LineFault::Source(other),
+        }
+    }
+}
+
+impl From<PartFault<LineFault>> for LineFault {
+    ghost use Rattle.job_input.specs.declared.fault.LineFault.{LineFault};
+    ghost use Rattle.line_parts.specs.declared.part.PartFault.TheVariants as PartFault;
+
+    ghost from_gives = { λ fault e. (fault ≡ PartFault.Memory → e ≡ one.Memory)
+        × ((line : LineFault) → fault ≡ PartFault.Line line → e ≡ line) };
+
+    fn from(fault: PartFault<LineFault>) -> LineFault {
+        match fault {
+            PartFault::Line(fault) => fault,
+            PartFault::Memory => LineFault::Memory,
         }
     }
 }

@@ -5,8 +5,9 @@
 //! in the input's own partition, and no other partition changes; there is a partition for each
 //! source task of the graph that the job expands to.
 //!
-//! Inputs are read line by line through one buffer that is used again, so that memory is bounded
-//! whatever the lines are.
+//! Inputs are read line by line through one buffer that is used again, or by several threads in
+//! rounds of some mebibytes, so that memory is bounded whatever the lines are. What is proved of
+//! both is the same.
 #![tactic(auto)]
 
 mod fault;
@@ -15,10 +16,12 @@ mod job;
 mod line;
 mod number;
 mod plain;
+mod rounds;
 mod rows;
 
 pub use fault::{InputFault, LineFault};
 pub use input::Input;
 pub use job::{JobInput, judge};
 pub use line::{MAX_LINE_BYTES, next_line};
+pub use rounds::read_rows_by;
 pub use rows::{put_line, read_rows, row_of_line};

@@ -57,7 +57,7 @@ fn append_ready<R: BufRead>(file: &mut R, line: &mut Vec<u8>) -> io::Result<bool
 }
 
 /// Whether the line goes on past the bytes that one may have.
-fn is_too_long(line: &[u8]) -> bool {
+pub(crate) fn is_too_long(line: &[u8]) -> bool {
     line.len() as u64 > MAX_LINE_BYTES
         && (line.len() as u64 > MAX_LINE_BYTES + 1 || line.last() != Some(&b'\n'))
 }

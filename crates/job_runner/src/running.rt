@@ -124,7 +124,7 @@ pub fn run_job<
 ) -> u8
     ensures { result ≤ 1 }
 {
-    let outcome = match judge(alloc, job, inputs) {
+    let outcome = match judge(rt, alloc, job, inputs, options.workers) {
         Ok(input) => { run_judged::<Brand, R, W>(rt, alloc, input, Blank::new(65), options, out) }
         Err(fault) => Err(RunRefusal::from(fault)),
     };

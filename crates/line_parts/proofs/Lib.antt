@@ -1,0 +1,3 @@
+mod Joining
+mod Kept
+pub mod Through

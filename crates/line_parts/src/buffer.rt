@@ -1,0 +1,99 @@
+//! What is read of a file and not taken yet.
+
+ghost use Rattle.std.specs.Prelude.{◌≡◌, ◌≤◌, ◌<◌, false, length, take, drop, Ok, OnOk, OnSome};
+ghost use Rattle.std.specs.Io.{IsEmptyOrEndsWith};
+ghost use Rattle.std.specs.Io.KnownBytes.{Keeps, IsAtEnd, prepend_known};
+
+use memchr::memrchr;
+use std::alloc::{AllocError, Global};
+use std::io;
+use std::io::{BufRead, ErrorKind};
+use std::mem::swap;
+
+/// The bytes of a file that were read and not taken yet.
+#[derive(Drop)]
+pub struct LineBuffer {
+    /// The bytes, from the start of a line on.
+    pub text: Vec<u8>,
+    /// How many lines were taken.
+    pub lines: u64,
+    spare: Vec<u8>,
+}
+
+/// Puts what the reader has ready last in the text. False: it is at its end.
+fn append_ready<F: BufRead>(file: &mut F, text: &mut Vec<u8>) -> io::Result<bool>
+    ensures bytes { OnOk result (Keeps (prepend_known text.old.items (F.remaining file.old))
+        (prepend_known text.new.items (F.remaining file.new))) }
+    ensures end { result ≡ Ok false
+        → OnSome (F.remaining file.old) (IsAtEnd (F.remaining file.new)) }
+{
+    let ready = match file.fill_buf() {
+        Ok(ready) => ready,
+        Err(error) => {
+            return if error.kind() == ErrorKind::Interrupted {
+                Ok(true)
+            } else {
+                Err(error)
+            };
+        }
+    };
+    let count = ready.len();
+    text.extend_from_slice(ready)?;
+    file.consume(count);
+    Ok(count > 0)
+}
+
+impl LineBuffer {
+    /// A buffer with no bytes yet.
+    pub fn new(alloc: Global) -> LineBuffer
+        ensures { length result.text.items ≡ 0 }
+    {
+        LineBuffer {
+            text: Vec::new(alloc),
+            lines: 0,
+            spare: Vec::new(alloc),
+        }
+    }
+
+    /// Reads on until so many bytes are there. False: the file has no more.
+    pub fn fill<F: BufRead>(&mut self, file: &mut F, least: usize) -> io::Result<bool>
+        ensures bytes { OnOk result
+            (Keeps (prepend_known self.old.text.items (F.remaining file.old))
+            (prepend_known self.new.text.items (F.remaining file.new))) }
+        ensures end { result ≡ Ok false
+            → OnSome (F.remaining file.old) (IsAtEnd (F.remaining file.new)) }
+    {
+        for _ in 0..u64::MAX {
+            if self.text.len() >= least {
+                return Ok(true);
+            }
+            if !append_ready(file, &mut self.text)? {
+                return Ok(false);
+            }
+        }
+        Ok(true)
+    }
+
+    /// How many bytes the lines have that are there with their ends.
+    pub fn whole_len(&self) -> usize
+        ensures bound { result ≤ length self.now.text.items }
+        ensures end { IsEmptyOrEndsWith (take result self.now.text.items) 10 }
+    {
+        match memrchr(b'\n', &self.text) {
+            Some(at) => at + 1,
+            None => 0,
+        }
+    }
+
+    /// Takes so many bytes from the front, which are so many lines.
+    pub fn take_front(&mut self, count: usize, lines: u64) -> Result<(), AllocError>
+        requires { count ≤ length self.old.text.items }
+        ensures { OnOk result (self.new.text.items ≡ drop count self.old.text.items) }
+    {
+        self.spare.clear();
+        self.spare.extend_from_slice(&self.text[count..])?;
+        swap(&mut self.text, &mut self.spare);
+        self.lines = self.lines.saturating_add(lines);
+        Ok(())
+    }
+}

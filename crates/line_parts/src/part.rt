@@ -1,0 +1,135 @@
+//! What one thread reads.
+
+ghost use Rattle.std.specs.Prelude.{◌≡◌, ◌≢◌, ◌+◌, ◌<◌, ◌≤◌, ◌^◌, ◌++◌, ◌⊎◌, Option, None, Some, is_none, length, OnOk, OnErr};
+ghost use Rattle.std.specs.Io.BufRead.{take_through};
+ghost use Rattle.line_parts.specs.Lines.{items_of, ReadsLines};
+ghost use Rattle.line_parts.specs.declared.part.PartFault.TheVariants as why;
+
+use crate::reader::LineReader;
+use memchr::memchr;
+use std::alloc::{AllocFailed, Global};
+
+/// Why a text is not read to its end.
+#[derive(Debug, Drop)]
+pub enum PartFault<E> {
+    /// A line is not read.
+    Line(E),
+    Memory,
+}
+
+impl<T: Drop, E> From<AllocFailed<T>> for PartFault<E> {
+    fn from(_e: AllocFailed<T>) -> Self {
+        PartFault::Memory
+    }
+}
+
+/// What the lines of a text have, in order, up to the first that is not read.
+#[derive(Drop)]
+pub struct Part<X, E> {
+    pub items: Vec<X>,
+    /// How many lines were read.
+    pub lines: u64,
+    /// Why the line behind them was not.
+    pub fault: Option<PartFault<E>>,
+}
+
+impl<X: Drop, E: Drop> Part<X, E> {
+    /// This part and the one behind it.
+    pub(crate) fn and(self, behind: Part<X, E>) -> Part<X, E>
+        requires { self.lines + behind.lines < 2 ^ 64 }
+        ensures faulty { self.fault ≢ None → result ≡ self }
+        ensures whole { self.fault ≡ None
+            → ((result.items.items ≡ self.items.items ++ behind.items.items)
+            × (result.lines ≡ self.lines + behind.lines) × (result.fault ≡ behind.fault))
+            ⊎ ((result.items.items ≡ self.items.items) × (result.lines ≡ self.lines)
+            × (result.fault ≡ Some why.Memory)) }
+    {
+        if self.fault.is_some() {
+            return self;
+        }
+        let Part {
+            mut items,
+            lines,
+            ..
+        } = self;
+        let Part {
+            items: mut more,
+            lines: count,
+            fault,
+        } = behind;
+        match items.append(&mut more) {
+            Ok(()) => Part {
+                items,
+                lines: lines + count,
+                fault,
+            },
+            Err(_) => Part {
+                items,
+                lines,
+                fault: Some(PartFault::Memory),
+            },
+        }
+    }
+}
+
+/// How many bytes the first line has, with its end.
+pub(crate) fn line_len(text: &[u8]) -> usize
+    ensures { result ≡ length (take_through 10 text.now) }
+{
+    match memchr(b'\n', text) {
+        Some(at) => at + 1,
+        None => text.len(),
+    }
+}
+
+/// Puts what a line has last.
+fn read_line<L: LineReader>(
+    reader: &L,
+    line: &[u8],
+    items: &mut Vec<L::Item>,
+) -> Result<(), PartFault<L::Fault>>
+    ensures ok { OnOk result ((item : Option L.Item) × L.HasItem reader.now line.now item
+        × (items.new.items ≡ items.old.items ++ items_of item)) }
+    ensures err { OnErr result (items.new.items ≡ items.old.items) }
+{
+    let item = match reader.read(line) {
+        Ok(item) => item,
+        Err(fault) => return Err(PartFault::Line(fault)),
+    };
+    if let Some(item) = item {
+        items.push(item)?;
+    }
+    Ok(())
+}
+
+/// What the lines of a text have.
+pub(crate) fn read_part<L: LineReader>(
+    alloc: Global,
+    reader: &L,
+    text: &[u8],
+) -> Part<L::Item, L::Fault>
+    ensures reads { ReadsLines (L.HasItem reader.now) text.now result.lines result.items.items
+        (is_none result.fault) }
+    ensures bound { result.lines ≤ length text.now }
+{
+    let mut items = Vec::new(alloc);
+    let mut lines = 0;
+    let mut rest = text;
+    while !rest.is_empty() {
+        let (line, behind) = rest.split_at(line_len(rest));
+        if let Err(fault) = read_line(reader, line, &mut items) {
+            return Part {
+                items,
+                lines,
+                fault: Some(fault),
+            };
+        }
+        lines += 1;
+        rest = behind;
+    }
+    Part {
+        items,
+        lines,
+        fault: None,
+    }
+}
