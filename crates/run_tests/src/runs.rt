@@ -71,7 +71,13 @@ where
 }
 
 /// The job and its rows, read as the program reads them.
-fn read(alloc: Global, job: &str, rows: &[&str]) -> Result<JobInput, Fail> {
+fn read<R: Threads + Sync>(
+    rt: &R,
+    alloc: Global,
+    job: &str,
+    rows: &[&str],
+    workers: u64,
+) -> Result<JobInput, Fail> {
     let job = Input {
         name: "job",
         file: Ok(job.as_bytes()),
@@ -83,7 +89,7 @@ fn read(alloc: Global, job: &str, rows: &[&str]) -> Result<JobInput, Fail> {
             file: Ok(rows.as_bytes()),
         })?;
     }
-    match judge(alloc, job, inputs) {
+    match judge(rt, alloc, job, inputs, workers) {
         Ok(input) => Ok(input),
         Err(_) => Err(Fail::new("a bad job or row")),
     }
@@ -99,7 +105,7 @@ pub(crate) fn run_job<H: Pause + Sync, R: Threads + Wait + Clock + Sync>(
     pause: &H,
     out: &mut Vec<u8>,
 ) -> Result<Result<Report, RunRefusal<'static>>, Fail> {
-    let JobInput { job, graph, log } = read(alloc, job, rows)?;
+    let JobInput { job, graph, log } = read(rt, alloc, job, rows, how.options.workers)?;
     let operators = job.operators(alloc)?;
     if graph.tasks() == 0 {
         return Err(Fail::new("the job has no task"));

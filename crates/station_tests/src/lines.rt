@@ -22,7 +22,7 @@ const LINE: &str =
     r#"{"vertices":[{"name":"s","kind":"source"},{"name":"plus","kind":"add","n":10},{"name":"out","kind":"sink"}],"edges":[{"from":"s","to":"plus"},{"from":"plus","to":"out"}]}"#;
 
 /// The line and its rows, read as the program reads them.
-fn read(alloc: Global, rows: &str) -> Result<JobInput, Fail> {
+fn read<R: Threads + Sync>(rt: &R, alloc: Global, rows: &str) -> Result<JobInput, Fail> {
     let job = Input {
         name: "job",
         file: Ok(LINE.as_bytes()),
@@ -32,7 +32,7 @@ fn read(alloc: Global, rows: &str) -> Result<JobInput, Fail> {
         name: "rows",
         file: Ok(rows.as_bytes()),
     })?;
-    match judge(alloc, job, inputs) {
+    match judge(rt, alloc, job, inputs, 1) {
         Ok(input) => Ok(input),
         Err(_) => Err(Fail::new("a bad job or row")),
     }
@@ -80,7 +80,7 @@ pub(crate) fn watched<R: Threads + Wait + Clock + Sync>(
     meeting: Meeting,
 ) -> Result<Option<Played>, Fail> {
     let meeting = Arc::new(alloc, meeting)?;
-    let JobInput { job, graph, log } = read(alloc, rows)?;
+    let JobInput { job, graph, log } = read(rt, alloc, rows)?;
     let operators = job.operators(alloc)?;
     let store = MemoryStore::new(alloc, graph.tasks().max(1));
     let sinks = MemoryTransactions::new(alloc, graph.sinks());
