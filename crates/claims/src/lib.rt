@@ -6,10 +6,12 @@
 //! its work is what the task would do now (`K7` where it is not).
 //!
 //! An operator's work carries the records that stand before the first barrier, as many as are asked
-//! for, and of each of their keys the present state, once. A sink's work is one record. With n
-//! records of m keys, offering takes n + m copies, and running and taking take no more; each of
-//! them takes n times a time logarithmic in m, and taking m times one logarithmic in the task's
-//! keys too.
+//! for, and of each of their keys the present state, once. A sink's work is one record. The states
+//! are lent by the task, for reading, or copied where it lends none; those that were lent are copied
+//! when the work is done. With n records of m keys, offering takes n copies of records and of keys,
+//! and of the m states only where none is lent, in the time of n searches among m keys and m among
+//! the task's; running takes no further copy of a record; taking copies nothing, in the time of m
+//! searches among the task's keys.
 #![tactic(auto)]
 
 mod accepts;

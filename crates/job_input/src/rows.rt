@@ -47,6 +47,7 @@ fn row_of_json(alloc: Global, line: &[u8]) -> Result<FittingRow, ItemFault>
 
 /// The row that the JSON text of a line is. A line in the form that rows are printed in is read
 /// with no JSON value between.
+#[inline(always)]
 pub fn row_of_line(alloc: Global, line: &[u8]) -> Result<Row, ItemFault>
     ensures row { FindsItem (λ r. r) result (row_of_line line.now) }
     ensures fits { IfOk result (Fits RowIsSpelled row_spelling) }

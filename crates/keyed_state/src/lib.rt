@@ -21,6 +21,9 @@
 //!   room for two), and of a copy of each key that is new. It sets all of them or, where memory is
 //!   refused, none;
 //! - `merge` of k entries takes k copies of one entry, and k times a time logarithmic in n + m;
+//! - `lend` takes constant time and no memory. It answers the map where nothing is frozen and m is
+//!   0, once 16 entries or more were put at once. Whoever was lent it reads it as it was then: where
+//!   it is written while somebody has it still, it is copied first;
 //! - `encode` takes the time and memory of the spelling, and where m is not 0 a copy of it all.
 #![tactic(auto)]
 

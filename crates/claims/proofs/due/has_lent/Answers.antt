@@ -12,9 +12,9 @@ loop-index-preserved g c =
     let less : c.loop-index.index < length keys = omega arith in
     let at = slice_get_read keys (length keys) c.loop-index.index key refl less c.index-keys-index.is in
     below_more _ _ c.loop-index.invariant (λ entries held k is.
-        let both : Some key ≡ Some k = sym at ∙ is in
-        let same : key ≡ k = cc in
-        subst (λ q. value_at g.O.Key.Ord.cmp entries q ≡ value_at g.O.Key.Ord.cmp c.args.lent.now q) same ((c.has_state.ensures entries held).0 c.if-not-has_state.false ∙ c.get.ensures))
+    let both : Some key ≡ Some k = sym at ∙ is in
+    let same : key ≡ k = cc in
+    subst (λ q. value_at g.O.Key.Ord.cmp entries q ≡ value_at g.O.Key.Ord.cmp c.args.lent.now q) same ((c.has_state.ensures entries held).0 c.if-not-has_state.false ∙ c.get.ensures))
 
 pub returns-then-not-has_state : goal.returns-then-not-has_state
 returns-then-not-has_state g c = λ entries held.

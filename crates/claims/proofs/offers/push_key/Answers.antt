@@ -1,4 +1,4 @@
-use Rattle.std.proofs.Common.{◌≡◌, List, ◌∷◌, [], ◌++◌, sym, ap, subst, ◌∙◌}
+use Rattle.std.proofs.Common.{◌≡◌, ◌∷◌, [], ◌++◌, sym, subst}
 use Rattle.std.specs.List.{IsAmong}
 use Rattle.claims.proofs.Keys.{among_more, among_last}
 use Rattle.claims.proofs.offers.push_key.Goals as goal
