@@ -230,7 +230,8 @@ impl<O: Operator> Work<O> {
 
     /// Does the work: an operator works its records from the first to the last, each in the state
     /// that the former left under its key. It waits for nobody, and copies no record; states that
-    /// were lent are copied once each. What is made carries the work, also where memory was refused.
+    /// were lent are copied once each. What is made carries the work, also where memory was
+    /// refused.
     pub fn run(self, alloc: Global) -> Worked<O>
         ensures { given_of result ≡ self }
     {

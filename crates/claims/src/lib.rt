@@ -8,10 +8,10 @@
 //! An operator's work carries the records that stand before the first barrier, as many as are asked
 //! for, and of each of their keys the present state, once. A sink's work is one record. The states
 //! are lent by the task, for reading, or copied where it lends none; those that were lent are copied
-//! when the work is done. With n records of m keys, offering takes n copies of records and of keys,
-//! and of the m states only where none is lent, in the time of n searches among m keys and m among
-//! the task's; running takes no further copy of a record; taking copies nothing, in the time of m
-//! searches among the task's keys.
+//! when the work is done. With n records of m keys, offering takes n copies of records and of keys.
+//! The states take m copies, n searches among m keys and m among the task's, when they are offered
+//! or, where they are lent, when the work is run. Running copies no record. Taking copies nothing,
+//! in the time of m searches among the task's keys.
 #![tactic(auto)]
 
 mod accepts;

@@ -118,8 +118,8 @@ fn operand_of<O: Operator>(
 
 /// Offers the work that a task is to do at an input now: an operator's on the records before the
 /// first barrier, at most so many, and a sink's on one. It copies the operator, the records and
-/// their keys, and the state under each key, once, where the task's states are not lent. `K2` comes before `K4`, that before
-/// `K3`, and `K11` last.
+/// their keys, and the state under each key, once, where the task's states are not lent. `K2` comes
+/// before `K4`, that before `K3`, and `K11` last.
 pub fn offer<O: Operator>(
     alloc: Global,
     attempt: &Attempt<O>,
