@@ -89,12 +89,12 @@ fn put_bytes<O: Operator, X: Transactions>(
     task: u32,
     input: u32,
     channel: u32,
-    bytes: &[u8],
+    bytes: Vec<u8>,
 ) -> Result<(), CoreFault>
     requires within { input < length (gate_at attempt.old task).inputs }
     requires logs { channel < length attempt.old.logs }
     requires first { (row : O.Record) × IsRecordDue task input attempt.old channel row
-        × (bytes.now ≡ O.Record.spelling row) }
+        × (bytes.items ≡ O.Record.spelling row) }
     requires holds { (sink : Sinking) × (slice_get attempt.old.tasks task
         ≡ Some (Holding.Sink sink)) × (open_refusal (X.state transactions.old)
         sink.open_one ≡ None) }
@@ -131,11 +131,11 @@ fn accept_row<O: Operator, X: Transactions>(
     task: u32,
     input: u32,
     row: &O::Record,
-    bytes: &[u8],
+    bytes: Vec<u8>,
 ) -> Result<(), CoreFault>
     requires serves { (operators : List O) × Serves ⟦<O as Rules>⟧.all
         graph.now operators (X.state transactions.old) attempt.old }
-    requires spelled { bytes.now ≡ O.Record.spelling row.now }
+    requires spelled { bytes.items ≡ O.Record.spelling row.now }
     ensures ends { (operators : List O)
         → EndsTaking ⟦<O as Rules>⟧.lang graph.now operators task input attempt.old attempt.new
         (X.state transactions.old) (X.state transactions.new) (Given.Sink row.now) result }
@@ -182,7 +182,7 @@ pub fn accept<O: Operator, X: Transactions>(
             task,
             input,
             &row,
-            &bytes,
+            bytes,
         ),
         Made::Refused(given) => {
             if is_due(attempt, graph, operators, task, input, &given) {

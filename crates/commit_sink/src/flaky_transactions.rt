@@ -134,7 +134,7 @@ impl<X: FaultlessTransactions> Transactions for FlakyTransactions<X> {
         told(due, self.transactions.begin(subtask))
     }
 
-    fn append(&mut self, transaction: u64, bytes: &[u8]) -> Result<(), TransactionFault> {
+    fn append(&mut self, transaction: u64, bytes: Vec<u8>) -> Result<(), TransactionFault> {
         let due = self.plan.due(TransactionCall::Append.number());
         if due == Some(When::Before) {
             return Err(TransactionFault::Fault);

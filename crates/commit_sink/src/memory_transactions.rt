@@ -358,10 +358,8 @@ impl Transactions for MemoryTransactions {
         Ok(transaction)
     }
 
-    fn append(&mut self, transaction: u64, bytes: &[u8]) -> Result<(), TransactionFault> {
-        let _ = open_place(&self.transactions, transaction)?;
-        let row = Bytes::from_slice(self.alloc, bytes)?;
-        self.append_bytes(transaction, row)
+    fn append(&mut self, transaction: u64, bytes: Vec<u8>) -> Result<(), TransactionFault> {
+        self.append_bytes(transaction, Bytes::from_vec(bytes))
     }
 
     fn pre_commit(&mut self, transaction: u64, checkpoint: u64) -> Result<(), TransactionFault> {

@@ -96,12 +96,12 @@ pub trait Transactions {
             → fault_count self.new ≡ fault_count self.old }
         ensures number { IfOk result (λ n. n ≡ length (state self.old).transactions + 1) };
 
-    /// Puts a record last in an open transaction.
-    fn append(&mut self, transaction: u64, bytes: &[u8]) -> Result<(), TransactionFault>
+    /// Puts a record last in an open transaction, which may keep the vector.
+    fn append(&mut self, transaction: u64, bytes: Vec<u8>) -> Result<(), TransactionFault>
         ensures ends { Ends (state self.old, fault_count self.old)
             (state self.new, fault_count self.new)
             (open_refusal (state self.old) transaction)
-            (appended (state self.old) transaction bytes.now) result }
+            (appended (state self.old) transaction bytes.items) result }
         ensures told { result ≢ Err TransactionFault.Fault
             → fault_count self.new ≡ fault_count self.old };
 
