@@ -154,7 +154,7 @@ impl<L: Ledger> Worker<L> {
         }
         for _ in 0..self.patience.rests() {
             self.patience.rest(rt);
-            if station.lock(rt).is_over() {
+            if is_seen_over(station) {
                 break;
             }
         }
@@ -213,6 +213,21 @@ impl<L: Ledger> Worker<L> {
             ..
         } = self;
         *finished += station.take_batch(share, batch);
+    }
+}
+
+/// Whether the run is over, as far as that is seen: it is not asked while a worker has the lock.
+fn is_seen_over<
+    O: Operator,
+    S: SnapshotStore + Drop,
+    X: Transactions + Drop,
+    P: Partitions<Record = O::Record> + Drop,
+    L: Ledger,
+    W: Wait + Drop,
+>(station: &Mutex<Station<O, S, X, P, L, W>>) -> bool {
+    match station.try_lock() {
+        Some(held) => held.is_over(),
+        None => false,
     }
 }
 

@@ -9,15 +9,17 @@ const YIELDS: u32 = 16;
 /// No wait is longer than 1 microsecond, doubled so often: about a millisecond.
 const LONGEST: u32 = 10;
 
-/// The first rest is as long, and no rest is longer than that, doubled so often: about a quarter of
-/// a second.
+/// The first rest is a millisecond, doubled so often.
+const FIRST: u32 = 4;
+
+/// No rest is longer than a millisecond, doubled so often: about a quarter of a second.
 const RESTS: u32 = 8;
 
 /// A worker that rests looks whether the run is over about every four milliseconds.
 const LOOKS: u32 = 2;
 
 /// So long a worker is watched before it is judged, in microseconds.
-const WATCHED: u64 = 2000;
+const WATCHED: u64 = 1000;
 
 /// Of what a worker does, less than one part of so many with no lock held is not worth a worker.
 const PARTS: u32 = 4;
@@ -49,7 +51,7 @@ impl Patience {
             seen: 0,
             is_alone: false,
             waits: 0,
-            rests: 0,
+            rests: FIRST,
             until: None,
             waited: Duration::ZERO,
             held: Duration::ZERO,
