@@ -55,6 +55,7 @@ fn behind<'a>(text: &'a [u8], front: &[u8]) -> Option<&'a [u8]>
 }
 
 /// The number of 64 bits that is printed so.
+#[inline(always)]
 fn printed_number(text: &[u8]) -> Option<i64>
     ensures printed { IfSome result (λ z. FitsSigned w64 z × (text.now ≡ signed_decimal z)) }
     ensures utf8 { IfSome result (λ _. IsUtf8 text.now) }
@@ -77,6 +78,7 @@ fn printed_number(text: &[u8]) -> Option<i64>
 }
 
 /// The parts of a line `{"k":"..","v":N}`.
+#[inline(always)]
 fn parts_of_line<'a>(line: &'a [u8]) -> Option<(&'a str, i64)>
     ensures { IfSome result (λ row. IsPlainLine line.now row.0.now row.1) }
 {
@@ -97,6 +99,7 @@ fn parts_of_line<'a>(line: &'a [u8]) -> Option<(&'a str, i64)>
 
 /// The key and the number of a line that has no spaces between its parts and no escapes. None:
 /// it may still be a row.
+#[inline(always)]
 pub(crate) fn plain_row<'a>(line: &'a [u8]) -> Option<(&'a str, i64)>
     ensures { IfSome result (λ row. row_of_line line.now ≡ row_with row.0.now row.1) }
 {

@@ -28,6 +28,7 @@ pub(crate) fn is_blank(line: &[u8]) -> bool
 }
 
 /// The row of a key that is short enough.
+#[inline(always)]
 fn row_with(alloc: Global, key: &str, v: i64) -> Result<Row, ItemFault>
     ensures row { FindsItem (λ r. r) result (row_with key.now v) }
     ensures fits { IfOk result (Fits RowIsSpelled row_spelling) }

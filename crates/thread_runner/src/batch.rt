@@ -29,6 +29,7 @@ impl<O: Operator> Batch<O> {
         let Batch { place, job, ahead } = self;
         let done = job.run();
         let mut worked = Vec::new(alloc);
+        let _ = worked.reserve(ahead.len());
         for work in ahead {
             if worked.push(work.run(alloc)).is_err() {
                 break;

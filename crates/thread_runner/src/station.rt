@@ -535,6 +535,9 @@ fn work_ahead<O: Operator, S: SnapshotStore, X: Transactions, P: Partitions<Reco
         let Ok(work) = core.offer_ahead(place.task, place.input, index) else {
             break;
         };
+        if ahead.is_empty() {
+            let _ = ahead.reserve(most as usize);
+        }
         if ahead.push(work).is_err() {
             break;
         }
