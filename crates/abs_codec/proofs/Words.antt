@@ -1,6 +1,6 @@
 -- The order of texts, by their first bytes as one number.
-use Rattle.std.proofs.Common.{◌≡◌, ℕ, zero, suc, ◌+◌, ◌*◌, ◌^◌, ◌<◌, ◌≤◌, List, [], ◌∷◌, length, slice_index as at, refl, sym, ap, ◌∙◌, arith, inl, inr}
-use Rattle.std.specs.Int.{w64, from_be_bytes}
+use Rattle.std.proofs.Common.{◌≡◌, ℕ, zero, suc, ◌+◌, ◌*◌, ◌^◌, ◌<◌, ◌≤◌, List, [], ◌∷◌, ◌++◌, length, take, slice_index as at, refl, sym, ap, ◌∙◌, arith, inl, inr}
+use Rattle.std.specs.Int.{w64, from_be_bytes, to_be_bytes}
 use Rattle.std.specs.Ordering.{nat_cmp, ordering_then, ordering_reverse}
 use Rattle.std.specs.declared.cmp.Ordering.{Ordering}
 use Rattle.std.specs.declared.cmp.Ordering.TheVariants.{Less, Equal, Greater}
@@ -8,6 +8,8 @@ use Rattle.std.specs.Cmp.{nat_cmp_is}
 use Rattle.std.specs.Cmp.Lexicographic.{slice_cmp, nat_list_cmp_total}
 use Rattle.std.proofs.lemmas.Bool.{cases_lt}
 use Rattle.std.proofs.lemmas.Nat.{mul-le}
+use Rattle.std.proofs.Math.Seq.{take-append-add}
+use Rattle.abs_codec.specs.Numbers.{wide64}
 use Rattle.abs_codec.specs.Reading.{IsBytes}
 use Rattle.abs_codec.specs.Words.{leading, IsFirstWord}
 
@@ -90,8 +92,12 @@ by_words xs ys x y f g differ =
 pub short_texts : (xs ys : List ℕ) (x y : ℕ) → IsFirstWord xs x → IsFirstWord ys y → x ≡ y → length xs ≤ 8 → length ys ≤ 8 → nat_cmp (length xs) (length ys) ≡ texts_cmp xs ys
 short_texts xs ys x y f g same short short' = sym (by_lengths 8 xs ys f.bytes g.bytes short short' (sym f.made ∙ same ∙ g.made))
 
+-- the first eight bytes of a text, and zeros past its end
+abbrev eight : List ℕ → List ℕ
+eight xs = at xs 0 ∷ at xs 1 ∷ at xs 2 ∷ at xs 3 ∷ at xs 4 ∷ at xs 5 ∷ at xs 6 ∷ at xs 7 ∷ []
+
 -- the bytes of a text, and zeros past its end, as a number
-pub padded : (xs : List ℕ) → from_be_bytes w64 (at xs 0 ∷ at xs 1 ∷ at xs 2 ∷ at xs 3 ∷ at xs 4 ∷ at xs 5 ∷ at xs 6 ∷ at xs 7 ∷ []) ≡ leading 8 xs
+pub padded : (xs : List ℕ) → from_be_bytes w64 (eight xs) ≡ leading 8 xs
 padded [] = omega arith
 padded (a ∷ []) = omega arith
 padded (a ∷ b ∷ []) = omega arith
@@ -101,3 +107,39 @@ padded (a ∷ b ∷ c ∷ d ∷ e ∷ []) = omega arith
 padded (a ∷ b ∷ c ∷ d ∷ e ∷ f ∷ []) = omega arith
 padded (a ∷ b ∷ c ∷ d ∷ e ∷ f ∷ g ∷ []) = omega arith
 padded (a ∷ b ∷ c ∷ d ∷ e ∷ f ∷ g ∷ h ∷ rest) = omega arith
+
+are_bytes : (xs : List ℕ) → IsBytes xs → IsBytes (eight xs)
+are_bytes xs h zero = h 0
+are_bytes xs h (suc zero) = h 1
+are_bytes xs h (suc (suc zero)) = h 2
+are_bytes xs h (suc (suc (suc zero))) = h 3
+are_bytes xs h (suc (suc (suc (suc zero)))) = h 4
+are_bytes xs h (suc (suc (suc (suc (suc zero))))) = h 5
+are_bytes xs h (suc (suc (suc (suc (suc (suc zero)))))) = h 6
+are_bytes xs h (suc (suc (suc (suc (suc (suc (suc zero))))))) = h 7
+are_bytes xs h (suc (suc (suc (suc (suc (suc (suc (suc i)))))))) = omega arith
+
+front : (xs : List ℕ) → length xs ≤ 8 → take (length xs) (eight xs) ≡ xs
+front [] short = refl
+front (a ∷ []) short = refl
+front (a ∷ b ∷ []) short = refl
+front (a ∷ b ∷ c ∷ []) short = refl
+front (a ∷ b ∷ c ∷ d ∷ []) short = refl
+front (a ∷ b ∷ c ∷ d ∷ e ∷ []) short = refl
+front (a ∷ b ∷ c ∷ d ∷ e ∷ f ∷ []) short = refl
+front (a ∷ b ∷ c ∷ d ∷ e ∷ f ∷ g ∷ []) short = refl
+front (a ∷ b ∷ c ∷ d ∷ e ∷ f ∷ g ∷ h ∷ []) short = refl
+front (a ∷ b ∷ c ∷ d ∷ e ∷ f ∷ g ∷ h ∷ i ∷ rest) short = absurd (omega (arith, short))
+
+-- a text of at most eight bytes is the front of its first word
+pub word_bytes : (xs : List ℕ) (x : ℕ) → IsFirstWord xs x → length xs ≤ 8 → take (length xs) (to_be_bytes w64 x) ≡ xs
+word_bytes xs x f short =
+    let same : x ≡ from_be_bytes w64 (eight xs) = f.made ∙ sym (padded xs) in
+    let spelled : to_be_bytes w64 x ≡ eight xs = ap (to_be_bytes w64) same ∙ wide64.back (eight xs) refl (are_bytes xs f.bytes) in
+    ap (take (length xs)) spelled ∙ front xs short
+
+-- what is left of a head of four bytes and a word behind it, where it is cut inside the word
+pub cut : (kept head word : List ℕ) (end n : ℕ) → length head ≡ 4 → end ≡ length kept + 4 + n → take end (kept ++ (head ++ word)) ≡ kept ++ (head ++ take n word)
+cut kept head word end n four e =
+    let whole : end ≡ length kept + (length head + n) = omega (arith, e, four) in
+    ap (λ k. take k (kept ++ (head ++ word))) whole ∙ take-append-add kept (head ++ word) (length head + n) ∙ ap (λ w. kept ++ w) (take-append-add head word n)

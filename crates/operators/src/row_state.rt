@@ -1,5 +1,9 @@
 //! The states of row operators.
 
+ghost use Rattle.std.specs.Prelude.{◌≡◌, ◌∷◌};
+ghost use Rattle.std.specs.Int.{w64};
+ghost use Rattle.abs_codec.specs.Spelling.{signed_spelling};
+
 use abs_codec::{Codec, CodecFault, Items};
 use std::alloc::Global;
 
@@ -39,6 +43,15 @@ impl RowState {
     }
 }
 
+/// The tag of a number and its bytes, so that they are appended in one step.
+#[inline]
+fn number_bytes(n: i64) -> [u8; 9]
+    ensures { result ≡ 1 ∷ signed_spelling w64 n }
+{
+    let [a, b, c, d, e, f, g, h] = n.to_be_bytes();
+    [1, a, b, c, d, e, f, g, h]
+}
+
 impl Codec for RowState {
     ghost use Rattle.operators.specs.RowSpelling.{StateIsSpelled, state_spelling, state_at};
     ghost use Rattle.operators.specs.RowCode.{state_code};
@@ -52,10 +65,7 @@ impl Codec for RowState {
     fn write(&self, out: &mut Vec<u8>) -> Result<(), CodecFault> {
         match self {
             RowState::Plain => out.push(0)?,
-            RowState::Number(n) => {
-                out.push(1)?;
-                n.write(out)?;
-            }
+            RowState::Number(n) => out.extend_from_slice(&number_bytes(*n))?,
             RowState::Numbers(ns) => {
                 out.push(2)?;
                 ns.write(out)?;
