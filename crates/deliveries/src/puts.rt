@@ -90,8 +90,51 @@ fn deliver_one<O: Operator>(
     Ok(())
 }
 
-/// Which channel each record goes into that a task sends, each record with its port.
-pub fn deliver<O: Operator>(
+/// Adds that a record goes into each channel that takes it from the task's port. The channels of
+/// the first port, which are one run, are given.
+fn deliver_next<O: Operator>(
+    graph: &Graph,
+    task: u32,
+    first: &[u32],
+    port: u32,
+    row: O::Record,
+    puts: &mut Vec<(u32, Item<O::Record>)>,
+) -> Result<(), NoMemory>
+    requires are { first.now ≡ outlets_of graph.now task 0 }
+    requires run { IsRun graph.now.channels first.now 0 (length first.now) }
+    ensures { OnOk result (puts.new.items ≡ puts.old.items
+        ++ deliveries_of_one O.meaning graph.now task (port, row)) }
+{
+    if port != 0 {
+        return deliver_one::<O>(graph, task, port, row, puts);
+    }
+    if let Some(number) = target(graph, first, 0, first.len(), O::lane(&row)) {
+        puts.push((number, Item::Record(row)))?;
+    }
+    Ok(())
+}
+
+/// Which channel each record goes into, where the channels of the task's first port are one run.
+fn deliver_by_run<O: Operator>(
+    alloc: Global,
+    graph: &Graph,
+    task: u32,
+    first: &[u32],
+    sent: Vec<(u32, O::Record)>,
+) -> Result<Vec<(u32, Item<O::Record>)>, NoMemory>
+    requires are { first.now ≡ outlets_of graph.now task 0 }
+    requires run { IsRun graph.now.channels first.now 0 (length first.now) }
+    ensures { IfOk result (λ puts. puts.items ≡ deliveries_of O.meaning graph.now task sent.items) }
+{
+    let mut puts = Vec::with_capacity(alloc, sent.len())?;
+    for (port, row) in sent {
+        deliver_next::<O>(graph, task, first, port, row, &mut puts)?;
+    }
+    Ok(puts)
+}
+
+/// Which channel each record goes into, whatever the channels of the task are.
+fn deliver_each<O: Operator>(
     alloc: Global,
     graph: &Graph,
     task: u32,
@@ -104,6 +147,21 @@ pub fn deliver<O: Operator>(
         deliver_one::<O>(graph, task, port, row, &mut puts)?;
     }
     Ok(puts)
+}
+
+/// Which channel each record goes into that a task sends, each record with its port.
+pub fn deliver<O: Operator>(
+    alloc: Global,
+    graph: &Graph,
+    task: u32,
+    sent: Vec<(u32, O::Record)>,
+) -> Result<Vec<(u32, Item<O::Record>)>, NoMemory>
+    ensures { IfOk result (λ puts. puts.items ≡ deliveries_of O.meaning graph.now task sent.items) }
+{
+    match sole_run(graph, task, 0) {
+        Some(first) => deliver_by_run::<O>(alloc, graph, task, first, sent),
+        None => deliver_each::<O>(alloc, graph, task, sent),
+    }
 }
 
 /// Which channel a record goes into that a task sends on its first port.
