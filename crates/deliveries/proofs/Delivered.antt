@@ -1,5 +1,6 @@
 -- A record that was put into each of its targets.
-use Rattle.std.proofs.Common.{◌≡◌, ◌≤◌, ◌+◌, ℕ, Bool, List, [], ◌∷◌, ◌++◌, length, map, filter, take, drop, Option, Some, sym, ap, ap₂, ◌∙◌, append_assoc}
+use Rattle.std.proofs.Common.{◌≡◌, ◌≤◌, ◌+◌, ℕ, Bool, List, [], ◌∷◌, ◌++◌, length, map, filter, take, drop, Option, Some, None, IfSome, sym, ap, ap₂, ◌∙◌, append_assoc, arith}
+use Rattle.std.specs.Option.{option_to_list}
 use Rattle.std.proofs.Math.Seq.{take-add}
 use Rattle.std.proofs.lemmas.List.{take_all, map_push, append-nil}
 use Rattle.std.proofs.lemmas.List.Elements.{filter-append}
@@ -44,3 +45,17 @@ module _ {R K S O : Type 0} where
   delivered meaning graph task port row items index before puts last are all e =
       e ∙ ap (λ l. before ++ map (λ n. (n, Record row)) (filter (meets (takes (meaning.lane row)) graph.channels) l)) (take_all index items all ∙ are)
       ∙ ap (λ l. before ++ map (λ n. (n, Record row)) l) (sym (targets_are graph task port (meaning.lane row)))
+
+module _ {R K S O : Type 0} (meaning : Meaning R K S O) (graph : Expanded) (task port : ℕ) (row : R) where
+  -- of a port that is one run, what takes the lane are the record's targets
+  pub run_delivers : (numbers found : List ℕ) → numbers ≡ outlets_of graph task port → filter (meets (takes (meaning.lane row)) graph.channels) (take (length numbers) (drop 0 numbers)) ≡ found → deliveries_of_one meaning graph task (port, row) ≡ map (λ n. (n, Record row)) found
+  run_delivers numbers found are is =
+      let all : length numbers ≤ length numbers = omega arith in
+      ap (λ l. map (λ n. (n, Record row)) l)
+      (targets_are graph task port (meaning.lane row) ∙ ap (filter (meets (takes (meaning.lane row)) graph.channels)) (sym are)
+      ∙ ap (filter (meets (takes (meaning.lane row)) graph.channels)) (sym (take_all (length numbers) numbers all)) ∙ is)
+
+  -- where there is one, it has the record
+  pub sole_delivery : (target : Option ℕ) → deliveries_of_one meaning graph task (port, row) ≡ map (λ n. (n, Record row)) (option_to_list target) → IfSome target (λ number. deliveries_of_one meaning graph task (port, row) ++ [] ≡ (number, Record row) ∷ [])
+  sole_delivery None is = tt
+  sole_delivery (Some number) is = append-nil (deliveries_of_one meaning graph task (port, row)) ∙ is

@@ -4,4 +4,4 @@
 
 mod puts;
 
-pub use puts::{barriers, deliver, deliver_row};
+pub use puts::{barriers, deliver, deliver_row, sole_target};

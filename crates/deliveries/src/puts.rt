@@ -1,8 +1,9 @@
 //! What a task sends, by the channels that it goes into.
 
-ghost use Rattle.std.specs.Prelude.{◌≡◌, ◌++◌, ◌∷◌, [], filter, take, drop, OnOk, IfOk};
+ghost use Rattle.std.specs.Prelude.{◌≡◌, ◌++◌, ◌∷◌, [], length, filter, take, drop, OnOk, IfOk, IfSome};
 ghost use Rattle.std.specs.Option.{option_to_list};
-ghost use Rattle.job_graph.specs.Expanded.{meets, takes};
+ghost use Rattle.channels.specs.declared.item.Item.TheVariants.{Record};
+ghost use Rattle.job_graph.specs.Expanded.{meets, takes, outlets_of};
 ghost use Rattle.job_graph.specs.Runs.{IsRun};
 ghost use Rattle.deliveries.specs.Deliveries.{deliveries_of_one, deliveries_of, barriers_of};
 
@@ -27,6 +28,34 @@ fn target(graph: &Graph, numbers: &[u32], place: usize, run: usize, lane: u64) -
     } else {
         None
     }
+}
+
+/// The channels that a task sends on from a port, where they are one run: each record goes into
+/// one of them at most.
+fn sole_run(graph: &Graph, task: u32, port: u32) -> Option<&[u32]>
+    ensures are { IfSome result (λ numbers. numbers.now ≡ outlets_of graph.now task port) }
+    ensures run { IfSome result (λ numbers. IsRun graph.now.channels numbers.now 0
+        (length numbers.now)) }
+{
+    let numbers = graph.outlets(task, port);
+    if numbers.is_empty() {
+        return None;
+    }
+    let run = graph.runs(task, port)[0] as usize;
+    if run < numbers.len() {
+        return None;
+    }
+    Some(numbers)
+}
+
+/// The one channel that a record goes into when a task sends it on a port; `None` where none
+/// takes it, or where the channels of the port are more than one run.
+pub fn sole_target<O: Operator>(graph: &Graph, task: u32, port: u32, row: &O::Record) -> Option<u32>
+    ensures { IfSome result (λ number. deliveries_of O.meaning graph.now task
+        ((port, row.now) ∷ []) ≡ (number, Record row.now) ∷ []) }
+{
+    let numbers = sole_run(graph, task, port)?;
+    target(graph, numbers, 0, numbers.len(), O::lane(row))
 }
 
 /// Adds that a record goes into each channel that takes it from the task's port: the record itself
@@ -61,8 +90,51 @@ fn deliver_one<O: Operator>(
     Ok(())
 }
 
-/// Which channel each record goes into that a task sends, each record with its port.
-pub fn deliver<O: Operator>(
+/// Adds that a record goes into each channel that takes it from the task's port. The channels of
+/// the first port, which are one run, are given.
+fn deliver_next<O: Operator>(
+    graph: &Graph,
+    task: u32,
+    first: &[u32],
+    port: u32,
+    row: O::Record,
+    puts: &mut Vec<(u32, Item<O::Record>)>,
+) -> Result<(), NoMemory>
+    requires are { first.now ≡ outlets_of graph.now task 0 }
+    requires run { IsRun graph.now.channels first.now 0 (length first.now) }
+    ensures { OnOk result (puts.new.items ≡ puts.old.items
+        ++ deliveries_of_one O.meaning graph.now task (port, row)) }
+{
+    if port != 0 {
+        return deliver_one::<O>(graph, task, port, row, puts);
+    }
+    if let Some(number) = target(graph, first, 0, first.len(), O::lane(&row)) {
+        puts.push((number, Item::Record(row)))?;
+    }
+    Ok(())
+}
+
+/// Which channel each record goes into, where the channels of the task's first port are one run.
+fn deliver_by_run<O: Operator>(
+    alloc: Global,
+    graph: &Graph,
+    task: u32,
+    first: &[u32],
+    sent: Vec<(u32, O::Record)>,
+) -> Result<Vec<(u32, Item<O::Record>)>, NoMemory>
+    requires are { first.now ≡ outlets_of graph.now task 0 }
+    requires run { IsRun graph.now.channels first.now 0 (length first.now) }
+    ensures { IfOk result (λ puts. puts.items ≡ deliveries_of O.meaning graph.now task sent.items) }
+{
+    let mut puts = Vec::with_capacity(alloc, sent.len())?;
+    for (port, row) in sent {
+        deliver_next::<O>(graph, task, first, port, row, &mut puts)?;
+    }
+    Ok(puts)
+}
+
+/// Which channel each record goes into, whatever the channels of the task are.
+fn deliver_each<O: Operator>(
     alloc: Global,
     graph: &Graph,
     task: u32,
@@ -75,6 +147,21 @@ pub fn deliver<O: Operator>(
         deliver_one::<O>(graph, task, port, row, &mut puts)?;
     }
     Ok(puts)
+}
+
+/// Which channel each record goes into that a task sends, each record with its port.
+pub fn deliver<O: Operator>(
+    alloc: Global,
+    graph: &Graph,
+    task: u32,
+    sent: Vec<(u32, O::Record)>,
+) -> Result<Vec<(u32, Item<O::Record>)>, NoMemory>
+    ensures { IfOk result (λ puts. puts.items ≡ deliveries_of O.meaning graph.now task sent.items) }
+{
+    match sole_run(graph, task, 0) {
+        Some(first) => deliver_by_run::<O>(alloc, graph, task, first, sent),
+        None => deliver_each::<O>(alloc, graph, task, sent),
+    }
 }
 
 /// Which channel a record goes into that a task sends on its first port.

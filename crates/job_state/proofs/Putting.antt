@@ -2,7 +2,7 @@
 use Rattle.std.proofs.Common.{◌≡◌, ◌<◌, ◌≤◌, ◌+◌, ◌-◌, ◌==◌, ℕ, List, [], ◌∷◌, ◌++◌, length, map, filter, take, drop, get_or, Some, slice_get, slice_set, unwrap_or, All, subst, sym, ap, ◌∙◌, arith, inl, inr}
 use Rattle.std.specs.Option.{option_map, option_map_or}
 use Rattle.std.proofs.lemmas.Bool.Decides.{eqb_tells}
-use Rattle.std.proofs.lemmas.List.{map-set, map-append, append-nil, take_all, set_past, length-map}
+use Rattle.std.proofs.lemmas.List.{map-set, map-append, append-nil, take_all, set_past, length-map, length-set, set-set}
 use Rattle.std.proofs.lemmas.List.Elements.{filter-append}
 use Rattle.std.proofs.lemmas.Option.{slice_get-map}
 use Rattle.channels.specs.Channel.{Contents}
@@ -63,6 +63,18 @@ module _ {R : Type 0} where
       here : items_at (slice_set (contents_items channels) n new.items) n ≡ items_at (contents_items channels) n ++ item ∷ []
       here =
           ap (λ l. items_at l n) (sym (map-set (λ c. c.items) channels n new)) ∙ items_here (slice_set channels n new) n new (get_set_same channels n new within) ∙ ap (λ c. c.items) pushed ∙ ap (λ l. l ++ item ∷ []) (sym (items_here channels n was is))
+
+  -- room was taken in a channel, and an item was put last into it
+  pub put_last : (channels : List (Contents R)) (n : ℕ) (was roomy new : Contents R) (item : Item R) → n < length channels → slice_get channels n ≡ Some was → roomy.items ≡ was.items → new ≡ record { items = roomy.items ++ item ∷ []; room = roomy.room - 1 } →
+      Puts (λ k. put_into k ((n, item) ∷ [])) (contents_items channels) (contents_items (slice_set channels n new))
+  put_last channels n was roomy new item within is same pushed =
+      let between : List (Contents R) = slice_set channels n roomy in
+      let inside : n < length between = omega (arith, within, length-set channels n roomy) in
+      let here = get_set_same channels n roomy within in
+      record {
+        same_length = length-map (slice_set channels n new) (λ c. c.items) ∙ length-set channels n new ∙ sym (length-map channels (λ c. c.items));
+        each = λ k. ap (λ (l : List (Contents R)). items_at (contents_items l) k) (sym (set-set channels n roomy new)) ∙ items_pushed between n roomy new item inside here pushed k ∙ ap (λ (l : List (List (Item R))). items_at l k ++ put_into k ((n, item) ∷ [])) (items_kept channels n was roomy is same);
+      }
 
   -- one channel's room grows, or falls by so much at most
   pub room_moved : (channels : List (Contents R)) (n : ℕ) (was new : Contents R) (by : ℕ) → n < length channels → slice_get channels n ≡ Some was → was.room ≤ new.room + by → (k : ℕ) → room_at channels k ≤ room_at (slice_set channels n new) k + by

@@ -10,7 +10,7 @@ ghost use Rattle.dataflow_model.specs.Machine.{received};
 
 use abs_codec::NoMemory;
 use channels::{Channel, Item};
-use deliveries::{barriers, deliver, deliver_row};
+use deliveries::{barriers, deliver, deliver_row, sole_target};
 use job_graph::Graph;
 use operators::Operator;
 use std::alloc::Global;
@@ -40,6 +40,23 @@ pub(crate) fn push_all<R: Drop>(channels: &mut [Channel<R>], puts: Vec<(u32, Ite
     for (number, item) in puts {
         channels[number as usize].push_reserved(item);
     }
+}
+
+/// Takes the room for an item, and puts it last in its channel.
+fn send_item<R: Drop>(
+    channels: &mut [Channel<R>],
+    number: u32,
+    item: Item<R>,
+) -> Result<(), NoMemory>
+    requires { number < length channels.old }
+    ensures ok { OnOk result (Puts (λ k. put_into k ((number, item) ∷ []))
+        (contents_items channels.old) (contents_items channels.new)) }
+    ensures err { OnErr result (contents_items channels.new ≡ contents_items channels.old) }
+{
+    let channel = &mut channels[number as usize];
+    channel.reserve(1)?;
+    channel.push_reserved(item);
+    Ok(())
 }
 
 /// Which channel each record goes into that a task sends, with the room for them.
@@ -174,6 +191,9 @@ pub(crate) fn send_record<O: Operator>(
         (contents_items channels.old) (contents_items channels.new)) }
     ensures err { OnErr result (contents_items channels.new ≡ contents_items channels.old) }
 {
+    if let Some(number) = sole_target::<O>(graph, task, 0, &row) {
+        return send_item(channels, number, Item::Record(row));
+    }
     let puts = reserve_row::<O>(alloc, channels, graph, task, row)?;
     push_all(channels, puts);
     Ok(())
