@@ -15,7 +15,7 @@ use Rattle.engine_model.specs.Calls.{IsBlocked}
 use Rattle.engine_model.specs.Language.{Language}
 use Rattle.job_state.specs.Batch.{OperatesEach, turns_of}
 
-same_entries : {K S : Type 0} (a b : List (K × S)) → ◌≡◌ {A = Option (Holding K S)} (Some (holds.Operator a)) (Some (holds.Operator b)) → a ≡ b
+pub same_entries : {K S : Type 0} (a b : List (K × S)) → ◌≡◌ {A = Option (Holding K S)} (Some (holds.Operator a)) (Some (holds.Operator b)) → a ≡ b
 same_entries a b e = cc
 
 module _ {R K S O : Type 0} (lang : Language R K S O) (operator : O) (graph : Expanded) (task input channel : ℕ) where

@@ -1,3 +1,4 @@
+pub mod Copies
 pub mod Dues
 pub mod Holdings
 pub mod InTurn

@@ -129,10 +129,10 @@ fn outcomes_of<O: Operator>(
     requires { IsOperand ⟦<O as Rules>⟧.all operand.now }
     ensures { IfOk result (IsOutcome O.meaning O.Key.cmp operand.now) }
 {
-    let Some(states) = operand.states.as_map() else {
+    let Some(copies) = operand.states.as_copies() else {
         return Err(NoMemory);
     };
-    let mut left = places_of(alloc, states)?;
+    let mut left = places_of(alloc, copies)?;
     let mut sent = Vec::with_capacity(alloc, operand.rows.len())?;
     for row in &operand.rows {
         work_row(alloc, operand, row, &mut left, &mut sent)?;

@@ -16,8 +16,7 @@ ghost use Rattle.claims.specs.Due.{WorksFrom, IsOperandDue, IsRowDue, IsDue};
 
 use crate::inputs::{first_record, input_of};
 use crate::parts::{Given, Operand};
-use crate::states::{Kept, States};
-use abs_codec::Map;
+use crate::states::{Copies, Kept, States};
 use engine_model::Rules;
 use job_graph::{Graph, Role};
 use job_state::Attempt;
@@ -119,13 +118,14 @@ fn has_state<O: Operator>(
 fn has_copied<O: Operator>(
     attempt: &Attempt<O>,
     task: u32,
-    states: &Map<O::Key, Option<O::State>>,
+    copies: &Copies<O::Key, O::State>,
 ) -> bool
     ensures { (entries : List (O.Key × O.State))
         → slice_get attempt.now.tasks task ≡ Some (Holding.Operator entries) → IsTrue result
-        ↔ AreStatesOf O.Key.cmp entries states.now }
+        ↔ AreStatesOf O.Key.cmp entries copies.now }
 {
-    for (key, state) in states.iter() {
+    let (keys, states) = copies.columns();
+    for (key, state) in keys.iter().zip(states) {
         if !has_state(attempt, task, key, state.as_ref()) {
             return false;
         }
@@ -164,7 +164,7 @@ fn has_states<O: Operator>(
         ↔ AreStatesOf O.Key.cmp entries states.now }
 {
     match &states.kept {
-        Kept::Copied(states) => has_copied(attempt, task, states),
+        Kept::Copied(copies) => has_copied(attempt, task, copies),
         Kept::Lent(keys, lent) => has_lent(attempt, task, keys, lent),
     }
 }

@@ -8,7 +8,8 @@ ghost use Rattle.std.specs.Map.{keys_of};
 ghost use Rattle.std.specs.Option.{option_copied};
 ghost use Rattle.claims.specs.Places.{given_at, left_at, state_at, IsPlaceOf, HasPlace, LeavesAt};
 
-use abs_codec::{Codec, Map, NoMemory};
+use crate::states::Copies;
+use abs_codec::{Codec, NoMemory};
 use std::alloc::Global;
 
 /// A key's place: the state that is given there, and the one that is left, once one is.
@@ -22,13 +23,14 @@ pub(crate) struct Place<'a, K, S> {
 /// The places of the keys of these states, by rising keys. No state is left yet.
 pub(crate) fn places_of<'a, K: Ord, S: Drop>(
     alloc: Global,
-    states: &'a Map<K, Option<S>>,
+    copies: &'a Copies<K, S>,
 ) -> Result<Vec<Place<'a, K, S>>, NoMemory>
-    ensures given { IfOk result (λ places. given_at places.items ≡ states.now) }
+    ensures given { IfOk result (λ places. given_at places.items ≡ copies.now) }
     ensures none { IfOk result (λ places. left_at places.items ≡ []) }
 {
-    let mut places = Vec::with_capacity(alloc, states.len())?;
-    for (key, given) in states.iter() {
+    let (keys, states) = copies.columns();
+    let mut places = Vec::with_capacity(alloc, keys.len())?;
+    for (key, given) in keys.iter().zip(states) {
         places.push(Place {
             key,
             given,

@@ -9,9 +9,10 @@
 //! for, and of each of their keys the present state, once. A sink's work is one record. The states
 //! are lent by the task, for reading, or copied where it lends none; those that were lent are copied
 //! when the work is done. With n records of m keys, offering takes n copies of records and of keys.
-//! The states take m copies, n searches among m keys and m among the task's, when they are offered
-//! or, where they are lent, when the work is run. Running copies no record. Taking copies nothing,
-//! in the time of m searches among the task's keys.
+//! The states take m copies, one sort of the n keys in place and m searches among the task's, when
+//! they are offered or, where they are lent, when the work is run: the keys themselves are kept, and
+//! beside them their states in the same order. Running copies no record. Taking copies nothing, in
+//! the time of m searches among the task's keys.
 #![tactic(auto)]
 
 mod accepts;

@@ -31,12 +31,23 @@ struct Gathered<R, K> {
     keys: Vec<K>,
 }
 
-/// A key is put last, if there is one.
-fn push_key<K: Drop>(keys: &mut Vec<K>, key: Option<K>) -> Result<(), NoMemory>
+/// Room for so many keys, where none is there yet: then each is put there with no growing.
+fn make_room<K: Drop>(keys: &mut Vec<K>, room: usize) -> Result<(), NoMemory>
+    ensures { keys.new.items ≡ keys.old.items }
+{
+    if keys.is_empty() {
+        keys.reserve_exact(room)?;
+    }
+    Ok(())
+}
+
+/// A key is put last, if there is one. The first makes room for so many.
+fn push_key<K: Drop>(keys: &mut Vec<K>, key: Option<K>, room: usize) -> Result<(), NoMemory>
     ensures stay { OnOk result ((q : K) → IsAmong keys.old.items q → IsAmong keys.new.items q) }
     ensures there { OnOk result ((q : K) → key ≡ Some q → IsAmong keys.new.items q) }
 {
     if let Some(key) = key {
+        make_room(keys, room)?;
         keys.push(key)?;
     }
     Ok(())
@@ -56,7 +67,8 @@ fn gather_record<O: Operator>(
     ensures keys { OnOk result (All (HasItsKey O.meaning operator.now gathered.new.keys.items)
         gathered.new.rows.items) }
 {
-    push_key(&mut gathered.keys, operator.key(alloc, row)?)?;
+    let room = gathered.rows.capacity();
+    push_key(&mut gathered.keys, operator.key(alloc, row)?, room)?;
     gathered.rows.push(row.copied()?)?;
     Ok(())
 }
