@@ -21,10 +21,10 @@ enum Stage {
 }
 
 /// So many steps of records come between two pieces of a copy that would be late.
-const MOST_STEPS: u64 = 16;
+const MOST_STEPS: u64 = 64;
 
 /// A copy is late where it has a piece or more for so many records between two checkpoints.
-const RECORDS_A_PIECE: u64 = 3;
+const RECORDS_A_PIECE: u64 = 12;
 
 /// The checkpoint that is made.
 #[derive(Drop)]
@@ -68,6 +68,11 @@ impl Round {
             tasks,
             sinks,
         }
+    }
+
+    /// Whether the last checkpoint had many pieces for the records between two of them.
+    pub(crate) fn is_late(&self) -> bool {
+        self.steps > 1
     }
 
     /// No checkpoint is pending.

@@ -50,17 +50,28 @@ pub(crate) struct Node {
     pub(crate) is_busy: bool,
     /// Whether a source sends to it.
     pub(crate) is_fed: bool,
-    /// Whether it takes no more than so many records at a time, whatever the batch is.
+    /// Whether it takes several records at a time, whatever the batch is.
     pub(crate) is_sink: bool,
+    /// Whether it is an operator's.
+    pub(crate) is_operator: bool,
 }
 
 impl Node {
-    /// After so many records the ends are marked: about a batch for each, and no fewer than there
-    /// are ends, so that a mark costs the same however many there are.
+    /// After so many records the ends are marked: about a batch for each, which counts as eight
+    /// records at least, and no fewer than there are ends, so that a mark costs the same however
+    /// many there are.
     fn enough(&self, batch: usize) -> usize {
+        let batch = batch.max(TOLD_TOGETHER);
         self.ends.len().max(self.spread.saturating_mul(batch))
     }
 }
+
+/// So many records at least are sent to a task before it is asked for them, unless there is nothing
+/// else to do: else a task would be asked after each record, also in vain, where claims are of one.
+const TOLD_TOGETHER: usize = 8;
+
+/// A source sends so many records in one turn, at most.
+const MOST_READS: u32 = 8;
 
 /// Where claims are of one record, so many are read ahead of the claims that are held, until a task
 /// that sources send to has been found without a record.
@@ -159,9 +170,28 @@ impl Schedule {
         ensures { 1 ≤ result }
     {
         match self.nodes.get(task as usize) {
-            Some(node) if node.is_sink => self.batch.min(MOST_OF_A_SINK),
+            Some(node) if node.is_sink => MOST_OF_A_SINK,
             _ => self.batch,
         }
+    }
+
+    /// How many records a source sends in one turn, at most: one while a copy is written that has
+    /// time, so that its pieces come soon.
+    pub(crate) fn reads(&self) -> u32 {
+        if self.round.is_pending() && !self.round.is_late() {
+            1
+        } else {
+            MOST_READS
+        }
+    }
+
+    /// How many of so many workers can be of use: each operator's task works one claim at a time.
+    pub(crate) fn useful(&self, workers: usize) -> usize
+        requires { 1 ≤ workers }
+        ensures { (1 ≤ result) × (result ≤ workers) }
+    {
+        let operators = self.nodes.iter().filter(|node| node.is_operator).count();
+        operators.max(1).min(workers)
     }
 
     /// The job is down.
@@ -206,12 +236,21 @@ impl Schedule {
             return Some(Step::Work(place));
         }
         if self.claims > 0 && self.is_far_ahead() {
-            return None;
+            return self.told_of_one();
         }
         if let Some(task) = self.sources.front() {
             return Some(Step::Read(*task));
         }
         if self.mark_sender() {
+            return Some(Step::Look);
+        }
+        None
+    }
+
+    /// Where enough was read ahead of claims of one record: a look at what was sent, if something
+    /// was that no task was told of.
+    fn told_of_one(&mut self) -> Option<Step> {
+        if self.batch == 1 && self.mark_sender() {
             return Some(Step::Look);
         }
         None

@@ -78,6 +78,19 @@ impl Turns {
         self.schedule.most(task)
     }
 
+    /// How many records a source sends in one turn, at most.
+    pub fn reads(&self) -> u32 {
+        self.schedule.reads()
+    }
+
+    /// How many of so many workers can be of use.
+    pub fn useful(&self, workers: usize) -> usize
+        requires { 1 ≤ workers }
+        ensures { (1 ≤ result) × (result ≤ workers) }
+    {
+        self.schedule.useful(workers)
+    }
+
     /// How many turns are left.
     pub fn left(&self) -> u64 {
         self.left

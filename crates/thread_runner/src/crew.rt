@@ -302,6 +302,7 @@ where
     if workers == 0 || workers > 64 {
         return Err(RunFault::BadWorkers);
     }
+    let workers = station.lock(rt).useful(workers);
     let Ok(mut crew) = Vec::with_capacity(alloc, workers) else {
         station.lock(rt).give_up();
         return Err(RunFault::Memory);

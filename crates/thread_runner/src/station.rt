@@ -27,10 +27,7 @@ use std::sync::Wait;
 use std::sync::ledger::{Blank, Book, Ledger, Share};
 
 /// So many entries of the work on a task's part are done in one turn.
-const ENTRIES_A_TURN: u32 = 64;
-
-/// So many records a source sends in one turn, at most.
-const READS_A_TURN: u32 = 8;
+const ENTRIES_A_TURN: u32 = 256;
 
 /// So many turns are taken in one hold of the lock, at most.
 const TURNS_A_HOLD: u64 = 64;
@@ -355,6 +352,14 @@ impl<
             .begin(workers as u64, every, turns, restarts, batch);
     }
 
+    /// How many of so many workers can be of use.
+    pub(crate) fn useful(&self, workers: usize) -> usize
+        requires { 1 ≤ workers }
+        ensures { (1 ≤ result) × (result ≤ workers) }
+    {
+        self.turns.useful(workers)
+    }
+
     /// A worker wants to rest. Whether it may.
     pub(crate) fn rests(&mut self) -> bool
         ensures { self.new ≡ self.old }
@@ -545,8 +550,7 @@ fn work_ahead<O: Operator, S: SnapshotStore, X: Transactions, P: Partitions<Reco
     ahead
 }
 
-/// A source sends its next records: no more than a batch has, and one while a checkpoint is
-/// pending.
+/// A source sends its next records: as many as the turns say, at most.
 fn read<O: Operator, S: SnapshotStore, X: Transactions, P: Partitions<Record = O::Record>>(
     core: &mut Core<O, S, X, P>,
     turns: &mut Turns,
@@ -555,12 +559,7 @@ fn read<O: Operator, S: SnapshotStore, X: Transactions, P: Partitions<Record = O
     ensures once { ClaimsOnce core.old core.new }
     ensures step { Preserves ⟦<O as Rules>⟧.all core.old.engine core.new.engine }
 {
-    let most = if turns.awaits_barriers() {
-        1
-    } else {
-        turns.batch().min(READS_A_TURN)
-    };
-    let (records, outcome) = read_some(core, task, most);
+    let (records, outcome) = read_some(core, task, turns.reads());
     turns.read(task, records, outcome);
     Next::Again
 }
