@@ -185,13 +185,15 @@ impl Schedule {
         }
     }
 
-    /// How many of so many workers can be of use: each operator's task works one claim at a time.
+    /// How many of so many workers can be of use: a task works one claim at a time, so it is as many
+    /// as there are operators' tasks, or sinks, if these are more.
     pub(crate) fn useful(&self, workers: usize) -> usize
         requires { 1 ≤ workers }
         ensures { (1 ≤ result) × (result ≤ workers) }
     {
         let operators = self.nodes.iter().filter(|node| node.is_operator).count();
-        operators.max(1).min(workers)
+        let sinks = self.nodes.iter().filter(|node| node.is_sink).count();
+        operators.max(sinks).max(1).min(workers)
     }
 
     /// The job is down.
