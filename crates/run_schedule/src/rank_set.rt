@@ -1,7 +1,7 @@
 //! Sets of small numbers.
 
 /// A set of numbers below 256, whose greatest is found in constant time.
-#[derive(Drop)]
+#[derive(Clone, Copy)]
 pub(crate) struct RankSet {
     words: [u64; 4],
 }

@@ -54,6 +54,8 @@ pub(crate) struct Node {
     pub(crate) is_sink: bool,
     /// Whether it is an operator's.
     pub(crate) is_operator: bool,
+    /// The worker that claimed from it last, from 0.
+    pub(crate) worker: u32,
 }
 
 impl Node {
@@ -202,8 +204,8 @@ impl Schedule {
         self.is_last = false;
     }
 
-    /// The next step.
-    pub(crate) fn next(&mut self) -> Step {
+    /// The next step, for this worker.
+    pub(crate) fn next(&mut self, worker: u32) -> Step {
         if self.is_down {
             return Step::Restart;
         }
@@ -211,17 +213,17 @@ impl Schedule {
             return Step::Over;
         }
         match self.round.next() {
-            Some(need) => self.next_need(need),
+            Some(need) => self.next_need(need, worker),
             None if self.is_due() => Step::Trigger,
-            None => self.next_record(),
+            None => self.next_record(worker),
         }
     }
 
     /// The step for what the checkpoint needs. Where a part takes many, steps of records come
     /// between two of them, if they are to be had.
-    fn next_need(&mut self, need: Need) -> Step {
+    fn next_need(&mut self, need: Need, worker: u32) -> Step {
         if self.round.gives_way() {
-            if let Some(step) = self.record_step() {
+            if let Some(step) = self.record_step(worker) {
                 return step;
             }
         }
@@ -233,8 +235,8 @@ impl Schedule {
     }
 
     /// A step that takes a record or a barrier, or finds out where one is.
-    fn record_step(&mut self) -> Option<Step> {
-        if let Some(place) = self.next_input() {
+    fn record_step(&mut self, worker: u32) -> Option<Step> {
+        if let Some(place) = self.next_input(worker) {
             return Some(Step::Work(place));
         }
         if self.claims > 0 && self.is_far_ahead() {
@@ -259,8 +261,8 @@ impl Schedule {
     }
 
     /// A step that takes a record or a barrier, and what is to be done where there is none.
-    fn next_record(&mut self) -> Step {
-        if let Some(step) = self.record_step() {
+    fn next_record(&mut self, worker: u32) -> Step {
+        if let Some(step) = self.record_step(worker) {
             return step;
         }
         if self.claims > 0 {
@@ -283,9 +285,30 @@ impl Schedule {
         self.ahead >= MOST_AHEAD
     }
 
-    /// The first input of the task that stands furthest downstream.
-    fn next_input(&self) -> Option<Place> {
-        let task = self.task_at(self.ready.greatest()?)?;
+    /// Of the ready tasks that this worker claimed from last, the one furthest downstream: it has
+    /// their states in its cache.
+    fn own_task(&self, worker: u32) -> Option<u32> {
+        let mut others = self.ready;
+        for _ in 0..self.nodes.len() {
+            let rank = others.greatest()?;
+            let task = self.task_at(rank)?;
+            if self.nodes.get(task as usize)?.worker == worker {
+                return Some(task);
+            }
+            others.remove(rank);
+        }
+        None
+    }
+
+    /// The ready task that stands furthest downstream.
+    fn first_task(&self) -> Option<u32> {
+        self.task_at(self.ready.greatest()?)
+    }
+
+    /// The first input of the worker's own task, or else of the one that stands furthest
+    /// downstream.
+    fn next_input(&self, worker: u32) -> Option<Place> {
+        let task = self.own_task(worker).or(self.first_task())?;
         let input = self.nodes.get(task as usize)?.inputs.first()?;
         Some(Place { task, input })
     }
@@ -533,14 +556,17 @@ impl Schedule {
         self.round.is_pending()
     }
 
-    /// A task holds a claim of so many records of its first input, which comes last now. It is left
-    /// out where the claim has all that it had, and no barrier may follow.
-    pub(crate) fn claimed(&mut self, task: u32, records: u64) {
+    /// A worker holds a task's claim of so many records of its first input, which comes last now. It
+    /// is left out where the claim has all that it had, and no barrier may follow.
+    pub(crate) fn claimed(&mut self, worker: u32, task: u32, records: u64) {
         self.claims = self.claims.saturating_add(1);
         if self.takes_all(task, records) {
             self.drop_first(task);
         } else if let Some(node) = self.nodes.get_mut(task as usize) {
             node.inputs.turn();
+        }
+        if let Some(node) = self.nodes.get_mut(task as usize) {
+            node.worker = worker;
         }
         self.set_busy(task, true);
     }

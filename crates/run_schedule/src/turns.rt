@@ -47,12 +47,12 @@ impl Turns {
         self.end = None;
     }
 
-    /// One turn: the step that is to be made.
-    pub fn choose(&mut self) -> Step {
+    /// One turn of a worker, counted from 0: the step that is to be made.
+    pub fn choose(&mut self, worker: u32) -> Step {
         if self.end.is_some() {
             return Step::Over;
         }
-        let step = self.schedule.next();
+        let step = self.schedule.next(worker);
         if step == Step::Over {
             self.end = Some(Ok(()));
         } else if self.left == 0 {
@@ -101,7 +101,7 @@ impl Turns {
         if let Some(end) = self.end {
             return end;
         }
-        if self.schedule.next() == Step::Over {
+        if self.schedule.next(0) == Step::Over {
             Ok(())
         } else {
             Err(RunFault::TurnsSpent)
@@ -158,9 +158,9 @@ impl Turns {
         }
     }
 
-    /// A task holds a claim of so many records, of the input that was chosen.
-    pub fn claimed(&mut self, task: u32, records: u64) {
-        self.schedule.claimed(task, records);
+    /// A worker holds a task's claim of so many records, of the input that was chosen.
+    pub fn claimed(&mut self, worker: u32, task: u32, records: u64) {
+        self.schedule.claimed(worker, task, records);
     }
 
     /// What came of a task's job of so many records. A result that comes too late is dropped.

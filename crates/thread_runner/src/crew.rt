@@ -31,18 +31,21 @@ struct Worker<L: Ledger> {
     share: Share<L>,
     finished: u128,
     patience: Patience,
+    /// Counted from 0.
+    number: u32,
     ghost one_part: { share.parts ≡ 1 },
     ghost counted: { share.amount ≡ finished },
 }
 
 impl<L: Ledger> Worker<L> {
-    fn new(share: Share<L>) -> Worker<L>
+    fn new(number: u32, share: Share<L>) -> Worker<L>
         requires { (share.parts ≡ 1) × (share.amount ≡ 0) }
     {
         Worker {
             share,
             finished: 0,
             patience: Patience::new(),
+            number,
         }
     }
 
@@ -104,7 +107,7 @@ impl<L: Ledger> Worker<L> {
         let mut held = station.lock(rt);
         self.patience.has_lock(rt);
         self.hand_in(&mut held, worked);
-        let (next, before, left) = held.choose_some(alloc);
+        let (next, before, left) = held.choose_some(alloc, self.number);
         drop(held);
         self.patience.gave_lock(rt);
         self.patience.took_turns(before, left);
@@ -265,8 +268,8 @@ where
     )
 }
 
-/// Takes the job to rest, by so many workers, and says how many records they have worked. A job
-/// that is down is restarted first. A checkpoint is triggered after every so many of these records
+/// Takes the job to rest, by so many workers, or as many of them as can be of use, and says how many
+/// records they have worked. A job that is down is restarted first. A checkpoint is triggered after every so many of these records
 /// (0: none but the last), and a last one is committed. A claim is of so many records at most, the
 /// `batch`. Where the run is refused otherwise than for its workers, the job is down.
 pub fn run_batched<
@@ -302,7 +305,44 @@ where
     if workers == 0 || workers > 64 {
         return Err(RunFault::BadWorkers);
     }
-    let workers = station.lock(rt).useful(workers);
+    let useful = station.lock(rt).useful(workers);
+    run_crew(
+        rt, alloc, station, all, useful, every, turns, restarts, pause, batch,
+    )
+}
+
+/// The same by this many workers, each of whom can be of use.
+fn run_crew<
+    O: Operator + Send,
+    S: SnapshotStore + Drop + Send,
+    X: Transactions + Drop + Send,
+    P: Partitions<Record = O::Record> + Drop + Send,
+    L: Ledger + Send + Sync,
+    W: Wait + Drop + Send,
+    H: Pause + Sync,
+    R: Threads + Wait + Clock + Sync,
+>(
+    rt: &R,
+    alloc: Global,
+    station: &Mutex<Station<O, S, X, P, L, W>>,
+    all: &mut Share<L>,
+    workers: usize,
+    every: u64,
+    turns: u64,
+    restarts: u64,
+    pause: &H,
+    batch: u32,
+) -> Result<Report, RunFault>
+where
+    O::Record: Send,
+    O::Key: Send + Sync,
+    O::State: Send + Sync,
+    requires whole { (all.old.parts ≡ L.parts) × (L.parts ≡ 65) }
+    requires few { workers ≤ 64 }
+    requires batch { 1 ≤ batch }
+    ensures parts { all.new.parts ≡ all.old.parts }
+    ensures finished { IfOk result (λ r. all.new.amount ≡ all.old.amount + r.finished) }
+{
     let Ok(mut crew) = Vec::with_capacity(alloc, workers) else {
         station.lock(rt).give_up();
         return Err(RunFault::Memory);
@@ -311,7 +351,8 @@ where
         .lock(rt)
         .begin(workers, every, turns, restarts, batch);
     for _ in 0..workers {
-        crew.push_reserved(Worker::new(all.split_off(1, 0)));
+        let number = crew.len() as u32;
+        crew.push_reserved(Worker::new(number, all.split_off(1, 0)));
     }
     thread::for_each_mut(
         rt,

@@ -24,6 +24,9 @@ const WATCHED: u64 = 1000;
 /// Of what a worker does, less than one part of so many with no lock held is not worth a worker.
 const PARTS: u32 = 4;
 
+/// Nor is one that waits so many times as long as it works, with the lock and without.
+const WAITS: u32 = 3;
+
 /// How a worker has fared.
 #[derive(Clone, Copy)]
 pub(crate) struct Patience {
@@ -117,8 +120,8 @@ impl Patience {
         self.waited = self.waited.saturating_add(waited);
     }
 
-    /// Whether the worker wants to rest: where it was watched long enough, and waited longer than
-    /// it held the lock and than it ran jobs, or ran jobs for too little of that time.
+    /// Whether the worker wants to rest: where it was watched long enough, and waited for too much
+    /// of that time, or ran jobs for too little.
     pub(crate) fn is_tired(&mut self) -> bool {
         let Patience {
             waited,
@@ -136,7 +139,7 @@ impl Patience {
         if self.is_alone {
             return false;
         }
-        let has_waited_little = waited < held || waited < worked;
+        let has_waited_little = waited < held.saturating_add(worked).saturating_mul(WAITS);
         if has_waited_little && held < worked.saturating_mul(PARTS) {
             self.rests /= 2;
             return false;

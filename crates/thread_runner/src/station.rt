@@ -387,31 +387,31 @@ impl<
         self.turns.wait()
     }
 
-    /// One turn: what a worker does next, and how many turns are left. Every step but a task's work
+    /// One turn: what this worker does next, and how many turns are left. Every step but a task's work
     /// is made here.
-    pub(crate) fn choose(&mut self, alloc: Global) -> (Next<O>, u64)
+    pub(crate) fn choose(&mut self, alloc: Global, worker: u32) -> (Next<O>, u64)
         ensures total { self.new.total ≡ self.old.total }
         ensures step { Preserves ⟦<O as Rules>⟧.all self.old.core.engine self.new.core.engine }
     {
         let Station { core, turns, .. } = self;
-        let next = take_turn(alloc, core, turns);
+        let next = take_turn(alloc, core, turns, worker);
         (next, turns.left())
     }
 
-    /// Turns of one hold of the lock, until one leaves the worker something to do: what that is,
+    /// Turns of one hold of the lock, until one leaves this worker something to do: what that is,
     /// and how many turns were left before them and are after them.
-    pub(crate) fn choose_some(&mut self, alloc: Global) -> (Next<O>, u64, u64)
+    pub(crate) fn choose_some(&mut self, alloc: Global, worker: u32) -> (Next<O>, u64, u64)
         ensures total { self.new.total ≡ self.old.total }
         ensures step { Preserves ⟦<O as Rules>⟧.all self.old.core.engine self.new.core.engine }
     {
         let before = self.turns.left();
         for _ in 1..TURNS_A_HOLD {
-            match self.choose(alloc) {
+            match self.choose(alloc, worker) {
                 (Next::Again, _) => {}
                 (next, left) => return (next, before, left),
             }
         }
-        let (next, left) = self.choose(alloc);
+        let (next, left) = self.choose(alloc, worker);
         (next, before, left)
     }
 
@@ -466,15 +466,16 @@ fn take_turn<O: Operator, S: SnapshotStore, X: Transactions, P: Partitions<Recor
     alloc: Global,
     core: &mut Core<O, S, X, P>,
     turns: &mut Turns,
+    worker: u32,
 ) -> Next<O>
     ensures once { ClaimsOnce core.old core.new }
     ensures step { Preserves ⟦<O as Rules>⟧.all core.old.engine core.new.engine }
 {
-    match turns.choose() {
+    match turns.choose(worker) {
         Step::Over => Next::Over,
         Step::Idle => Next::Idle,
         Step::Look => Next::Again,
-        Step::Work(place) => claim(alloc, core, turns, place),
+        Step::Work(place) => claim(alloc, core, turns, worker, place),
         Step::Read(task) => read(core, turns, task),
         Step::Persist(task) => persist(core, turns, task),
         step => {
@@ -504,6 +505,7 @@ fn claim<O: Operator, S: SnapshotStore, X: Transactions, P: Partitions<Record = 
     alloc: Global,
     core: &mut Core<O, S, X, P>,
     turns: &mut Turns,
+    worker: u32,
     place: Place,
 ) -> Next<O>
     ensures once { ClaimsOnce core.old core.new }
@@ -512,7 +514,8 @@ fn claim<O: Operator, S: SnapshotStore, X: Transactions, P: Partitions<Record = 
     match core.claim_some(place.task, place.input, turns.batch()) {
         Ok(job) => {
             let ahead = work_ahead(alloc, core, place, turns.most(place.task));
-            turns.claimed(place.task, job.records().saturating_add(ahead.len() as u64));
+            let records = job.records().saturating_add(ahead.len() as u64);
+            turns.claimed(worker, place.task, records);
             Next::Run(Batch { place, job, ahead })
         }
         Err(CoreFault::NotReady) if turns.awaits_barriers() => {
