@@ -338,6 +338,7 @@ where
     O::Key: Send + Sync,
     O::State: Send + Sync,
     requires whole { (all.old.parts ≡ L.parts) × (L.parts ≡ 65) }
+    requires some { 0 < workers }
     requires few { workers ≤ 64 }
     requires batch { 1 ≤ batch }
     ensures parts { all.new.parts ≡ all.old.parts }
