@@ -1,6 +1,6 @@
 //! What is read of a file and not taken yet.
 
-ghost use Rattle.std.specs.Prelude.{◌≡◌, ◌≤◌, ◌<◌, false, length, take, drop, Ok, OnOk, OnSome};
+ghost use Rattle.std.specs.Prelude.{◌≡◌, ◌≢◌, ◌+◌, ◌≤◌, ◌<◌, ◌^◌, ℕ, false, length, take, drop, slice_index, Ok, OnOk, OnSome};
 ghost use Rattle.std.specs.Io.{IsEmptyOrEndsWith};
 ghost use Rattle.std.specs.Io.KnownBytes.{Keeps, IsAtEnd, prepend_known};
 
@@ -46,7 +46,8 @@ fn append_ready<F: BufRead>(file: &mut F, text: &mut Vec<u8>) -> io::Result<bool
 impl LineBuffer {
     /// A buffer with no bytes yet.
     pub fn new(alloc: Global) -> LineBuffer
-        ensures { length result.text.items ≡ 0 }
+        ensures text { length result.text.items ≡ 0 }
+        ensures lines { result.lines ≡ 0 }
     {
         LineBuffer {
             text: Vec::new(alloc),
@@ -78,6 +79,8 @@ impl LineBuffer {
     pub fn whole_len(&self) -> usize
         ensures bound { result ≤ length self.now.text.items }
         ensures end { IsEmptyOrEndsWith (take result self.now.text.items) 10 }
+        ensures rest { (k : ℕ) → result ≤ k → k < length self.now.text.items
+            → slice_index self.now.text.items k ≢ 10 }
     {
         match memrchr(b'\n', &self.text) {
             Some(at) => at + 1,
@@ -88,7 +91,9 @@ impl LineBuffer {
     /// Takes so many bytes from the front, which are so many lines.
     pub fn take_front(&mut self, count: usize, lines: u64) -> Result<(), AllocError>
         requires { count ≤ length self.old.text.items }
-        ensures { OnOk result (self.new.text.items ≡ drop count self.old.text.items) }
+        ensures text { OnOk result (self.new.text.items ≡ drop count self.old.text.items) }
+        ensures lines { OnOk result (self.old.lines + lines < 2 ^ 64
+            → self.new.lines ≡ self.old.lines + lines) }
     {
         self.spare.clear();
         self.spare.extend_from_slice(&self.text[count..])?;

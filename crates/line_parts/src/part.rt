@@ -18,6 +18,8 @@ pub enum PartFault<E> {
 }
 
 impl<T: Drop, E> From<AllocFailed<T>> for PartFault<E> {
+    ghost from_gives = { λ _ e. e ≡ why.Memory };
+
     fn from(_e: AllocFailed<T>) -> Self {
         PartFault::Memory
     }

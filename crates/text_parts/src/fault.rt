@@ -13,6 +13,11 @@ pub enum TextFault<E> {
 }
 
 impl<E> From<AllocError> for TextFault<E> {
+    ghost use Rattle.std.specs.Prelude.{◌≡◌};
+    ghost use Rattle.text_parts.specs.declared.fault.TextFault.TheVariants.{Memory};
+
+    ghost from_gives = { λ _ e. e ≡ Memory };
+
     fn from(_e: AllocError) -> Self {
         TextFault::Memory
     }

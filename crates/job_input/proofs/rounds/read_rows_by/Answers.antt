@@ -4,7 +4,7 @@ use Rattle.job_input.proofs.Texts.{none_yet, more_put, all_put}
 use Rattle.job_input.proofs.rounds.read_rows_by.Goals as goal
 
 pub loop-init : goal.loop-init
-loop-init g c = (puts_none _ _, none_yet _ _ _ _ c.new-buffer.ensures)
+loop-init g c = (puts_none _ _, none_yet _ _ _ _ c.new-buffer.ensures.text)
 
 pub returns-in-Ok-false-clause-puts : goal.returns-in-Ok-false-clause-puts
 returns-in-Ok-false-clause-puts g c = puts_more _ _ _ _ c.loop.invariant.0 c.put_round.ensures.puts
