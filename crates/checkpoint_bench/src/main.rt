@@ -23,7 +23,7 @@ const JOB: &str =
     r#"{"vertices":[{"name":"s","kind":"source"},{"name":"c","kind":"count"}],"edges":[{"from":"s","to":"c"}]}"#;
 
 /// So many entries are worked in one call, as a worker does.
-const ENTRIES: u32 = 64;
+const ENTRIES: u32 = 256;
 
 /// So many bytes are more than a processor's caches hold.
 const COOL: usize = 67_108_864;
