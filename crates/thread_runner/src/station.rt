@@ -387,8 +387,8 @@ impl<
         self.turns.wait()
     }
 
-    /// One turn: what this worker does next, and how many turns are left. Every step but a task's work
-    /// is made here.
+    /// One turn: what this worker does next, and how many turns are left. Every step but a task's
+    /// work is made here.
     pub(crate) fn choose(&mut self, alloc: Global, worker: u32) -> (Next<O>, u64)
         ensures total { self.new.total ≡ self.old.total }
         ensures step { Preserves ⟦<O as Rules>⟧.all self.old.core.engine self.new.core.engine }
