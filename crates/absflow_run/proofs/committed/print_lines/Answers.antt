@@ -1,24 +1,10 @@
-use Rattle.std.proofs.Common.{rules, ◌≡◌, refl, subst, arith}
+use Rattle.std.proofs.Common.{rules, ◌≡◌, ℕ, List, IfOk, OnOk, length, ◌+◌, ◌-◌, ◌*◌, ◌<◌, ◌≤◌, ◌/◌, ◌%◌, Bool, true, false, nat_eq, nat_lt, [], ◌∷◌, ◌++◌, slice_index_or, slice_set, bit_and, bit_or, Fits, w8, w32, w64, Bor, MutBor}
+use Rattle.commit_sink.specs.Ledger.{committed_rows}
+use Rattle.commit_sink.specs.Runs.{IsRunFrom}
 use Rattle.text_parts.specs.Lines.{WritesLines}
-use Rattle.text_parts.proofs.Joining.{none_written, line_written}
 use Rattle.absflow_run.specs.Printed.{IsRecordLine}
 use Rattle.absflow_run.proofs.committed.print_lines.Goals as goal
 
-pub loop-number-init : goal.loop-number-init
-loop-number-init g c = (omega arith, none_written (IsRecordLine (g.C.CommittedRows.records c.args.lines.now.core.now c.args.lines.now.sink)) 0 0 (g.W.Write.contents c.args.out.now) refl)
-
-pub loop-number-preserved : goal.loop-number-preserved
-loop-number-preserved g c =
-    let (to, written) = c.loop-number.invariant in
-    let less = c.loop-number-test.true in
-    let its = c.in_ok-line.ensures in (
-      omega (arith, less),
-      line_written (IsRecordLine (g.C.CommittedRows.records c.args.lines.now.core.now c.args.lines.now.sink)) c.loop-number.number c.in_ok-line.line.items _ _ _ written its (search rules),
-    )
-
-pub returns : goal.returns
-returns g c =
-    let (to, written) = c.loop-number.invariant in
-    let past = c.loop-number-test.false in
-    let all : c.loop-number.number ≡ c.args.rows = omega (arith, to, past) in
-    subst (λ n. WritesLines (IsRecordLine (g.C.CommittedRows.records c.args.lines.now.core.now c.args.lines.now.sink)) 0 n (g.W.Write.contents c.args.out.now) (g.W.Write.contents c.loop-number.out)) all written
+-- src/committed.rt:80:5
+pub loop-done-preserved : goal.loop-done-preserved
+loop-done-preserved g c = ?
