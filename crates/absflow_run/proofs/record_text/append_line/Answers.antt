@@ -1,10 +1,18 @@
-use Rattle.std.proofs.Common.{rules, ◌≡◌, ℕ, List, [], ◌∷◌, ◌++◌, true, length, IfSome, IsTrue, OnOk, ◌+◌, ◌-◌, ◌*◌, ◌<◌, ◌≤◌, ◌/◌, ◌%◌, Bool, false, nat_eq, nat_lt, slice_index_or, slice_set, bit_and, bit_or, Fits, w8, w32, w64, Bor, MutBor, ℤ, pos, ◌+ℤ◌, ◌-ℤ◌, ◌*ℤ◌, ◌≤ℤ◌, ◌<ℤ◌, FitsSigned, to_z, of_z}
-use Rattle.text_parts.specs.Lines.{AreLines}
-use Rattle.absflow_run.specs.Printed.{IsRecordLine}
-use Rattle.absflow_run.specs.RecordText.{IsPlainRecord, PrintsRecord, are_plain, plain_line}
-use Rattle.absflow_run.specs.RowText.{row_text}
+use Rattle.std.proofs.Common.{◌∙◌, ◌++◌, ap}
+use Rattle.std.specs.Int.{w64}
+use Rattle.std.proofs.lemmas.Int.{to_z-of_z}
+use Rattle.absflow_run.specs.RecordText.{plain_line}
+use Rattle.absflow_run.proofs.PlainText.{line_plain}
 use Rattle.absflow_run.proofs.record_text.append_line.Goals as goal
 
--- src/record_text.rt:65:9
 pub returns-in-Some : goal.returns-in-Some
-returns-in-Some c = ?
+returns-in-Some c =
+    let is = c.in-Some.ensures in
+    let key = c.in-Some.key.now in
+    let value = ap (λ z. c.args.text.now.items ++ plain_line key z) (to_z-of_z w64 c.in-Some.v is.spelled.1) in
+    record {
+      row = record { k = key; v = c.in-Some.v };
+      spelled = is.spelled;
+      text = is.text;
+      line = c.in_ok-append_plain.ensures ∙ value ∙ ap (λ l. c.args.text.now.items ++ l) (line_plain key c.in-Some.v is.plain);
+    }
