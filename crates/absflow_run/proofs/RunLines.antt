@@ -1,5 +1,5 @@
 -- The lines of records that stand together.
-use Rattle.std.proofs.Common.{◌≡◌, ◌∙◌, ◌<◌, ◌≤◌, ◌+◌, ◌-◌, ℕ, zero, suc, List, [], ◌∷◌, ◌++◌, Option, Some, length, take, drop, get_or, slice_get, refl, sym, ap, subst, ⊎_elim, arith, append_assoc}
+use Rattle.std.proofs.Common.{◌≡◌, ◌∙◌, ◌<◌, ◌≤◌, ◌+◌, ℕ, zero, suc, List, [], ◌∷◌, ◌++◌, Option, Some, length, take, drop, get_or, slice_get, refl, sym, ap, subst, ⊎_elim, arith, append_assoc}
 use Rattle.std.specs.Prelude.{MatchOption}
 use Rattle.std.proofs.lemmas.Bool.{cases_lt}
 use Rattle.std.proofs.lemmas.List.{get_or-drop, get_or-take, length-drop, length-take, length-take-le}
@@ -55,3 +55,7 @@ run_lines records run first n bytes is le lines =
 -- what is put behind what was put before
 pub put_behind : (old bytes more mid new : List ℕ) → new ≡ mid ++ more → mid ≡ old ++ bytes → new ≡ old ++ (bytes ++ more)
 put_behind old bytes more mid new after before = after ∙ ap (λ b. b ++ more) before ∙ append_assoc old bytes more
+
+-- what is put behind nothing
+pub put_alone : (bytes old new : List ℕ) → new ≡ old ++ bytes → old ≡ [] → new ≡ bytes
+put_alone bytes old new after none = after ∙ ap (λ b. b ++ bytes) none
