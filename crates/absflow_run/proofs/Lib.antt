@@ -2,3 +2,4 @@ pub mod JobTasks
 mod Rows
 mod ScriptParts
 mod PlainText
+mod RunLines

@@ -1,13 +1,14 @@
 //! The committed rows, as the program prints them.
 
-ghost use Rattle.std.specs.Prelude.{◌≡◌, ℕ, List, IfOk, OnOk, length, slice_get};
-ghost use Rattle.std.specs.Option.{option_map};
+ghost use Rattle.std.specs.Prelude.{◌≡◌, ℕ, List, IfOk, OnOk, length};
 ghost use Rattle.commit_sink.specs.Ledger.{committed_rows};
+ghost use Rattle.commit_sink.specs.Runs.{IsRunFrom};
 ghost use Rattle.text_parts.specs.Lines.{WritesLines};
 ghost use Rattle.absflow_run.specs.Printed.{IsRecordLine};
 
 use crate::refusal::Refusal;
 use crate::sink_lines::SinkLines;
+use abs_codec::Bytes;
 use commit_sink::Transactions;
 use dataflow_core::{Core, CoreFault};
 use operators::Operator;
@@ -16,6 +17,9 @@ use source_log::Partitions;
 use std::alloc::Global;
 use std::io::Write;
 use text_parts::Lines;
+
+/// So many lines at most are spelled before they are written.
+const LINES: u64 = 1_024;
 
 /// What a core tells of the rows that are committed.
 pub trait CommittedRows {
@@ -29,10 +33,9 @@ pub trait CommittedRows {
     fn committed_len(&self, sink: u32) -> Result<u64, CoreFault>
         ensures { IfOk result (λ len. len ≡ length (records self.now sink)) };
 
-    /// The record of this number, from 0.
-    fn committed(&self, sink: u32, number: u64) -> Result<Option<Vec<u8>>, CoreFault>
-        ensures { IfOk result (λ row. option_map (λ bytes. bytes.items) row
-            ≡ slice_get (records self.now sink) number) };
+    /// The records from this one on, as many as stand together: one at least, where there is one.
+    fn committed_from(&self, sink: u32, number: u64) -> Result<&[Bytes], CoreFault>
+        ensures { IfOk result (λ run. IsRunFrom (records self.now sink) number run.now) };
 }
 
 impl<
@@ -51,8 +54,8 @@ impl<
         self.committed_len(sink)
     }
 
-    fn committed(&self, sink: u32, number: u64) -> Result<Option<Vec<u8>>, CoreFault> {
-        self.committed(sink, number)
+    fn committed_from(&self, sink: u32, number: u64) -> Result<&[Bytes], CoreFault> {
+        self.committed_from(sink, number)
     }
 }
 
@@ -72,10 +75,13 @@ fn print_lines<C: CommittedRows, W: Write>(
         (C.records lines.now.core.now lines.now.sink)) 0 rows
         (W.contents out.old) (W.contents out.new)) }
 {
-    let mut line = Vec::new(alloc);
-    for number in 0..rows {
-        line = lines.line(number, line)?;
-        out.write_all(&line).map_err(|_| Refusal::Output)?;
+    let mut text = Vec::new(alloc);
+    let mut done = 0;
+    while done < rows {
+        text.clear();
+        let put = lines.put_lines(done, LINES.min(rows - done), &mut text);
+        out.write_all(&text).map_err(|_| Refusal::Output)?;
+        done += put?;
     }
     Ok(())
 }

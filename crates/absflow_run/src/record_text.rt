@@ -1,10 +1,13 @@
 //! A committed record as the program prints it.
 
-ghost use Rattle.std.specs.Prelude.{◌≡◌, [], ◌∷◌, ◌++◌, true, IfOk, IfSome, IsTrue};
+ghost use Rattle.std.specs.Prelude.{◌≡◌, ℕ, List, [], ◌∷◌, ◌++◌, true, length, IfSome, IsTrue, OnOk};
+ghost use Rattle.text_parts.specs.Lines.{AreLines};
+ghost use Rattle.absflow_run.specs.Printed.{IsRecordLine};
 ghost use Rattle.absflow_run.specs.RecordText.{IsPlainRecord, PrintsRecord, are_plain, plain_line};
+ghost use Rattle.absflow_run.specs.RowText.{row_text};
 
 use crate::row_text::append_row;
-use abs_codec::{Codec, CodecFault, decode_all};
+use abs_codec::{Bytes, Codec, CodecFault, decode_all};
 use operators::{KEY_LIMIT, Row};
 use std::alloc::{AllocError, Global};
 
@@ -33,27 +36,65 @@ fn plain_parts(alloc: Global, record: &[u8]) -> Option<(&[u8], i64)>
 }
 
 /// Puts the line of a row whose key needs no escapes last in the text.
-fn append_plain(mut text: Vec<u8>, key: &[u8], v: i64) -> Result<Vec<u8>, AllocError>
-    ensures { IfOk result (λ t. t.items ≡ text.items ++ plain_line key.now v) }
+fn append_plain(text: &mut Vec<u8>, key: &[u8], v: i64) -> Result<(), AllocError>
+    ensures { OnOk result (text.new.items ≡ text.old.items ++ plain_line key.now v) }
 {
     text.extend_from_slice(b"{\"k\":\"")?;
     text.extend_from_slice(key)?;
     text.extend_from_slice(b"\",\"v\":")?;
     let mut digits = itoa::Buffer::new();
     text.extend_from_slice(digits.format(v).as_bytes())?;
-    text.extend_from_slice(b"}\n")?;
-    Ok(text)
+    text.extend_from_slice(b"}\n")
 }
 
-/// Puts the line of the row that the record spells last in the text.
-pub fn append_record(alloc: Global, text: Vec<u8>, record: &[u8]) -> Result<Vec<u8>, CodecFault>
-    ensures { IfOk result (λ t. PrintsRecord record.now text.items t.items) }
+/// Puts the line of a row last in the text, whatever its key has.
+fn append_escaped(alloc: Global, text: &mut Vec<u8>, row: &Row) -> Result<(), AllocError>
+    ensures { OnOk result (text.new.items ≡ text.old.items ++ (row_text row.now ++ 10 ∷ [])) }
+{
+    let line = append_row(Vec::new(alloc), row)?;
+    text.extend_from_slice(&line)?;
+    text.extend_from_slice(b"\n")
+}
+
+/// Puts the line of the row that the record spells last in the text, or a part of it at `Err`.
+fn append_line(alloc: Global, text: &mut Vec<u8>, record: &[u8]) -> Result<(), CodecFault>
+    ensures { OnOk result (PrintsRecord record.now text.old.items text.new.items) }
 {
     if let Some((key, v)) = plain_parts(alloc, record) {
-        return Ok(append_plain(text, key, v)?);
+        append_plain(text, key, v)?;
+        return Ok(());
     }
     let row: Row = decode_all(alloc, record)?;
-    let mut text = append_row(text, &row)?;
-    text.push(b'\n')?;
-    Ok(text)
+    append_escaped(alloc, text, &row)?;
+    Ok(())
+}
+
+/// Puts the line of the row that the record spells last in the text. No part of it is left there
+/// at `Err`.
+pub fn append_record(alloc: Global, text: &mut Vec<u8>, record: &[u8]) -> Result<(), CodecFault>
+    ensures { OnOk result (PrintsRecord record.now text.old.items text.new.items) }
+{
+    let len = text.len();
+    let put = append_line(alloc, text, record);
+    if put.is_err() {
+        text.truncate(len);
+    }
+    put
+}
+
+/// Puts the lines of the rows that the records spell last in the text, one after the other. Those
+/// before the one that is not put are left there at `Err`.
+pub(crate) fn append_records(
+    alloc: Global,
+    text: &mut Vec<u8>,
+    records: &[Bytes],
+) -> Result<(), CodecFault>
+    ensures { OnOk result ((bytes : List ℕ)
+        × AreLines (IsRecordLine records.now) 0 (length records.now) bytes
+        × (text.new.items ≡ text.old.items ++ bytes)) }
+{
+    for record in records {
+        append_record(alloc, text, record.as_slice())?;
+    }
+    Ok(())
 }

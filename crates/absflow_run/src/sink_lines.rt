@@ -4,7 +4,7 @@ ghost use Rattle.std.specs.Prelude.{◌≡◌, IfOk};
 ghost use Rattle.absflow_run.specs.Printed.{IsRecordLine};
 
 use crate::committed::CommittedRows;
-use crate::record_text::append_record;
+use crate::record_text::append_records;
 use crate::refusal::Refusal;
 use std::alloc::Global;
 use text_parts::Lines;
@@ -31,11 +31,13 @@ impl<C: CommittedRows> Lines for SinkLines<'_, C> {
 
     ghost IsLine = { λ lines. IsRecordLine (C.records lines.core.now lines.sink) };
 
-    fn line(&self, number: u64, mut buffer: Vec<u8>) -> Result<Vec<u8>, Refusal> {
-        buffer.clear();
-        let Some(record) = self.core.committed(self.sink, number)? else {
-            return Ok(buffer);
-        };
-        Ok(append_record(self.alloc, buffer, &record)?)
+    fn put_lines(&self, first: u64, count: u64, text: &mut Vec<u8>) -> Result<u64, Refusal> {
+        let records = self.core.committed_from(self.sink, first)?;
+        if records.is_empty() {
+            return Ok(count);
+        }
+        let put = count.min(records.len() as u64);
+        append_records(self.alloc, text, &records[..put as usize])?;
+        Ok(put)
     }
 }

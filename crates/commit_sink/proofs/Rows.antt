@@ -1,8 +1,8 @@
 -- A subtask's share tells its committed records.
-use Rattle.std.proofs.Common.{◌≡◌, ◌<◌, ◌≤◌, ◌+◌, ℕ, List, [], ◌∷◌, ◌++◌, length, sum_by, take, get_or, slice_get, Option, Some, None, refl, sym, ap, ◌∙◌, subst, arith}
+use Rattle.std.proofs.Common.{◌≡◌, ◌<◌, ◌≤◌, ◌+◌, ℕ, List, [], ◌∷◌, ◌++◌, length, sum_by, take, drop, get_or, slice_get, Option, Some, None, refl, sym, ap, ◌∙◌, subst, arith}
 use Rattle.std.specs.List.{flat_map}
 use Rattle.std.specs.List.Sorted.{IsNonDecreasingBy}
-use Rattle.std.proofs.lemmas.List.{length-append, length-map, take_more, take-take}
+use Rattle.std.proofs.lemmas.List.{drop-append-le, drop-drop, drop_at, drop_more, length-append, length-drop, length-map, take-append-drop, take_at, take_more, take-take}
 use Rattle.std.proofs.Math.Seq.{take-length}
 use Rattle.std.proofs.lemmas.List.Concat.{flat_map-append, get_or-flat_map, length-flat_map}
 use Rattle.std.proofs.lemmas.List.Folds.{length-flat_map-take}
@@ -13,6 +13,7 @@ use Rattle.commit_sink.specs.declared.share.End.{End}
 use Rattle.commit_sink.specs.declared.share.Share.{Share}
 use Rattle.commit_sink.specs.Ends.{Stands, rows_of}
 use Rattle.commit_sink.specs.Ledger.{Ledger, Transaction, committed_rows, records_of, transaction_at}
+use Rattle.commit_sink.specs.Runs.{IsRunFrom}
 use Rattle.commit_sink.specs.Shares.{IsShare, empty_share, numbers_of}
 use Rattle.commit_sink.proofs.Ends.{rows_of-take}
 
@@ -97,3 +98,39 @@ no_row l s index share i past = slice_get_past (committed_rows l s) index (subst
 
 pub empty_rows : (l : Ledger) (s : ℕ) → IsShare l s empty_share → committed_rows l s ≡ []
 empty_rows l s i = ap (flat_map (records_of l)) (sym i.numbers)
+
+-- what stands in joined lists from a place of one of them on
+joined-from : {A : Type 0} (f : ℕ → List A) (ns : List ℕ) (k place : ℕ) → k < length ns → place ≤ length (f (get_or ns k 0))
+    → drop (length (flat_map f (take k ns)) + place) (flat_map f ns) ≡ drop place (f (get_or ns k 0)) ++ flat_map f (drop (k + 1) ns)
+joined-from f ns k place within inside =
+    let parts : flat_map f ns ≡ flat_map f (take k ns) ++ (f (get_or ns k 0) ++ flat_map f (drop (k + 1) ns)) =
+    ap (flat_map f) (sym (take-append-drop k ns) ∙ ap (λ l. take k ns ++ l) (drop_more ns k 0 within)) ∙ flat_map-append f (take k ns) (get_or ns k 0 ∷ drop (k + 1) ns) in
+    ap (drop (length (flat_map f (take k ns)) + place)) parts
+    ∙ sym (drop-drop place (length (flat_map f (take k ns))) (flat_map f (take k ns) ++ (f (get_or ns k 0) ++ flat_map f (drop (k + 1) ns))))
+    ∙ ap (drop place) (drop_at (flat_map f (take k ns)) (f (get_or ns k 0) ++ flat_map f (drop (k + 1) ns)) (length (flat_map f (take k ns))) refl)
+    ∙ drop-append-le place (f (get_or ns k 0)) (flat_map f (drop (k + 1) ns)) inside
+
+-- the records of the transaction that has the record, from that one on
+pub run-found : (l : Ledger) (s index : ℕ) (share : Share) (k n place : ℕ) → IsShare l s share → Stands share.ends.items k index (n, place) → (r : RowFound l s index n place) → IsRunFrom (committed_rows l s) index (drop place r.transaction.records)
+run-found l s index share k n place i st r =
+    let items : List End = share.ends.items in
+    let ns : List ℕ = numbers_of share.ends.items in
+    let within : k < length items = slice_get_within items k st.end st.is in
+    let within_ns : k < length ns = subst (λ m. k < m) (sym (length-map items (λ e. e.transaction))) within in
+    let number : slice_get ns k ≡ Some n = slice_get-map (λ e. e.transaction) items k ∙ ap (option_map (λ e. e.transaction)) st.is ∙ ap Some st.transaction in
+    let records : records_of l (get_or ns k 0) ≡ r.transaction.records = ap (records_of l) (get_or_from_slice_get ns k n 0 number) ∙ ap records_one r.is in
+    let inside = r.within in
+    let there : place < length (records_of l (get_or ns k 0)) = subst (λ xs. place < length xs) (sym records) inside in
+    let before = i.rows k (omega (arith, within)) in
+    let at = st.place in
+    let index_is : length (flat_map (records_of l) (take k ns)) + place ≡ index = omega (arith, before, at) in
+    let from : drop index (committed_rows l s) ≡ drop place r.transaction.records ++ flat_map (records_of l) (drop (k + 1) ns) =
+    ap (λ xs. drop index (flat_map (records_of l) xs)) (sym i.numbers)
+    ∙ ap (λ m. drop m (flat_map (records_of l) ns)) (sym index_is)
+    ∙ joined-from (records_of l) ns k place within_ns (omega (arith, there))
+    ∙ ap (λ xs. drop place xs ++ flat_map (records_of l) (drop (k + 1) ns)) records in
+    let left = length-drop place r.transaction.records in
+    record {
+      first = sym (ap (take (length (drop place r.transaction.records))) from ∙ take_at (drop place r.transaction.records) (flat_map (records_of l) (drop (k + 1) ns)) (length (drop place r.transaction.records)) refl);
+      some = λ _. omega (arith, left, inside);
+    }

@@ -4,6 +4,7 @@ ghost use Rattle.std.specs.Prelude.{◌≡◌, ◌+◌, if◌then◌else◌, is_
 ghost use Rattle.commit_sink.specs.Calls.{call_number};
 
 use crate::transactions::{TransactionFault, Transactions};
+use abs_codec::Bytes;
 use fault_plan::{Plan, When};
 
 /// How many kinds of call may fail.
@@ -180,6 +181,10 @@ impl<X: FaultlessTransactions> Transactions for FlakyTransactions<X> {
 
     fn committed(&self, subtask: u32, index: u64) -> Result<Option<Vec<u8>>, TransactionFault> {
         self.transactions.committed(subtask, index)
+    }
+
+    fn committed_from(&self, subtask: u32, index: u64) -> &[Bytes] {
+        self.transactions.committed_from(subtask, index)
     }
 
     fn faults(&self) -> u64 {

@@ -1,6 +1,6 @@
 //! Transactions in memory.
 
-ghost use Rattle.std.specs.Prelude.{◌≡◌, ◌≢◌, ◌<◌, ◌≤◌, ◌+◌, ◌-◌, ◌^◌, ◌↔◌, ℕ, IsTrue, [], ◌∷◌, ◌++◌, true, length, refl, None, Some, slice_get, slice_set, OnOk, OnErr, IfOk, IfErr, IfSome, IfNone, MatchResult, MatchOption};
+ghost use Rattle.std.specs.Prelude.{◌≡◌, ◌≢◌, ◌<◌, ◌≤◌, ◌+◌, ◌-◌, ◌^◌, ◌↔◌, ℕ, IsTrue, [], ◌∷◌, ◌++◌, true, length, drop, refl, None, Some, slice_get, slice_set, OnOk, OnErr, IfOk, IfErr, IfSome, IfNone, MatchResult, MatchOption};
 ghost use Rattle.std.specs.List.{filter_map};
 ghost use Rattle.std.proofs.Props.{props};
 ghost use Rattle.commit_sink.specs.declared.transactions.Progress.{Progress};
@@ -256,6 +256,16 @@ fn row_at(transactions: &Vec<Entry>, transaction: u64, place: u64) -> &[u8]
     records[place as usize].as_slice()
 }
 
+/// The records of a transaction from a place on.
+fn rows_from(transactions: &Vec<Entry>, transaction: u64, place: u64) -> &[Bytes]
+    requires { HasRow transactions.now.items transaction place }
+    ensures { (t : Transaction) → transaction_in transactions.now.items transaction ≡ Some t
+        → result.now ≡ drop place t.records }
+{
+    let records = transactions[(transaction - 1) as usize].records();
+    &records[place as usize..]
+}
+
 /// A transaction that is neither committed nor aborted: its number, with its checkpoint if it is
 /// pre-committed.
 fn unsettled_number(transactions: &Vec<Entry>, number: u64) -> Option<(u64, Option<u64>)>
@@ -419,6 +429,16 @@ impl Transactions for MemoryTransactions {
         };
         let row = row_at(&self.transactions, transaction, place);
         Ok(Some(Vec::from_slice(self.alloc, row)?))
+    }
+
+    fn committed_from(&self, subtask: u32, index: u64) -> &[Bytes] {
+        let Some(share) = share_of(&self.shares, subtask) else {
+            return &[];
+        };
+        let Some((transaction, place)) = share.find(index) else {
+            return &[];
+        };
+        rows_from(&self.transactions, transaction, place)
     }
 
     fn faults(&self) -> u64 {

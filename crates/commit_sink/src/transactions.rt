@@ -4,8 +4,9 @@ ghost use Rattle.std.specs.Prelude.{◌≡◌, ◌≢◌, ◌↔◌, ◌<◌, �
 ghost use Rattle.std.specs.Option.{option_map};
 ghost use Rattle.commit_sink.specs.declared.transactions.TransactionFault.TheVariants.{Memory};
 ghost use Rattle.commit_sink.specs.Ledger.{Ledger, Ends, IsOrdered, aborted, abort_refusal, appended, begun, committed_rows, after_commit, commit_refusal, open_refusal, pre_committed, unsettled_of};
+ghost use Rattle.commit_sink.specs.Runs.{IsRunFrom};
 
-use abs_codec::NoMemory;
+use abs_codec::{Bytes, NoMemory};
 use std::alloc::{AllocError, AllocFailed};
 use thiserror::Error;
 
@@ -157,6 +158,11 @@ pub trait Transactions {
         ensures row { IfOk result (λ row. option_map (λ bytes. bytes.items) row
             ≡ slice_get (committed_rows (state self.now) subtask) index) }
         ensures memory { IfErr result (λ f. f ≡ TransactionFault.Memory) };
+
+    /// The committed records of a subtask from this one on, as many as stand together: one at
+    /// least, where there is one. It takes no memory.
+    fn committed_from(&self, subtask: u32, index: u64) -> &[Bytes]
+        ensures { IsRunFrom (committed_rows (state self.now) subtask) index result.now };
 
     /// How often a call has failed. At 2^64 - 1, no call fails any more.
     fn faults(&self) -> u64

@@ -6,6 +6,7 @@ ghost use Rattle.abs_codec.specs.Spelling.{Fits};
 ghost use Rattle.checkpoint_model.specs.Cuts.{IsReachedCut};
 ghost use Rattle.commit_sink.specs.Ledger as ledgers;
 ghost use Rattle.commit_sink.specs.Ledger.{committed_rows};
+ghost use Rattle.commit_sink.specs.Runs.{IsRunFrom};
 ghost use Rattle.dataflow_model.specs.Machine as machine;
 ghost use Rattle.job_graph.specs.Expanded.{is_source, is_sink};
 ghost use Rattle.job_graph.specs.PlainGraph.{HaveOperators};
@@ -26,6 +27,7 @@ ghost use Rattle.dataflow_core.specs.CoreState.{claims_after};
 ghost use Rattle.dataflow_core.specs.Steps.{IsStep, IsRestart};
 
 use crate::held::{Claim, drop_claims};
+use abs_codec::Bytes;
 use commit_sink::Transactions;
 use engine::{CoreFault, Engine, Persisted};
 use engine_model::Rules;
@@ -333,5 +335,16 @@ impl<O: Operator, S: SnapshotStore, X: Transactions, P: Partitions<Record = O::R
             < count_by is_sink self.now.engine.graph.tasks))) }
     {
         self.engine.committed(subtask, number)
+    }
+
+    /// The committed records of a sink subtask from this one on, as many as stand together: one at
+    /// least, where there is one. It takes no memory.
+    pub fn committed_from(&self, subtask: u32, number: u64) -> Result<&[Bytes], CoreFault>
+        ensures ok { IfOk result (λ run. (subtask < count_by is_sink self.now.engine.graph.tasks)
+            × IsRunFrom (committed_rows self.now.engine.ledger subtask) number run.now) }
+        ensures err { IfErr result (λ fault. (fault ≡ CoreFault.NoSuchTask)
+            × (count_by is_sink self.now.engine.graph.tasks ≤ subtask)) }
+    {
+        self.engine.committed_from(subtask, number)
     }
 }

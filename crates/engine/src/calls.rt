@@ -4,6 +4,7 @@ ghost use Rattle.std.specs.Prelude.{◌≡◌, ◌≢◌, ◌⊎◌, ◌↔◌, 
 ghost use Rattle.std.specs.Option.{option_map};
 ghost use Rattle.commit_sink.specs.Ledger as ledgers;
 ghost use Rattle.commit_sink.specs.Ledger.{committed_rows};
+ghost use Rattle.commit_sink.specs.Runs.{IsRunFrom};
 ghost use Rattle.job_graph.specs.Expanded.{is_source, is_sink};
 ghost use Rattle.job_graph.specs.declared.role.Role.TheVariants as Role;
 ghost use Rattle.job_graph.specs.PlainGraph.{HaveOperators};
@@ -32,6 +33,7 @@ ghost use Rattle.claims.specs.Tasks.{EndsBarrier};
 ghost use Rattle.engine.specs.Running.{IsCounted, IsSameJob, number_of, raised, attempts_after, OnDown, OnAttempt, OnStore, OnTransactions};
 
 use crate::tasks::take_barrier;
+use abs_codec::Bytes;
 use alignment::Effect;
 use commit_sink::Transactions;
 use engine_checkpoints::{commit, complete, persist, persist_some, trigger};
@@ -547,5 +549,19 @@ impl<O: Operator, S: SnapshotStore, X: Transactions, P: Partitions<Record = O::R
             Ok(row) => Ok(row),
             Err(_) => Err(CoreFault::Memory),
         }
+    }
+
+    /// The committed records of a sink subtask from this one on, as many as stand together: one at
+    /// least, where there is one. It takes no memory.
+    pub fn committed_from(&self, subtask: u32, number: u64) -> Result<&[Bytes], CoreFault>
+        ensures ok { IfOk result (λ run. (subtask < count_by is_sink self.now.graph.tasks)
+            × IsRunFrom (committed_rows self.now.ledger subtask) number run.now) }
+        ensures err { IfErr result (λ fault. (fault ≡ CoreFault.NoSuchTask)
+            × (count_by is_sink self.now.graph.tasks ≤ subtask)) }
+    {
+        if subtask >= self.graph.sinks() {
+            return Err(CoreFault::NoSuchTask);
+        }
+        Ok(self.transactions.committed_from(subtask, number))
     }
 }

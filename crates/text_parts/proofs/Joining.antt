@@ -33,10 +33,6 @@ pub more_written : (P : ℕ → List ℕ → Type 0) (first n k m all : ℕ) (ol
 more_written P first n k m all old mid new before at after is =
     (before.0 ++ after.0, joined P first n k m all before.0 after.0 before.1 at after.1 is, Appends-trans old mid new before.0 after.0 before.2 after.2)
 
-pub line_written : (P : ℕ → List ℕ → Type 0) (n : ℕ) (line : List ℕ) (old mid new : Option (List ℕ)) → WritesLines P 0 n old mid → P n line → Appends mid new line → WritesLines P 0 (n + 1) old new
-line_written P n line old mid new before its after =
-    (before.0 ++ line, one_more P 0 n n (n + 1) before.0 line before.1 (omega arith) its refl, Appends-trans old mid new before.0 line before.2 after)
-
 -- the lines before a part, and those of the part, are those before the next
 next_part : (count size k : ℕ) → lines_before count size (suc k) ≡ lines_before count size k + min size (count - lines_before count size k)
 next_part count size k =

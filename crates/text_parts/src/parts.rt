@@ -57,27 +57,8 @@ pub(crate) struct Part<E> {
     pub(crate) fault: Option<TextFault<E>>,
 }
 
-/// Puts a line last in the text. The buffer is used again.
-fn append_line<L: Lines>(
-    lines: &L,
-    number: u64,
-    buffer: Vec<u8>,
-    text: &mut Vec<u8>,
-) -> Result<Vec<u8>, TextFault<L::Fault>>
-    ensures { IfOk result (λ line. L.IsLine lines.now number line.items
-        × (text.new.items ≡ text.old.items ++ line.items)) }
-{
-    let line = match lines.line(number, buffer) {
-        Ok(line) => line,
-        Err(fault) => return Err(TextFault::Line(fault)),
-    };
-    text.extend_from_slice(&line)?;
-    Ok(line)
-}
-
 /// Puts so many lines last in the text, from this one on.
 fn append_lines<L: Lines>(
-    alloc: Global,
     lines: &L,
     first: u64,
     count: u64,
@@ -87,9 +68,12 @@ fn append_lines<L: Lines>(
     ensures { OnOk result ((bytes : List ℕ) × AreLines (L.IsLine lines.now) first count bytes
         × (text.new.items ≡ text.old.items ++ bytes)) }
 {
-    let mut line = Vec::new(alloc);
-    for number in first..first + count {
-        line = append_line(lines, number, line, text)?;
+    let mut done = 0;
+    while done < count {
+        match lines.put_lines(first + done, count - done, text) {
+            Ok(put) => done += put,
+            Err(fault) => return Err(TextFault::Line(fault)),
+        }
     }
     Ok(())
 }
@@ -100,7 +84,7 @@ fn spell<L: Lines>(alloc: Global, lines: &L, first: u64, count: u64) -> Part<L::
     ensures { IfNone result.fault (AreLines (L.IsLine lines.now) first count result.text.items) }
 {
     let mut text = Vec::new(alloc);
-    let fault = append_lines(alloc, lines, first, count, &mut text).err();
+    let fault = append_lines(lines, first, count, &mut text).err();
     Part { text, fault }
 }
 

@@ -1,24 +1,20 @@
 use Rattle.std.proofs.Common.{rules, ◌≡◌, refl, subst, arith}
-use Rattle.text_parts.specs.Lines.{WritesLines}
-use Rattle.text_parts.proofs.Joining.{none_written, line_written}
+use Rattle.std.specs.Io.KnownBytes.{Appends}
+use Rattle.text_parts.proofs.Joining.{more_written}
 use Rattle.absflow_run.specs.Printed.{IsRecordLine}
+use Rattle.absflow_run.proofs.RunLines.{put_alone}
 use Rattle.absflow_run.proofs.committed.print_lines.Goals as goal
 
-pub loop-number-init : goal.loop-number-init
-loop-number-init g c = (omega arith, none_written (IsRecordLine (g.C.CommittedRows.records c.args.lines.now.core.now c.args.lines.now.sink)) 0 0 (g.W.Write.contents c.args.out.now) refl)
-
-pub loop-number-preserved : goal.loop-number-preserved
-loop-number-preserved g c =
-    let (to, written) = c.loop-number.invariant in
-    let less = c.loop-number-test.true in
-    let its = c.in_ok-line.ensures in (
-      omega (arith, less),
-      line_written (IsRecordLine (g.C.CommittedRows.records c.args.lines.now.core.now c.args.lines.now.sink)) c.loop-number.number c.in_ok-line.line.items _ _ _ written its (search rules),
+pub loop-done-preserved : goal.loop-done-preserved
+loop-done-preserved g c =
+    let (within, written) = c.loop-done.invariant in
+    let (bytes, lines, text) = c.in_ok-done.ensures.lines in
+    let most = c.in_ok-done.ensures.most in
+    let few = c.min.ensures in
+    let less = c.loop-done-test.true in
+    let same : c.put_lines-put.new.text.items ≡ bytes = put_alone bytes c.clear.new.self.items c.put_lines-put.new.text.items text c.clear.ensures.items in
+    let out : Appends (g.W.Write.contents c.loop-done.out) (g.W.Write.contents c.write_all.new.self) c.put_lines-put.new.text.items = search rules in (
+      omega (arith, most, few, less),
+      more_written (IsRecordLine (g.C.CommittedRows.records c.args.lines.now.core.now c.args.lines.now.sink)) 0 c.loop-done.done c.loop-done.done c.in_ok-done.field-0 _ _ _ _ written (omega arith)
+          (bytes, lines, subst (Appends (g.W.Write.contents c.loop-done.out) (g.W.Write.contents c.write_all.new.self)) same out) refl,
     )
-
-pub returns : goal.returns
-returns g c =
-    let (to, written) = c.loop-number.invariant in
-    let past = c.loop-number-test.false in
-    let all : c.loop-number.number ≡ c.args.rows = omega (arith, to, past) in
-    subst (λ n. WritesLines (IsRecordLine (g.C.CommittedRows.records c.args.lines.now.core.now c.args.lines.now.sink)) 0 n (g.W.Write.contents c.args.out.now) (g.W.Write.contents c.loop-number.out)) all written
