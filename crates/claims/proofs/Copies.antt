@@ -5,7 +5,7 @@ use Rattle.std.specs.BTreeMap.{is_at, insert_entry}
 use Rattle.std.specs.Cmp.{IsTotalOrder, IsEquivalence, Equal-is, eq_by_cmp_equiv}
 use Rattle.std.specs.Iterator.Adapters.{zip_first, zip_second}
 use Rattle.std.specs.List.{All, Contains, IsAmong, zip}
-use Rattle.std.specs.List.Sorted.{IsStrictlySortedBy}
+use Rattle.std.specs.List.Sorted.{IsPermutation, IsStrictlySortedBy}
 use Rattle.std.specs.Map.{keys_of}
 use Rattle.std.specs.Ordering.{eq_by_cmp, ordering_reverse}
 use Rattle.std.specs.Slice.Iter.{iter_rest}
@@ -13,6 +13,7 @@ use Rattle.std.specs.declared.cmp.Ordering.TheVariants.{Less, Equal, Greater}
 use Rattle.std.specs.declared.iter.Zip.{Zip}
 use Rattle.std.proofs.iter.Yields.{fronts}
 use Rattle.std.proofs.lemmas.Bool.{false≢true}
+use Rattle.std.proofs.lemmas.List.Sorted.{Contains-permutation, IsPermutation-sym}
 use Rattle.std.proofs.lemmas.Iterator.{zips}
 use Rattle.std.proofs.lemmas.Map.{lookup-none}
 use Rattle.std.proofs.lemmas.Map.Entries.{lookup_head, lookup_tail, lookup_from_place, none_past_head, none_below_head}
@@ -205,6 +206,13 @@ among_contained xs q (i, less, is) = (i, (less, sym is))
 
 pub contained_among : {K : Type 0} (xs : List K) (q : K) → IsAmong xs q → Contains xs q
 contained_among xs q (i, (less, is)) = (i, less, sym is)
+
+-- the same keys in another order
+pub among_moved : {K : Type 0} (xs ys : List K) → IsPermutation xs ys → (q : K) → IsAmong ys q ↔ IsAmong xs q
+among_moved xs ys moved q = (
+  λ among. among_contained xs q (Contains-permutation _ _ q (IsPermutation-sym _ _ moved) (contained_among ys q among)),
+  λ among. among_contained ys q (Contains-permutation _ _ q moved (contained_among xs q among)),
+)
 
 -- ---- both are walked at once
 

@@ -1,5 +1,6 @@
 pub mod Copies
 pub mod Dues
+pub mod Expected
 pub mod Holdings
 pub mod InTurn
 pub mod Keys

@@ -69,6 +69,16 @@ EndsAsking graph task input (Ok u) = (channel : ℕ) × WorksFrom graph task inp
 EndsAsking graph task input (Err NoSuchTask) = (channel : ℕ) → ¬ WorksFrom graph task input channel
 EndsAsking graph task input (Err other) = ⊥
 
+-- The task is this operator and has these states, the input is this channel, and the records are the next to take from it: the work is
+-- due if the states that it was given are the task's.
+pub record IsDueOn {R K S O : Type 0} (graph : Expanded) (operators : List O) (task input : ℕ) (h : Held R K S) (channel : ℕ) (entries : List (K × S)) (p : Operand O K S R) : Type 0 where
+  pub number : ℕ
+  pub is_operator : slice_get graph.tasks task ≡ Some (role.Operator number)
+  pub same_operator : slice_get operators number ≡ Some p.operator
+  pub leads : input_at graph task input ≡ Some channel
+  pub first : AreRecordsDue task input h channel p.rows.items
+  pub was : slice_get h.tasks task ≡ Some (holds.Operator entries)
+
 module _ {R K S O : Type 0} (lang : Language R K S O) (graph : Expanded) (operators : List O) (task input : ℕ) (h : Held R K S) where
   -- The task is this operator, the input is this channel, from which the records are the next to take, and the task has these states.
   pub record IsOperandDue (channel : ℕ) (p : Operand O K S R) : Type 0 where

@@ -1,49 +1,80 @@
 //! A result is taken.
 
-ghost use Rattle.std.specs.Prelude.{◌≡◌, ◌≢◌, ◌<◌, List, Err, None, Some, length, slice_get, OnOk, OnErr};
+ghost use Rattle.std.specs.Prelude.{◌≡◌, ◌≢◌, ◌<◌, ◌↔◌, List, Err, None, Some, IsTrue, IfNone, length, slice_get, OnOk, OnErr};
 ghost use Rattle.commit_sink.specs.Ledger.{Ledger, open_refusal};
 ghost use Rattle.commit_sink.specs.Sink.{Sinking};
+ghost use Rattle.keyed_state.specs.declared.comparing.SetFault.TheVariants as SetFault;
 ghost use Rattle.job_state.specs.Batch.{Turn, OperatesEach};
 ghost use Rattle.job_state.specs.Held.{gate_at};
 ghost use Rattle.job_state.specs.declared.holding.Holding.TheVariants as Holding;
 ghost use Rattle.engine_model.specs.declared.fault.CoreFault.TheVariants as CoreFault;
 ghost use Rattle.engine_model.specs.Calls.{IsRecordDue, EndsPutOut};
 ghost use Rattle.engine_model.specs.Keeps.{Shape};
-ghost use Rattle.claims.specs.Carried.{IsOperand, IsOutcome, turns_given};
-ghost use Rattle.claims.specs.Due.{IsOperandDue, EndsTaking, EndsAccept};
+ghost use Rattle.claims.specs.Carried.{AreStatesOf, IsOperand, IsOutcome, turns_given};
+ghost use Rattle.claims.specs.Due.{IsDueOn, EndsTaking, EndsAccept};
 ghost use Rattle.claims.specs.Tasks.{Serves};
 ghost use Rattle.claims.specs.declared.parts.Given.TheVariants as Given;
 
 use crate::carried::Worked;
-use crate::due::{is_due, operand_channel, row_channel};
+use crate::due::{has_states, is_due, records_channel, row_channel};
 use crate::parts::{Given, Made, Operand, Outcomes};
-use abs_codec::NoMemory;
+use crate::states::States;
 use commit_sink::{TransactionFault, Transactions};
 use engine_model::{CoreFault, Rules};
 use job_graph::Graph;
 use job_state::Attempt;
+use keyed_state::SetFault;
 use operators::Operator;
 
-/// An operator's records are taken, which are due, with what it made of them.
+/// Whether a task has these states, where they are not compared as others are kept.
+fn has_uncompared<O: Operator>(
+    attempt: &Attempt<O>,
+    task: u32,
+    states: &States<O::Key, O::State>,
+    expected: Option<&[Option<O::State>]>,
+) -> bool
+    ensures { (entries : List (O.Key × O.State))
+        → slice_get attempt.now.tasks task ≡ Some (Holding.Operator entries) → IsTrue result
+        ↔ IfNone expected (AreStatesOf O.Key.cmp entries states.now) }
+{
+    match expected {
+        Some(_) => true,
+        None => has_states(attempt, task, states),
+    }
+}
+
+/// An operator's records are taken, which are due where the task has the states that the work was
+/// given, with what it made of them.
 fn operate<O: Operator>(
     attempt: &mut Attempt<O>,
     graph: &Graph,
     task: u32,
     input: u32,
     channel: u32,
-    operand: Operand<O, O::Key, O::State, O::Record>,
+    operand: &Operand<O, O::Key, O::State, O::Record>,
     outcomes: Outcomes<O::Key, O::State, O::Record>,
-) -> Result<(), NoMemory>
+) -> Result<(), SetFault>
     ghost turns: { List (Turn O.Record O.Key O.State) }
-    requires shape { (operators : List O) × Shape ⟦<O as Rules>⟧.all graph.now operators attempt.old
-        × IsOperandDue ⟦<O as Rules>⟧.lang graph.now operators task input attempt.old channel
-        operand }
-    requires outcomes { IsOutcome O.meaning O.Key.cmp operand outcomes }
-    requires turns { turns ≡ turns_given O.meaning O.Key.cmp operand }
+    requires shape { (operators : List O) × (entries : List (O.Key × O.State))
+        × Shape ⟦<O as Rules>⟧.all graph.now operators attempt.old
+        × IsDueOn graph.now operators task input attempt.old channel entries operand.now }
+    requires some { 0 < length operand.now.rows.items }
+    requires outcomes { IsOutcome O.meaning O.Key.cmp operand.now outcomes }
+    requires turns { turns ≡ turns_given O.meaning O.Key.cmp operand.now }
     ensures ok { OnOk result (OperatesEach O.meaning O.Key.cmp graph.now task input channel turns
         attempt.old attempt.new) }
+    ensures same { (entries : List (O.Key × O.State))
+        → slice_get attempt.old.tasks task ≡ Some (Holding.Operator entries)
+        → OnOk result (AreStatesOf O.Key.cmp entries operand.now.states) }
+    ensures changed { (entries : List (O.Key × O.State))
+        → slice_get attempt.old.tasks task ≡ Some (Holding.Operator entries)
+        → result ≡ Err SetFault.Changed → ¬ AreStatesOf O.Key.cmp entries operand.now.states }
     ensures err { OnErr result (attempt.new ≡ attempt.old) }
 {
+    let expected = operand.states.under_entries(&outcomes.states);
+    if !has_uncompared(attempt, task, &operand.states, expected) {
+        return Err(SetFault::Changed);
+    }
     let count = operand.rows.len();
     attempt.operate_some(
         graph,
@@ -52,11 +83,13 @@ fn operate<O: Operator>(
         channel,
         count,
         outcomes.states,
+        expected,
         outcomes.sent,
     )
 }
 
-/// An operator's outcomes are taken.
+/// An operator's outcomes are taken. Its states are compared as they are kept, or where memory is
+/// refused.
 fn accept_outcomes<O: Operator>(
     attempt: &mut Attempt<O>,
     graph: &Graph,
@@ -74,11 +107,20 @@ fn accept_outcomes<O: Operator>(
     ensures ends { (ledger : Ledger) → EndsTaking ⟦<O as Rules>⟧.lang graph.now operators.now task
         input attempt.old attempt.new ledger ledger (Given.Operator operand) result }
 {
-    let Some(channel) = operand_channel(attempt, graph, operators, task, input, &operand) else {
+    let Some(channel) = records_channel(attempt, graph, operators, task, input, &operand) else {
         return Err(CoreFault::WrongResult);
     };
-    operate(attempt, graph, task, input, channel, operand, outcomes)?;
-    Ok(())
+    match operate(attempt, graph, task, input, channel, &operand, outcomes) {
+        Ok(()) => Ok(()),
+        Err(SetFault::Changed) => Err(CoreFault::WrongResult),
+        Err(SetFault::Memory) => {
+            if has_states(attempt, task, &operand.states) {
+                Err(CoreFault::Memory)
+            } else {
+                Err(CoreFault::WrongResult)
+            }
+        }
+    }
 }
 
 /// A sink puts bytes, which spell the record at the head of its input, last in its open

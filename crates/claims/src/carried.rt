@@ -89,11 +89,13 @@ fn outcome_of<O: Operator>(
     operand.operator.apply(alloc, state, row)
 }
 
-/// An operator works a record: its key's state is left, and what is sent is put last.
+/// An operator works a record: its key's state is left, and what is sent is put last. The key's
+/// place may be the one that is guessed.
 fn work_row<O: Operator>(
     alloc: Global,
     operand: &Operand<O, O::Key, O::State, O::Record>,
     row: &O::Record,
+    guess: Option<&u32>,
     left: &mut [Place<O::Key, O::State>],
     sent: &mut Vec<(u32, O::Record)>,
 ) -> Result<(), NoMemory>
@@ -111,7 +113,7 @@ fn work_row<O: Operator>(
         (⟦<O as Rules>⟧.IsGood operand.now.operator) (left_at left.new)) }
 {
     let key = operand.operator.key(alloc, row)?;
-    let place = place_of(left, &key);
+    let place = place_of(left, &key, guess);
     let mut outcome = outcome_of(alloc, operand, left, place, row)?;
     sent.append(&mut outcome.sent)?;
     if let Some(place) = place {
@@ -134,8 +136,10 @@ fn outcomes_of<O: Operator>(
     };
     let mut left = places_of(alloc, copies)?;
     let mut sent = Vec::with_capacity(alloc, operand.rows.len())?;
+    let mut guesses = copies.guesses().iter();
     for row in &operand.rows {
-        work_row(alloc, operand, row, &mut left, &mut sent)?;
+        let guess = guesses.next();
+        work_row(alloc, operand, row, guess, &mut left, &mut sent)?;
     }
     let states = entries_of(alloc, left)?;
     Ok(Outcomes { states, sent })

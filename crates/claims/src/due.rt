@@ -12,7 +12,7 @@ ghost use Rattle.engine_model.specs.Calls.{IsRecordDue};
 ghost use Rattle.engine_model.specs.Keeps.{GateFits, Shape};
 ghost use Rattle.claims.specs.Carried.{AreStatesOf};
 ghost use Rattle.claims.specs.Keys.{states_under};
-ghost use Rattle.claims.specs.Due.{WorksFrom, IsOperandDue, IsRowDue, IsDue};
+ghost use Rattle.claims.specs.Due.{WorksFrom, IsDueOn, IsOperandDue, IsRowDue, IsDue};
 
 use crate::inputs::{first_record, input_of};
 use crate::parts::{Given, Operand};
@@ -154,7 +154,7 @@ fn has_lent<O: Operator>(
 }
 
 /// Whether a task has these states.
-fn has_states<O: Operator>(
+pub(crate) fn has_states<O: Operator>(
     attempt: &Attempt<O>,
     task: u32,
     states: &States<O::Key, O::State>,
@@ -166,6 +166,38 @@ fn has_states<O: Operator>(
     match &states.kept {
         Kept::Copied(copies) => has_copied(attempt, task, copies),
         Kept::Lent(keys, lent) => has_lent(attempt, task, keys, lent),
+    }
+}
+
+/// The channel from which a task is to take an operator's records, where that work is due if the
+/// task has the states that it was given.
+pub(crate) fn records_channel<O: Operator>(
+    attempt: &Attempt<O>,
+    graph: &Graph,
+    operators: &[O],
+    task: u32,
+    input: u32,
+    operand: &Operand<O, O::Key, O::State, O::Record>,
+) -> Option<u32>
+    requires shape { Shape ⟦<O as Rules>⟧.all graph.now operators.now attempt.now }
+    ensures some { IfSome result (λ channel. (entries : List (O.Key × O.State)) × IsDueOn
+        graph.now operators.now task input attempt.now channel entries operand.now) }
+    ensures none { IfNone result ((channel : ℕ) → ¬ IsOperandDue ⟦<O as Rules>⟧.lang graph.now
+        operators.now task input attempt.now channel operand.now) }
+{
+    let Some(Role::Operator(number)) = graph.role(task) else {
+        return None;
+    };
+    let Some(channel) = input_of(graph, task, input) else {
+        return None;
+    };
+    if is_operator(operators, number, &operand.operator)
+        && !attempt.is_blocked(task, input)
+        && has_records(attempt, channel, &operand.rows)
+    {
+        Some(channel)
+    } else {
+        None
     }
 }
 
@@ -184,17 +216,10 @@ pub(crate) fn operand_channel<O: Operator>(
     ensures none { IfNone result ((channel : ℕ) → ¬ IsOperandDue ⟦<O as Rules>⟧.lang graph.now
         operators.now task input attempt.now channel operand.now) }
 {
-    let Some(Role::Operator(number)) = graph.role(task) else {
+    let Some(channel) = records_channel(attempt, graph, operators, task, input, operand) else {
         return None;
     };
-    let Some(channel) = input_of(graph, task, input) else {
-        return None;
-    };
-    if is_operator(operators, number, &operand.operator)
-        && !attempt.is_blocked(task, input)
-        && has_records(attempt, channel, &operand.rows)
-        && has_states(attempt, task, &operand.states)
-    {
+    if has_states(attempt, task, &operand.states) {
         Some(channel)
     } else {
         None

@@ -1,8 +1,8 @@
 //! The states that are left while records are worked, each at its key's place. The places are those
-//! of the keys that the work carries, by rising keys: one search by halves finds a record's place,
-//! and its state is put there with no entry made.
+//! of the keys that the work carries, by rising keys: a record's place is guessed, or else found by
+//! a search by halves, and its state is put there with no entry made.
 
-ghost use Rattle.std.specs.Prelude.{◌≡◌, ◌<◌, [], Some, None, IfOk, IfSome, IfNone, length};
+ghost use Rattle.std.specs.Prelude.{◌≡◌, ◌<◌, [], Some, None, IfOk, IfSome, IfNone, IsTrue, length};
 ghost use Rattle.std.specs.List.Sorted.{IsStrictlySortedBy};
 ghost use Rattle.std.specs.Map.{keys_of};
 ghost use Rattle.std.specs.Option.{option_copied};
@@ -11,6 +11,7 @@ ghost use Rattle.claims.specs.Places.{given_at, left_at, state_at, IsPlaceOf, Ha
 use crate::states::Copies;
 use abs_codec::{Codec, NoMemory};
 use std::alloc::Global;
+use std::cmp::Ordering;
 
 /// A key's place: the state that is given there, and the one that is left, once one is.
 #[derive(Drop)]
@@ -40,14 +41,34 @@ pub(crate) fn places_of<'a, K: Ord, S: Drop>(
     Ok(places)
 }
 
-/// The place of a record's key, if it has one. It takes time logarithmic in how many there are.
-pub(crate) fn place_of<K: Ord, S>(places: &[Place<K, S>], key: &Option<K>) -> Option<usize>
+/// Whether a key stands at a place.
+fn stands_at<K: Ord, S>(places: &[Place<K, S>], place: usize, key: &K) -> bool
+    ensures { IsTrue result → IsPlaceOf K.cmp places.now (Some key.now) place }
+{
+    match places.get(place) {
+        Some(found) => key.cmp(found.key) == Ordering::Equal,
+        None => false,
+    }
+}
+
+/// The place of a record's key, if it has one. Where it is not the one that is guessed, it takes
+/// time logarithmic in how many there are.
+pub(crate) fn place_of<K: Ord, S>(
+    places: &[Place<K, S>],
+    key: &Option<K>,
+    guess: Option<&u32>,
+) -> Option<usize>
     requires rising { IsStrictlySortedBy K.cmp (keys_of (given_at places.now)) }
     requires keyed { HasPlace K.cmp places.now key.now }
     ensures found { IfSome result (λ place. IsPlaceOf K.cmp places.now key.now place) }
     ensures none { IfNone result (key.now ≡ None) }
 {
     let key = key.as_ref()?;
+    if let Some(guess) = guess {
+        if stands_at(places, *guess as usize, key) {
+            return Some(*guess as usize);
+        }
+    }
     places.binary_search_by(|place| place.key.cmp(key)).ok()
 }
 

@@ -1,8 +1,8 @@
 //! The states under the keys of the records that are claimed.
 
-ghost use Rattle.std.specs.Prelude.{◌≡◌, ◌↔◌, List, Some, IfOk, IfSome, length, map, slice_get};
+ghost use Rattle.std.specs.Prelude.{◌≡◌, ◌≤◌, ◌↔◌, List, [], Some, IsTrue, IfOk, IfErr, IfSome, length, map, slice_get, vec_len, vec_capacity};
 ghost use Rattle.std.specs.List.{IsAmong, zip};
-ghost use Rattle.std.specs.List.Sorted.{IsStrictlySortedBy};
+ghost use Rattle.std.specs.List.Sorted.{IsPermutation, IsStrictlySortedBy};
 ghost use Rattle.std.specs.Map.{keys_of};
 ghost use Rattle.std.specs.Option.{option_copied};
 ghost use Rattle.abs_codec.specs.Entries.{value_at};
@@ -23,6 +23,8 @@ use std::marker::Model;
 pub(crate) struct Copies<K: Ord, S> {
     keys: Vec<K>,
     states: Vec<Option<S>>,
+    /// At which place the key of each keyed record may stand: a guess, which saves a search.
+    guesses: Vec<u32>,
 }
 
 impl<K: Ord, S> Model for Copies<K, S> {
@@ -46,6 +48,11 @@ impl<K: Ord, S> Copies<K, S> {
         ensures rising { IsStrictlySortedBy K.cmp (keys_of self.now) }
     {
         (&self.keys, &self.states)
+    }
+
+    /// At which place the key of each keyed record may stand, in the order of the records.
+    pub(crate) fn guesses(&self) -> &[u32] {
+        &self.guesses
     }
 }
 
@@ -106,14 +113,93 @@ impl<O: Operator> Entries<O::Key, O::State> for TaskStates<'_, O> {
     }
 }
 
+/// The places of fewer keys than that are searched for.
+const FEW: usize = 8;
+
+/// The keys, each with how many stand before it. They are handed back where memory is refused.
+fn numbered<K: Drop>(alloc: Global, keys: Vec<K>) -> Result<Vec<(K, u32)>, Vec<K>>
+    ensures ok { IfOk result (λ pairs. keys_of pairs.items ≡ keys.items) }
+    ensures err { IfErr result (λ back. back.items ≡ keys.items) }
+{
+    let Ok(mut pairs) = Vec::with_capacity(alloc, keys.len()) else {
+        return Err(keys);
+    };
+    let mut number: u32 = 0;
+    for key in keys {
+        pairs.push_reserved((key, number));
+        number = number.wrapping_add(1);
+    }
+    Ok(pairs)
+}
+
+/// The keys of these pairs, in their order, and in `guesses` for each number the place of the key
+/// beside it once each key stands once, if the pairs are in order.
+fn unnumbered<K: Ord + Drop>(pairs: Vec<(K, u32)>, mut keys: Vec<K>, guesses: &mut [u32]) -> Vec<K>
+    requires empty { keys.items ≡ [] }
+    requires room { vec_len pairs ≤ vec_capacity keys }
+    ensures { result.items ≡ keys_of pairs.items }
+{
+    let mut place: u32 = 0;
+    for (key, number) in pairs {
+        if is_another(&keys, &key) {
+            place = place.wrapping_add(1);
+        }
+        if let Some(guess) = guesses.get_mut(number as usize) {
+            *guess = place;
+        }
+        keys.push_reserved(key);
+    }
+    keys
+}
+
+/// Whether a key is another one than the last of these.
+fn is_another<K: Ord>(keys: &[K], key: &K) -> bool {
+    match keys.last() {
+        Some(last) => last != key,
+        None => false,
+    }
+}
+
+/// The same keys in rising order, and for each as it came the place that it has once each stands
+/// once. There is nothing to gain for few keys; where memory is refused, all places are 0.
+fn with_guesses<K: Ord + Drop>(alloc: Global, keys: Vec<K>) -> (Vec<K>, Vec<u32>)
+    ensures moved { IsPermutation keys.items result.0.items }
+{
+    let mut guesses = Vec::new(alloc);
+    if keys.len() < FEW || guesses.resize(keys.len(), 0).is_err() {
+        return (keys, guesses);
+    }
+    let Ok(room) = Vec::with_capacity(alloc, keys.len()) else {
+        return (keys, guesses);
+    };
+    match numbered(alloc, keys) {
+        Ok(mut pairs) => {
+            pairs.sort_unstable();
+            (unnumbered(pairs, room, &mut guesses), guesses)
+        }
+        Err(keys) => (keys, guesses),
+    }
+}
+
 /// Puts keys in rising order, each once.
-fn put_in_order<K: Ord + Drop>(keys: &mut Vec<K>)
+fn sort_once<K: Ord + Drop>(keys: &mut Vec<K>)
     ensures rising { IsStrictlySortedBy K.cmp keys.new.items }
     ensures same { OrderIsExact K.cmp → (q : K)
         → IsAmong keys.new.items q ↔ IsAmong keys.old.items q }
 {
     keys.sort_unstable();
     keys.dedup();
+}
+
+/// Puts keys in rising order, each once, and guesses the place of each as it came.
+fn put_in_order<K: Ord + Drop>(alloc: Global, keys: Vec<K>) -> (Vec<K>, Vec<u32>)
+    ensures rising { IsStrictlySortedBy K.cmp result.0.items }
+    ensures same { OrderIsExact K.cmp → (q : K)
+        → IsAmong result.0.items q ↔ IsAmong keys.items q }
+{
+    let (mut keys, guesses) = with_guesses(alloc, keys);
+    sort_once(&mut keys);
+    (keys, guesses)
 }
 
 /// Copies of the states under these keys, in the order of the keys.
@@ -148,13 +234,16 @@ pub(crate) fn states_of<O: Operator>(
         → slice_get attempt.now.tasks task ≡ Some (Holding.Operator entries)
         → states ≡ states_under O.Key.cmp entries keys.items) }
 {
-    let mut keys = keys;
     let kept = match attempt.lend(task) {
         Some(lent) => Kept::Lent(keys, lent),
         None => {
-            put_in_order(&mut keys);
-            let states = copied_states(alloc, &keys, &TaskStates { attempt, task })?;
-            Kept::Copied(Copies { keys, states })
+            let (rising, guesses) = put_in_order(alloc, keys);
+            let states = copied_states(alloc, &rising, &TaskStates { attempt, task })?;
+            Kept::Copied(Copies {
+                keys: rising,
+                states,
+                guesses,
+            })
         }
     };
     Ok(States { kept })
@@ -169,12 +258,16 @@ impl<K: Codec + Ord, S: Codec> States<K, S> {
             Kept::Copied(copies) => States {
                 kept: Kept::Copied(copies),
             },
-            Kept::Lent(mut keys, lent) => {
-                put_in_order(&mut keys);
+            Kept::Lent(keys, lent) => {
+                let (rising, guesses) = put_in_order(alloc, keys);
                 States {
-                    kept: match copied_states(alloc, &keys, &lent) {
-                        Ok(states) => Kept::Copied(Copies { keys, states }),
-                        Err(_) => Kept::Lent(keys, lent),
+                    kept: match copied_states(alloc, &rising, &lent) {
+                        Ok(states) => Kept::Copied(Copies {
+                            keys: rising,
+                            states,
+                            guesses,
+                        }),
+                        Err(_) => Kept::Lent(rising, lent),
                     },
                 }
             }
@@ -190,4 +283,46 @@ impl<K: Codec + Ord, S: Codec> States<K, S> {
             Kept::Lent(_, _) => None,
         }
     }
+
+    /// The states, in the order of these entries, where they are copied, each under the key of one
+    /// of them.
+    pub(crate) fn under_entries(&self, entries: &[(K, S)]) -> Option<&[Option<S>]>
+        ensures { OrderIsExact K.Ord.cmp → IfSome result (λ states.
+            (length states.now ≡ length entries.now)
+            × (zip (keys_of entries.now) states.now ≡ self.now)) }
+    {
+        let Some(copies) = self.as_copies() else {
+            return None;
+        };
+        let (keys, states) = copies.columns();
+        if states.len() == keys.len() && has_keys(entries, keys) {
+            Some(states)
+        } else {
+            None
+        }
+    }
+}
+
+/// Whether two keys are one.
+fn is_key<K: Ord>(key: &K, other: &K) -> bool
+    ensures { OrderIsExact K.cmp → IsTrue result → key.now ≡ other.now }
+{
+    key == other
+}
+
+/// Whether these are the keys of these entries, in their order.
+fn has_keys<K: Ord, S>(entries: &[(K, S)], keys: &[K]) -> bool
+    ensures { OrderIsExact K.cmp → IsTrue result → keys_of entries.now ≡ keys.now }
+{
+    let mut left = keys;
+    for entry in entries {
+        let Some((key, others)) = left.split_first() else {
+            return false;
+        };
+        if !is_key(&entry.0, key) {
+            return false;
+        }
+        left = others;
+    }
+    left.is_empty()
 }

@@ -1,4 +1,5 @@
 pub mod Places
+pub mod Kept
 pub mod Putting
 pub mod Received
 pub mod Logging

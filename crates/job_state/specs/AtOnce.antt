@@ -1,5 +1,5 @@
 -- Several records of one input, worked at once.
-use Rattle.std.specs.Prelude.{◌≡◌, ℕ, Bool, true, false, List, [], ◌++◌, map, drop, length, slice_get, slice_set, Some, unwrap_or}
+use Rattle.std.specs.Prelude.{◌≡◌, ℕ, Bool, true, false, List, [], ◌++◌, map, drop, length, slice_get, slice_set, Option, None, Some, unwrap_or}
 use Rattle.std.specs.Option.{option_or}
 use Rattle.std.specs.declared.cmp.Ordering.{Ordering}
 use Rattle.abs_codec.specs.Entries.{value_at}
@@ -9,6 +9,7 @@ use Rattle.channels.specs.declared.item.Item.TheVariants.{Record}
 use Rattle.dataflow_model.specs.Graph.{Meaning}
 use Rattle.dataflow_model.specs.Machine.{received}
 use Rattle.job_graph.specs.Expanded.{Expanded}
+use Rattle.keyed_state.specs.Comparing.{HaveStates}
 use Rattle.job_state.specs.Batch.{Turn, sent_by, kept_by, rows_of}
 use Rattle.job_state.specs.Held.{Held, gate_at}
 use Rattle.job_state.specs.Sending.{Puts, items_at}
@@ -24,6 +25,11 @@ module _ {R : Type 0} where
   abbrev pub log_with_all : Bool → ℕ → List R → List (List R) → List (List R)
   log_with_all false channel rows logs = logs
   log_with_all true channel rows logs = slice_set logs channel (unwrap_or (slice_get logs channel) [] ++ rows)
+
+-- each of these keys has the state that is expected of it, if any are
+abbrev pub HaveExpected : {K S : Type 0} → (K → K → Ordering) → (entries : List (K × S)) → List K → Option (List (Option S)) → Type 0
+HaveExpected cmp entries keys None = Unit {0}
+HaveExpected cmp entries keys (Some states) = HaveStates cmp entries keys states
 
 -- these states are kept, each under its key
 pub record KeepsAll {K S : Type 0} (cmp : K → K → Ordering) (states : List (K × S)) (old new : Holding K S) : Type 0 where

@@ -1,7 +1,9 @@
 //! Records that are sent, taken and logged.
 
-ghost use Rattle.std.specs.Prelude.{◌≡◌, ◌<◌, ◌+◌, ◌^◌, ℕ, List, length, slice_get, Some, OnOk, OnErr};
+ghost use Rattle.std.specs.Prelude.{◌≡◌, ◌<◌, ◌+◌, ◌^◌, ℕ, List, length, slice_get, Some, Err, OnOk, OnErr};
+ghost use Rattle.std.specs.Option.{option_copied};
 ghost use Rattle.channels.specs.declared.item.Item.TheVariants as Item;
+ghost use Rattle.keyed_state.specs.declared.comparing.SetFault.TheVariants as SetFault;
 
 use crate::attempt::Attempt;
 use crate::gates::is_logged;
@@ -12,12 +14,14 @@ use crate::tasks::{advance, keep, keep_all};
 use abs_codec::NoMemory;
 use channels::Item;
 use job_graph::Graph;
+use keyed_state::SetFault;
 use operators::Operator;
 
 impl<O: Operator> Attempt<O> {
     ghost use Rattle.job_state.specs.declared.holding.Holding.TheVariants as Holding;
     ghost use Rattle.job_state.specs.Sending.{items_at, without_head};
     ghost use Rattle.job_state.specs.Held.{Held, gate_at, Reads, Operates, record_logged};
+    ghost use Rattle.job_state.specs.AtOnce.{HaveExpected};
     ghost use Rattle.job_state.specs.Batch.{Turn, StandFirst, OperatesEach, AreLastStates, rows_of, sent_by};
     ghost use Rattle.std.specs.List.Sorted.{IsStrictlySortedBy};
     ghost use Rattle.std.specs.Map.{keys_of};
@@ -78,7 +82,8 @@ impl<O: Operator> Attempt<O> {
 
     /// An operator takes the first records of an input, which is this channel, keeps the last state
     /// of each key, and sends what all of them send: as it would one after another. The records are
-    /// logged where the task's gate logs the input. Nothing changes where memory is refused.
+    /// logged where the task's gate logs the input. Nothing changes where memory is refused, or
+    /// where a key has another state than the one that is expected, if any are.
     pub fn operate_some(
         &mut self,
         graph: &Graph,
@@ -87,8 +92,9 @@ impl<O: Operator> Attempt<O> {
         channel: u32,
         count: usize,
         states: Vec<(O::Key, O::State)>,
+        expected: Option<&[Option<O::State>]>,
         sent: Vec<(u32, O::Record)>,
-    ) -> Result<(), NoMemory>
+    ) -> Result<(), SetFault>
         ghost turns: { List (Turn O.Record O.Key O.State) }
         requires holds { (entries : List (O.Key × O.State))
             × (slice_get self.old.tasks task ≡ Some (Holding.Operator entries)) }
@@ -103,6 +109,15 @@ impl<O: Operator> Attempt<O> {
         requires sent { sent.items ≡ sent_by turns }
         ensures ok { OnOk result (OperatesEach O.meaning O.Key.cmp graph.now task input channel
             turns self.old self.new) }
+        ensures expected { 0 < count → (entries : List (O.Key × O.State))
+            → slice_get self.old.tasks task ≡ Some (Holding.Operator entries)
+            → OnOk result (HaveExpected O.Key.cmp entries (keys_of states.items)
+            (option_copied expected.entry)) }
+        // What is told of the states is so.
+        ensures changed { (entries : List (O.Key × O.State))
+            → slice_get self.old.tasks task ≡ Some (Holding.Operator entries)
+            → result ≡ Err SetFault.Changed → ¬ HaveExpected O.Key.cmp entries
+            (keys_of states.items) (option_copied expected.entry) }
         ensures err { OnErr result (self.new ≡ self.old) }
     {
         if count == 0 {
@@ -117,7 +132,7 @@ impl<O: Operator> Attempt<O> {
             task,
             sent,
         )?;
-        keep_all(&mut self.tasks, task, states)?;
+        keep_all(&mut self.tasks, task, states, expected)?;
         pass_on_all(
             &mut self.channels,
             &mut self.logs,

@@ -1,21 +1,23 @@
 //! One task: what it holds, and its copy for the pending checkpoint.
 
-ghost use Rattle.std.specs.Prelude.{◌≡◌, ◌≢◌, ℕ, List, [], drop, is_some, None, Some, OnOk, OnErr, IfSome, IfNone};
-ghost use Rattle.std.specs.Option.{option_copied};
+ghost use Rattle.std.specs.Prelude.{◌≡◌, ◌≢◌, ℕ, List, [], drop, is_some, None, Some, Err, OnOk, OnErr, IfSome, IfNone};
+ghost use Rattle.std.specs.Option.{option_copied, option_or};
 ghost use Rattle.abs_codec.specs.Entries.{value_at};
+ghost use Rattle.abs_codec.specs.Same.{EqualIsSame};
 ghost use Rattle.commit_sink.specs.Sink.{Sinking};
 ghost use Rattle.dataflow_model.specs.Machine.{kept_under};
+ghost use Rattle.keyed_state.specs.declared.comparing.SetFault.TheVariants as SetFault;
 ghost use Rattle.task_part.specs.declared.part.Part.TheVariants as Part;
 ghost use Rattle.job_state.specs.declared.holding.Holding.TheVariants as Holding;
 ghost use Rattle.std.specs.List.Sorted.{IsStrictlySortedBy};
 ghost use Rattle.std.specs.Map.{keys_of};
-ghost use Rattle.job_state.specs.AtOnce.{KeepsAll};
+ghost use Rattle.job_state.specs.AtOnce.{HaveExpected, KeepsAll};
 ghost use Rattle.job_state.specs.Held.{Keeps};
 
 use crate::holding::Holding;
 use abs_codec::{Codec, Items, NoMemory};
 use commit_sink::Sink;
-use keyed_state::LentStates;
+use keyed_state::{LentStates, SetFault};
 use operator_state::OperatorState;
 use operators::Operator;
 use std::alloc::Global;
@@ -46,6 +48,30 @@ impl<R: Codec, K: Codec + Ord, S: Codec> Model for Task<R, K, S> {
     ghost use Rattle.job_state.specs.Kinds.{standing_of};
 
     ghost view = { λ t. standing_of t.kind t.bytes.items };
+}
+
+/// Gives each of these keys, which rise, its state. It gives none where memory is refused, or where
+/// a key has another state than the one that is expected, if any are.
+fn set_expected<K: Codec + Ord, S: Codec + Eq>(
+    kept: &mut OperatorState<K, S>,
+    states: Vec<(K, S)>,
+    expected: Option<&[Option<S>]>,
+) -> Result<(), SetFault>
+    requires exact { EqualIsSame S.Eq.eq }
+    requires rising { IsStrictlySortedBy K.Ord.cmp (keys_of states.items) }
+    ensures states { OnOk result ((q : K) → value_at K.Ord.cmp kept.new.entries q
+        ≡ option_or (value_at K.Ord.cmp states.items q) (value_at K.Ord.cmp kept.old.entries q)) }
+    ensures expected { OnOk result (HaveExpected K.Ord.cmp kept.old.entries
+        (keys_of states.items) (option_copied expected.entry)) }
+    ensures changed { result ≡ Err SetFault.Changed → ¬ HaveExpected K.Ord.cmp
+        kept.old.entries (keys_of states.items) (option_copied expected.entry) }
+    ensures copy { kept.new.copy ≡ kept.old.copy }
+    ensures err { OnErr result (kept.new ≡ kept.old) }
+{
+    match expected {
+        Some(former) => kept.compare_and_set_all(states, former),
+        None => Ok(kept.set_all(states)?),
+    }
 }
 
 impl<R: Codec, K: Codec + Ord, S: Codec> Task<R, K, S> {
@@ -172,18 +198,32 @@ impl<R: Codec, K: Codec + Ord, S: Codec> Task<R, K, S> {
         }
     }
 
-    /// An operator keeps these states, whose keys rise, or none of them where memory is refused.
-    pub(crate) fn keep_all(&mut self, states: Vec<(K, S)>) -> Result<(), NoMemory>
+    /// An operator keeps these states, whose keys rise. It keeps none of them where memory is
+    /// refused, or where a key has another state than the one that is expected, if any are.
+    pub(crate) fn keep_all(
+        &mut self,
+        states: Vec<(K, S)>,
+        expected: Option<&[Option<S>]>,
+    ) -> Result<(), SetFault>
+    where
+        S: Eq,
+        requires exact { EqualIsSame S.Eq.eq }
         requires holds { (entries : List (K × S)) × (self.old.holding
             ≡ Holding.Operator entries) }
         requires rising { IsStrictlySortedBy K.Ord.cmp (keys_of states.items) }
         ensures ok { OnOk result (KeepsAll K.Ord.cmp states.items self.old.holding
             self.new.holding) }
+        ensures expected { (entries : List (K × S)) → self.old.holding ≡ Holding.Operator entries
+            → OnOk result (HaveExpected K.Ord.cmp entries (keys_of states.items)
+            (option_copied expected.entry)) }
+        ensures changed { (entries : List (K × S)) → self.old.holding ≡ Holding.Operator entries
+            → result ≡ Err SetFault.Changed → ¬ HaveExpected K.Ord.cmp entries
+            (keys_of states.items) (option_copied expected.entry) }
         ensures copy { self.new.copy ≡ self.old.copy }
         ensures err { OnErr result (self.new ≡ self.old) }
     {
         if let Kind::Operator(kept) = &mut self.kind {
-            kept.set_all(states)?;
+            set_expected(kept, states, expected)?;
         }
         Ok(())
     }

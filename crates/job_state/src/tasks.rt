@@ -1,7 +1,10 @@
 //! The tasks of an attempt.
 
-ghost use Rattle.std.specs.Prelude.{◌≡◌, ◌<◌, ℕ, List, [], length, replicate, slice_get, slice_set, drop, None, Some, IfOk, OnOk, OnErr};
+ghost use Rattle.std.specs.Prelude.{◌≡◌, ◌<◌, ℕ, List, [], length, replicate, slice_get, slice_set, drop, None, Some, Err, IfOk, OnOk, OnErr};
+ghost use Rattle.std.specs.Option.{option_copied};
+ghost use Rattle.abs_codec.specs.Same.{EqualIsSame};
 ghost use Rattle.commit_sink.specs.Sink.{Sinking};
+ghost use Rattle.keyed_state.specs.declared.comparing.SetFault.TheVariants as SetFault;
 ghost use Rattle.task_part.specs.declared.part.Part.{Part};
 ghost use Rattle.task_part.specs.declared.part.Part.TheVariants as Part;
 ghost use Rattle.task_part.specs.Spelling.{logs_now, part_spelling, PartIsSpelled};
@@ -9,7 +12,7 @@ ghost use Rattle.job_state.specs.declared.holding.Holding.{Holding};
 ghost use Rattle.job_state.specs.declared.holding.Holding.TheVariants as Holding;
 ghost use Rattle.std.specs.List.Sorted.{IsStrictlySortedBy};
 ghost use Rattle.std.specs.Map.{keys_of};
-ghost use Rattle.job_state.specs.AtOnce.{KeepsAll};
+ghost use Rattle.job_state.specs.AtOnce.{HaveExpected, KeepsAll};
 ghost use Rattle.job_state.specs.Held.{Keeps, with_logs};
 ghost use Rattle.job_state.specs.Inside.{holdings_of, copies_of, part_in};
 
@@ -18,6 +21,7 @@ use crate::task;
 use crate::task::Task;
 use abs_codec::{Codec, Items, NoMemory};
 use commit_sink::Sink;
+use keyed_state::SetFault;
 use operators::Operator;
 use std::alloc::Global;
 
@@ -135,12 +139,15 @@ pub(crate) fn keep<O: Operator>(
     task::keep::<O>(&mut tasks[task as usize], key, state)
 }
 
-/// An operator keeps these states, whose keys rise, or none of them where memory is refused.
-pub(crate) fn keep_all<R: Codec, K: Codec + Ord, S: Codec>(
+/// An operator keeps these states, whose keys rise. It keeps none of them where memory is refused,
+/// or where a key has another state than the one that is expected, if any are.
+pub(crate) fn keep_all<R: Codec, K: Codec + Ord, S: Codec + Eq>(
     tasks: &mut [Task<R, K, S>],
     task: u32,
     states: Vec<(K, S)>,
-) -> Result<(), NoMemory>
+    expected: Option<&[Option<S>]>,
+) -> Result<(), SetFault>
+    requires exact { EqualIsSame S.Eq.eq }
     requires there { task < length tasks.old }
     requires holds { (entries : List (K × S)) × (slice_get (holdings_of tasks.old) task
         ≡ Some (Holding.Operator entries)) }
@@ -149,10 +156,16 @@ pub(crate) fn keep_all<R: Codec, K: Codec + Ord, S: Codec>(
         × (slice_get (holdings_of tasks.old) task ≡ Some before)
         × (holdings_of tasks.new ≡ slice_set (holdings_of tasks.old) task after)
         × KeepsAll K.Ord.cmp states.items before after) }
+    ensures expected { (entries : List (K × S)) → slice_get (holdings_of tasks.old) task
+        ≡ Some (Holding.Operator entries) → OnOk result (HaveExpected K.Ord.cmp entries
+        (keys_of states.items) (option_copied expected.entry)) }
+    ensures changed { (entries : List (K × S)) → slice_get (holdings_of tasks.old) task
+        ≡ Some (Holding.Operator entries) → result ≡ Err SetFault.Changed
+        → ¬ HaveExpected K.Ord.cmp entries (keys_of states.items) (option_copied expected.entry) }
     ensures copies { copies_of tasks.new ≡ copies_of tasks.old }
     ensures err { OnErr result (holdings_of tasks.new ≡ holdings_of tasks.old) }
 {
-    tasks[task as usize].keep_all(states)
+    tasks[task as usize].keep_all(states, expected)
 }
 
 /// A sink's oldest pre-committed transaction is forgotten.

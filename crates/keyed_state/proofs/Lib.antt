@@ -1,2 +1,3 @@
+pub mod Compared
 pub mod Laid
 pub mod Several

@@ -1,3 +1,4 @@
+pub mod Comparing
 pub mod KeyedMap
 pub mod Lending
 pub mod Overlay

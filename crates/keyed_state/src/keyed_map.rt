@@ -1,15 +1,19 @@
 //! A finite map, and the map as it was at `freeze`.
 
-ghost use Rattle.std.specs.Prelude.{◌≡◌, ◌≢◌, ◌≤◌, ◌+◌, ◌-◌, ◌↔◌, ℕ, [], ◌++◌, length, count_by, not, is_some, Some, None, IsTrue, IsOk, OnOk, OnErr, IfOk, IfErr, IfSome, IfNone, if◌then◌else◌};
+ghost use Rattle.std.specs.Prelude.{◌≡◌, ◌≢◌, ◌≤◌, ◌+◌, ◌-◌, ◌↔◌, ℕ, [], ◌++◌, length, count_by, not, is_some, Some, None, Err, IsTrue, IsOk, OnOk, OnErr, IfOk, IfErr, IfSome, IfNone, if◌then◌else◌};
 ghost use Rattle.std.specs.Option.{option_copied, option_or};
 ghost use Rattle.std.specs.List.Sorted.{IsStrictlySortedBy};
 ghost use Rattle.std.specs.Map.{keys_of};
 ghost use Rattle.std.specs.BTreeMap.{insert_entry, is_at};
 ghost use Rattle.abs_codec.specs.Entries.{value_at};
+ghost use Rattle.abs_codec.specs.Same.{EqualIsSame};
+ghost use Rattle.keyed_state.specs.Comparing.{HaveStates};
 ghost use Rattle.keyed_state.specs.KeyedMap.{entries_above, frozen_entries};
 ghost use Rattle.keyed_state.specs.Overlay.{put_over};
 ghost use Rattle.keyed_state.specs.Putting.{has_key};
+ghost use Rattle.keyed_state.specs.declared.comparing.SetFault.TheVariants as SetFault;
 
+use crate::comparing::{SetFault, exchange_all_in, is_expected};
 use crate::lending::{Lendable, Lent};
 use crate::putting::{insert_in, put_all, put_all_in, put_in_both};
 use abs_codec::{Codec, CodecFault, Map, NoMemory};
@@ -303,6 +307,96 @@ impl<K: Codec + Ord, S: Codec> KeyedState<K, S> {
         ensures err { OnErr result (self.new ≡ self.old) }
     {
         put_all_in(self.alloc, &mut self.base, entries)?;
+        self.len = self.base.value().len();
+        Ok(())
+    }
+
+    /// Whether each of these keys has the state that is expected of it, `None` where it has none.
+    fn has_states(&self, entries: &[(K, S)], expected: &[Option<S>]) -> bool
+    where
+        S: Eq,
+        requires { EqualIsSame S.Eq.eq }
+        ensures { IsTrue result
+            ↔ HaveStates K.Ord.cmp self.now.entries (keys_of entries.now) expected.now }
+    {
+        let mut left = expected;
+        for entry in entries {
+            let Some((first, others)) = left.split_first() else {
+                return false;
+            };
+            if !is_expected(self.get(&entry.0), first.as_ref()) {
+                return false;
+            }
+            left = others;
+        }
+        left.is_empty()
+    }
+
+    /// Gives each of these keys, which rise, its state, where each has the one that is expected of
+    /// it, `None` where it has none. Else, and where memory is refused, none is given. The frozen
+    /// map stays.
+    pub fn compare_and_set_all(
+        &mut self,
+        entries: Vec<(K, S)>,
+        expected: &[Option<S>],
+    ) -> Result<(), SetFault>
+    where
+        S: Eq,
+        // States that compare equal are one.
+        requires exact { EqualIsSame S.Eq.eq }
+        requires rising { IsStrictlySortedBy K.Ord.cmp (keys_of entries.items) }
+        ensures entries { OnOk result
+            (self.new.entries ≡ put_over K.Ord.cmp self.old.entries entries.items) }
+        ensures states { OnOk result ((q : K) → value_at K.Ord.cmp self.new.entries q
+            ≡ option_or (value_at K.Ord.cmp entries.items q)
+            (value_at K.Ord.cmp self.old.entries q)) }
+        ensures expected { OnOk result (HaveStates K.Ord.cmp self.old.entries
+            (keys_of entries.items) expected.now) }
+        // What is told of the states is so.
+        ensures changed { result ≡ Err SetFault.Changed → ¬ HaveStates K.Ord.cmp
+            self.old.entries (keys_of entries.items) expected.now }
+        ensures frozen { self.new.frozen ≡ self.old.frozen }
+        // Only a frozen map has more to merge after it.
+        ensures unmerged { self.new.unmerged ≤ self.old.unmerged
+            + (if is_some self.old.frozen then length entries.items else 0) }
+        ensures none_merged { self.old.unmerged ≤ self.new.unmerged }
+        ensures ordered { IsStrictlySortedBy K.Ord.cmp (keys_of self.new.entries) }
+        ensures err { OnErr result (self.new ≡ self.old) }
+    {
+        if !self.is_frozen && self.overlay.is_empty() {
+            return self.exchange_all_alone(entries, expected);
+        }
+        if !self.has_states(&entries, expected) {
+            return Err(SetFault::Changed);
+        }
+        self.set_all(entries)?;
+        Ok(())
+    }
+
+    /// Gives each of these keys its state, where each has the one that is expected of it, and where
+    /// no other map is kept beside the one that is seen: each key is looked up once.
+    fn exchange_all_alone(
+        &mut self,
+        entries: Vec<(K, S)>,
+        expected: &[Option<S>],
+    ) -> Result<(), SetFault>
+    where
+        S: Eq,
+        requires none_frozen { self.old.frozen ≡ None }
+        requires none_left { self.old.unmerged ≡ 0 }
+        requires exact { EqualIsSame S.Eq.eq }
+        requires rising { IsStrictlySortedBy K.Ord.cmp (keys_of entries.items) }
+        ensures entries { OnOk result
+            (self.new.entries ≡ put_over K.Ord.cmp self.old.entries entries.items) }
+        ensures expected { OnOk result (HaveStates K.Ord.cmp self.old.entries
+            (keys_of entries.items) expected.now) }
+        ensures changed { result ≡ Err SetFault.Changed → ¬ HaveStates K.Ord.cmp
+            self.old.entries (keys_of entries.items) expected.now }
+        ensures stays { self.new ≡ record self.old { entries = self.new.entries } }
+        ensures ordered { IsStrictlySortedBy K.Ord.cmp (keys_of self.new.entries) }
+        ensures err { OnErr result (self.new ≡ self.old) }
+    {
+        exchange_all_in(self.alloc, &mut self.base, entries, expected)?;
         self.len = self.base.value().len();
         Ok(())
     }

@@ -27,8 +27,10 @@
 //! - `encode` takes the time and memory of the spelling, and where m is not 0 a copy of it all.
 #![tactic(auto)]
 
+mod comparing;
 mod keyed_map;
 mod lending;
 mod putting;
 
+pub use comparing::SetFault;
 pub use keyed_map::{KeyedState, LentStates};

@@ -1,6 +1,6 @@
 //! Several entries that are put into a map at once, or none of them.
 
-ghost use Rattle.std.specs.Prelude.{◌≡◌, ◌+◌, ◌<◌, length, vec_len, vec_capacity, Some, OnOk, OnErr, IfOk, if◌then◌else◌};
+ghost use Rattle.std.specs.Prelude.{◌≡◌, ◌+◌, ◌<◌, [], ◌∷◌, ◌++◌, length, vec_len, vec_capacity, Some, OnOk, OnErr, IfOk, if◌then◌else◌};
 ghost use Rattle.std.specs.List.Sorted.{IsStrictlySortedBy};
 ghost use Rattle.std.specs.Map.{keys_of};
 ghost use Rattle.std.specs.BTreeMap.{insert_entry, is_at};
@@ -16,7 +16,7 @@ use std::mem::replace;
 
 /// Gives a key its state, and notes what was there before. The key is looked up once where it is
 /// there.
-fn put_one<K: Codec + Ord, S: Drop>(
+pub(crate) fn put_one<K: Codec + Ord, S: Drop>(
     map: &mut BTreeMap<K, S>,
     notes: &mut Vec<(K, Option<S>)>,
     key: K,
@@ -25,6 +25,8 @@ fn put_one<K: Codec + Ord, S: Drop>(
     requires { vec_len notes.old < vec_capacity notes.old }
     ensures entries { OnOk result
         (map.new.entries ≡ insert_entry K.Ord.cmp map.old.entries key state) }
+    ensures noted { OnOk result (notes.new.items
+        ≡ notes.old.items ++ (key, value_at K.Ord.cmp map.old.entries key) ∷ []) }
     ensures undone { undone K.Ord.cmp notes.new.items map.new.entries
         ≡ undone K.Ord.cmp notes.old.items map.old.entries }
     ensures len { OnOk result (vec_len notes.new ≡ vec_len notes.old + 1) }
@@ -76,7 +78,7 @@ fn put_back<K: Ord + Drop, S: Drop>(map: &mut BTreeMap<K, S>, key: &K, former: O
 }
 
 /// Puts back what was there before at each of these keys, the last first. It takes no memory.
-fn undo<K: Ord + Drop, S: Drop>(map: &mut BTreeMap<K, S>, mut notes: Vec<(K, Option<S>)>)
+pub(crate) fn undo<K: Ord + Drop, S: Drop>(map: &mut BTreeMap<K, S>, mut notes: Vec<(K, Option<S>)>)
     ensures { map.new.entries ≡ undone K.cmp notes.items map.old.entries }
 {
     while let Some((key, former)) = notes.pop() {
@@ -104,7 +106,7 @@ pub(crate) fn put_all<K: Codec + Ord, S: Drop>(
 
 /// The map, to be written and put back, or a copy of it where others read it. At an `Err` it stays
 /// in its place.
-fn taken<K: Codec + Ord, S: Codec>(
+pub(crate) fn taken<K: Codec + Ord, S: Codec>(
     alloc: Global,
     map: &mut Lendable<Map<K, S>>,
 ) -> Result<Map<K, S>, NoMemory>
@@ -142,7 +144,7 @@ pub(crate) fn insert_in<K: Codec + Ord, S: Codec>(
 }
 
 /// A map that takes so many entries at once is made ready to be lent.
-const MANY: usize = 16;
+pub(crate) const MANY: usize = 16;
 
 /// Gives each of these keys its state, or none of them where memory is refused. The map itself is
 /// not copied where nobody reads it.

@@ -1,6 +1,6 @@
 //! States by key, and the copy for the pending checkpoint as far as it is spelled.
 
-ghost use Rattle.std.specs.Prelude.{◌≡◌, ◌≤◌, ◌+◌, ◌-◌, ◌++◌, ℕ, List, [], take, drop, length, is_some, Some, None, IsTrue, IsOk, OnOk, OnErr, IfOk, IfSome, if◌then◌else◌};
+ghost use Rattle.std.specs.Prelude.{◌≡◌, ◌≤◌, ◌+◌, ◌-◌, ◌++◌, ℕ, List, [], take, drop, length, is_some, Some, None, Err, IsTrue, IsOk, OnOk, OnErr, IfOk, IfSome, if◌then◌else◌};
 ghost use Rattle.std.specs.Option.{option_copied, option_or};
 ghost use Rattle.std.specs.List.Sorted.{IsStrictlySortedBy};
 ghost use Rattle.std.specs.List.{All, flat_map};
@@ -8,13 +8,16 @@ ghost use Rattle.std.specs.Map.{keys_of};
 ghost use Rattle.std.specs.BTreeMap.{is_at};
 ghost use Rattle.abs_codec.specs.Entries.{value_at};
 ghost use Rattle.abs_codec.specs.Spelling.{pair_spelling, PairIsSpelled};
+ghost use Rattle.abs_codec.specs.Same.{EqualIsSame};
+ghost use Rattle.keyed_state.specs.Comparing.{HaveStates};
 ghost use Rattle.keyed_state.specs.KeyedMap.{entries_above, frozen_entries};
+ghost use Rattle.keyed_state.specs.declared.comparing.SetFault.TheVariants as SetFault;
 ghost use Rattle.operator_state.specs.Spelled.{Begins};
 ghost use Rattle.task_part.specs.declared.part.Part.TheVariants as Part;
 ghost use Rattle.task_part.specs.Spelling.{logs_now, part_spelling, PartIsSpelled};
 
 use abs_codec::{Codec, Map, NoMemory};
-use keyed_state::{KeyedState, LentStates};
+use keyed_state::{KeyedState, LentStates, SetFault};
 use std::alloc::Global;
 use std::marker::Model;
 use task_part::{write_count, write_logs};
@@ -196,6 +199,38 @@ impl<K: Codec + Ord, S: Codec> OperatorState<K, S> {
         ensures err { OnErr result (self.new ≡ self.old) }
     {
         self.states.set_all(states)
+    }
+
+    /// Gives each of these keys, which rise, its state, where each has the one that is expected of
+    /// it, `None` where it has none. Else, and where memory is refused, none is given. The copy
+    /// stays.
+    pub fn compare_and_set_all(
+        &mut self,
+        states: Vec<(K, S)>,
+        expected: &[Option<S>],
+    ) -> Result<(), SetFault>
+    where
+        S: Eq,
+        // States that compare equal are one.
+        requires exact { EqualIsSame S.Eq.eq }
+        requires rising { IsStrictlySortedBy K.Ord.cmp (keys_of states.items) }
+        ensures states { OnOk result ((q : K) → value_at K.Ord.cmp self.new.entries q
+            ≡ option_or (value_at K.Ord.cmp states.items q)
+            (value_at K.Ord.cmp self.old.entries q)) }
+        ensures expected { OnOk result (HaveStates K.Ord.cmp self.old.entries
+            (keys_of states.items) expected.now) }
+        // What is told of the states is so.
+        ensures changed { result ≡ Err SetFault.Changed → ¬ HaveStates K.Ord.cmp
+            self.old.entries (keys_of states.items) expected.now }
+        ensures copy { self.new.copy ≡ self.old.copy }
+        ensures unspelled { self.new.unspelled ≡ self.old.unspelled }
+        ensures unmerged { self.new.unmerged ≤ self.old.unmerged + length states.items }
+        // Only a copy that is not spelled yet has more to merge after it.
+        ensures all_spelled { self.old.unspelled ≡ 0 → self.new.unmerged ≡ self.old.unmerged }
+        ensures none_merged { self.old.unmerged ≤ self.new.unmerged }
+        ensures err { OnErr result (self.new ≡ self.old) }
+    {
+        self.states.compare_and_set_all(states, expected)
     }
 
     /// Copies the states as they are now, in place of the copy that was there. It takes no memory

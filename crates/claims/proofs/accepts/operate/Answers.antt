@@ -1,24 +1,29 @@
-use Rattle.std.proofs.Common.{◌≡◌, length, List, sym, ap, subst, ◌∙◌, arith}
+use Rattle.std.proofs.Common.{◌≡◌, ◌<◌, length, List, IfSome, sym, ap, subst, ◌∙◌, arith}
+use Rattle.std.proofs.lemmas.Bool.{false≢true}
+use Rattle.std.specs.List.{zip}
+use Rattle.std.specs.Map.{keys_of}
 use Rattle.job_graph.specs.declared.role.Role.TheVariants as role
 use Rattle.job_state.specs.Batch.{Turn, AreLastStates, StandFirst, rows_of, sent_by}
 use Rattle.engine_model.proofs.Numbers.{channel_in}
 use Rattle.claims.specs.Carried.{states_given}
+use Rattle.job_state.proofs.Holds.{on_ok}
 use Rattle.claims.proofs.Dues.{within_gates}
+use Rattle.claims.proofs.Expected.{none_so, told_where}
 use Rattle.claims.proofs.Turns.{rows_of-turns, length-turns}
 use Rattle.claims.proofs.accepts.operate.Goals as goal
 
 pub operate_some-requires : goal.operate_some-requires
 operate_some-requires g c =
-    let p = c.args.operand in
+    let p = c.args.operand.now in
     let graph = c.args.graph.now in
     let attempt = c.args.attempt.now in
     let asked = c.requires.1.1.1.1 in
-    let shape = asked.0.1 in
-    let due = asked.0.2 in
-    let made = asked.1.0 in
+    let shape = asked.0.2 in
+    let due = asked.0.3 in
+    let made = asked.1.1.0 in
     let meaning = g.O.Operator.meaning in
     let given = states_given g.O.Key.Ord.cmp p.states in
-    let is = asked.1.1 in
+    let is = asked.1.1.1 in
     let rows : p.rows.items ≡ rows_of g.turns = sym (ap (λ (ts : List (Turn g.row.O-Record.Denot g.row.O-Key.Denot g.row.O-State.Denot)). rows_of ts) is ∙ rows_of-turns meaning p.operator p.rows.items given) in
     let long : length g.turns ≡ length p.rows.items = ap (λ (ts : List (Turn g.row.O-Record.Denot g.row.O-Key.Denot g.row.O-State.Denot)). length ts) is ∙ length-turns meaning p.operator p.rows.items given in
     let counted : c.len-count.result ≡ length g.turns = omega (arith, c.len-count.ensures, p.rows.ok.0) in
@@ -31,7 +36,7 @@ operate_some-requires g c =
           (
             lives.1.1.1,
             (
-              (due.entries, due.was),
+              (asked.0.1, due.was),
               (
                 within_gates graph attempt shape.gate_fits c.args.task c.args.input c.args.channel (role.Operator due.number) due.is_operator due.leads,
                 (
@@ -59,3 +64,24 @@ operate_some-requires g c =
         ),
       ),
     )
+
+pub returns-then-not-has_uncompared-clause-changed : goal.returns-then-not-has_uncompared-clause-changed
+returns-then-not-has_uncompared-clause-changed g c = λ entries held is same.
+    false≢true (sym c.if-not-has_uncompared.true ∙ (c.has_uncompared.ensures entries held).1 (none_so c.under_entries-expected.result same))
+
+pub returns-clause-same : goal.returns-clause-same
+returns-clause-same g c = λ entries held.
+    let asked = c.requires.1.1.1.1 in
+    let named = subst (λ (es : List (g.row.O-Key.Denot × g.row.O-State.Denot)). IfSome c.under_entries-expected.result (λ b. (length b.now ≡ length es) × (zip (keys_of es) b.now ≡ c.args.operand.now.states))) c.deref.ensures.value (c.under_entries-expected.ensures g.met.O.Operator.key_is_exact) in
+    let none = (c.has_uncompared.ensures entries held).0 c.if-not-has_uncompared.false in
+    let told = told_where g.met.O.Key.Ord.total g.met.O.Operator.key_is_exact entries c.args.outcomes.states.items c.under_entries-expected.result c.args.operand.now.states asked.1.1.0.rising named none in
+    let some : 0 < c.len-count.result = omega (arith, asked.1.0, c.len-count.ensures, c.args.operand.now.rows.ok.0) in
+    on_ok c.operate_some.result told.0 (c.operate_some.ensures.expected some entries held)
+
+pub returns-clause-changed : goal.returns-clause-changed
+returns-clause-changed g c = λ entries held is same.
+    let asked = c.requires.1.1.1.1 in
+    let named = subst (λ (es : List (g.row.O-Key.Denot × g.row.O-State.Denot)). IfSome c.under_entries-expected.result (λ b. (length b.now ≡ length es) × (zip (keys_of es) b.now ≡ c.args.operand.now.states))) c.deref.ensures.value (c.under_entries-expected.ensures g.met.O.Operator.key_is_exact) in
+    let none = (c.has_uncompared.ensures entries held).0 c.if-not-has_uncompared.false in
+    let told = told_where g.met.O.Key.Ord.total g.met.O.Operator.key_is_exact entries c.args.outcomes.states.items c.under_entries-expected.result c.args.operand.now.states asked.1.1.0.rising named none in
+    c.operate_some.ensures.changed entries held is (told.1 same)

@@ -15,3 +15,9 @@ returns-clause-copies g c = copies_kept c.args.tasks.now c.args.task c.index-tas
 
 pub returns-clause-err : goal.returns-clause-err
 returns-clause-err g c = on_refused c.keep_all.result (λ same. holdings_kept c.args.tasks.now c.args.task c.index-tasks-task.result c.requires.there c.keep_all.new.self (ap (λ t. t.holding) same)) c.keep_all.ensures.err
+
+pub returns-clause-expected : goal.returns-clause-expected
+returns-clause-expected g c = λ entries at. c.keep_all.ensures.expected entries (held c.args.tasks.now c.args.task c.index-tasks-task.result c.requires.there (Holding.Operator entries) at)
+
+pub returns-clause-changed : goal.returns-clause-changed
+returns-clause-changed g c = λ entries at told. c.keep_all.ensures.changed entries (held c.args.tasks.now c.args.task c.index-tasks-task.result c.requires.there (Holding.Operator entries) at) told

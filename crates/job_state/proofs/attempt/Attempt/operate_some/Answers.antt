@@ -1,7 +1,9 @@
-use Rattle.std.proofs.Common.{◌≡◌, take, length, slice_get, slice_set, refl, sym, subst, ap, ◌∙◌, arith}
+use Rattle.std.proofs.Common.{◌≡◌, Err, take, length, slice_get, slice_set, refl, sym, subst, ap, ◌∙◌, arith}
 use Rattle.std.proofs.lemmas.List.{with_items_is, length-map}
 use Rattle.std.specs.Vec.{with_items}
 use Rattle.alignment.specs.Table.{is_logged}
+use Rattle.keyed_state.specs.declared.comparing.SetFault.TheVariants as SetFault
+use Rattle.keyed_state.proofs.Compared.{told_on}
 use Rattle.job_state.specs.AtOnce.{without_first, log_with_all}
 use Rattle.job_state.specs.Batch.{rows_of}
 use Rattle.job_state.specs.Inside.{gate_in, records_of, holdings_of, copies_of}
@@ -20,6 +22,38 @@ returns-then-count-eq0-clause-ok g c =
     let order = g.met.O.Key.Ord.total in
     let counted = c.requires.1.1.1.1.1.1.1.1.0 in
     none_is_each g.O.Operator.meaning g.O.Key.Ord.cmp (equal_keys order g.O.Operator.meaning.same_key g.met.O.Operator.same_key) c.args.graph.now c.args.task c.args.input c.args.channel g.turns c.args.self.now c.args.self.now (sym counted ∙ c.if-count-eq0.true) refl
+
+pub returns-then-count-eq0-clause-expected : goal.returns-then-count-eq0-clause-expected
+returns-then-count-eq0-clause-expected g c = λ some. absurd (omega (arith, some, c.if-count-eq0.true))
+
+pub returns-then-count-eq0-clause-changed : goal.returns-then-count-eq0-clause-changed
+returns-then-count-eq0-clause-changed g c = λ entries at is have. absurd (cc)
+
+-- memory is refused
+pub returns-in_err-reserve_log-clause-changed : goal.returns-in_err-reserve_log-clause-changed
+returns-in_err-reserve_log-clause-changed g c = λ entries at is have.
+    let told = told_on c.from_residual.result SetFault.Memory SetFault.Changed c.from_residual.ensures.1 is in
+    absurd (cc)
+
+pub returns-in_err-deliveries-clause-changed : goal.returns-in_err-deliveries-clause-changed
+returns-in_err-deliveries-clause-changed g c = λ entries at is have.
+    let told = told_on c.from_residual-in_err-deliveries.result SetFault.Memory SetFault.Changed c.from_residual-in_err-deliveries.ensures.1 is in
+    absurd (cc)
+
+-- a state is not the expected one
+pub returns-in_err-keep_all-clause-changed : goal.returns-in_err-keep_all-clause-changed
+returns-in_err-keep_all-clause-changed g c = λ entries at is have.
+    let fault = told_on c.from_residual-in_err-keep_all.result c.in_err-keep_all.field-0.0 SetFault.Changed c.from_residual-in_err-keep_all.ensures.1 is in
+    let holds = ap (λ l. slice_get (holdings_of l) c.args.task) c.deref_mut-2.ensures.value ∙ (ap (λ h. slice_get h.tasks c.args.task) c.self.view_is ∙ at) in
+    c.keep_all.ensures.changed entries holds (c.in_err-keep_all.was ∙ ap (λ f. Err f) fault) have
+
+pub returns-clause-expected : goal.returns-clause-expected
+returns-clause-expected g c = λ some entries at.
+    let holds = ap (λ l. slice_get (holdings_of l) c.args.task) c.deref_mut-2.ensures.value ∙ (ap (λ h. slice_get h.tasks c.args.task) c.self.view_is ∙ at) in
+    c.in_ok-keep_all.ensures.expected entries holds
+
+pub keep_all-requires-clause-exact : goal.keep_all-requires-clause-exact
+keep_all-requires-clause-exact g c = g.met.O.Operator.state_is_exact
 
 -- the task holds states
 pub keep_all-requires-clause-there : goal.keep_all-requires-clause-there
