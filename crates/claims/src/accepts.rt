@@ -35,7 +35,7 @@ fn has_uncompared<O: Operator>(
 ) -> bool
     ensures { (entries : List (O.Key × O.State))
         → slice_get attempt.now.tasks task ≡ Some (Holding.Operator entries) → IsTrue result
-        ↔ IfNone expected (AreStatesOf O.Key.cmp entries states.now) }
+        ↔ IfNone expected.entry (AreStatesOf O.Key.cmp entries states.now) }
 {
     match expected {
         Some(_) => true,

@@ -2,3 +2,4 @@ mod Digits
 mod PlainLines
 mod Putting
 mod Texts
+mod Runs

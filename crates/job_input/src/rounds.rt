@@ -5,6 +5,7 @@ ghost use Rattle.std.specs.Io.{IsEmptyOrEndsWith};
 ghost use Rattle.std.specs.Io.KnownBytes.{IsAtEnd, prepend_known};
 ghost use Rattle.abs_codec.specs.Spelling.{Fits};
 ghost use Rattle.operators.specs.RowSpelling.{RowIsSpelled, row_spelling};
+ghost use Rattle.line_parts.specs.Lines.{in_runs};
 ghost use Rattle.job_input.specs.Lines.{with_rows, HasRow, PutsFront, PutsRows, PutsText};
 
 use crate::fault::LineFault;
@@ -60,6 +61,25 @@ fn append_rows(log: &mut MemoryLog<Row>, partition: u32, rows: Vec<Row>) -> Resu
     Ok(())
 }
 
+/// Puts the rows of these runs last in the partition, one run behind another.
+fn append_runs(
+    log: &mut MemoryLog<Row>,
+    partition: u32,
+    runs: Vec<Vec<Row>>,
+) -> Result<(), LineFault>
+    requires { All (Fits RowIsSpelled row_spelling) (in_runs runs.items) }
+    ensures puts { PutsRows partition (⟦<MemoryLog<Row> as Partitions>⟧.records log.old)
+        (⟦<MemoryLog<Row> as Partitions>⟧.records log.new) }
+    ensures rows { OnOk result (⟦<MemoryLog<Row> as Partitions>⟧.records log.new
+        ≡ with_rows (⟦<MemoryLog<Row> as Partitions>⟧.records log.old) partition
+        (in_runs runs.items)) }
+{
+    for run in runs {
+        append_rows(log, partition, run)?;
+    }
+    Ok(())
+}
+
 /// Takes so many bytes from the front of the buffer, and puts the rows of their lines last in the
 /// partition, or answers the number of the line that is not taken, from 1, and why.
 fn put_lines<R: Threads + Sync>(
@@ -80,13 +100,15 @@ fn put_lines<R: Threads + Sync>(
     ensures rest { OnOk result (buffer.new.text.items ≡ drop count buffer.old.text.items) }
 {
     let reader = RowReader { alloc };
-    let Part {
-        items,
-        lines,
-        fault,
-    } = read_lines(rt, alloc, &reader, &buffer.text[..count], threads);
+    let Part { runs, lines, fault } = read_lines(
+        rt,
+        alloc,
+        &reader,
+        &buffer.text[..count],
+        threads,
+    );
     let next = buffer.lines.saturating_add(lines).saturating_add(1);
-    if let Err(fault) = append_rows(log, partition, items) {
+    if let Err(fault) = append_runs(log, partition, runs) {
         return Err((next, fault));
     }
     if let Some(fault) = fault {

@@ -1,3 +1,4 @@
 mod Joining
 mod Kept
 pub mod Through
+mod Runs

@@ -2,7 +2,7 @@
 
 ghost use Rattle.std.specs.Prelude.{◌≡◌, ◌≢◌, ◌+◌, ◌<◌, ◌≤◌, ◌^◌, ◌++◌, ◌⊎◌, Option, None, Some, is_none, length, OnOk, OnErr};
 ghost use Rattle.std.specs.Io.BufRead.{take_through};
-ghost use Rattle.line_parts.specs.Lines.{items_of, ReadsLines};
+ghost use Rattle.line_parts.specs.Lines.{in_runs, items_of, ReadsLines};
 ghost use Rattle.line_parts.specs.declared.part.PartFault.TheVariants as why;
 
 use crate::reader::LineReader;
@@ -25,10 +25,19 @@ impl<T: Drop, E> From<AllocFailed<T>> for PartFault<E> {
     }
 }
 
+/// What a thread reads of a text's lines, in order, up to the first that is not read.
+#[derive(Drop)]
+struct Run<X, E> {
+    items: Vec<X>,
+    lines: u64,
+    fault: Option<PartFault<E>>,
+}
+
 /// What the lines of a text have, in order, up to the first that is not read.
 #[derive(Drop)]
 pub struct Part<X, E> {
-    pub items: Vec<X>,
+    /// The items, in a run for each thread that read some.
+    pub runs: Vec<Vec<X>>,
     /// How many lines were read.
     pub lines: u64,
     /// Why the line behind them was not.
@@ -41,32 +50,32 @@ impl<X: Drop, E: Drop> Part<X, E> {
         requires { self.lines + behind.lines < 2 ^ 64 }
         ensures faulty { self.fault ≢ None → result ≡ self }
         ensures whole { self.fault ≡ None
-            → ((result.items.items ≡ self.items.items ++ behind.items.items)
+            → ((result.runs.items ≡ self.runs.items ++ behind.runs.items)
             × (result.lines ≡ self.lines + behind.lines) × (result.fault ≡ behind.fault))
-            ⊎ ((result.items.items ≡ self.items.items) × (result.lines ≡ self.lines)
+            ⊎ ((result.runs.items ≡ self.runs.items) × (result.lines ≡ self.lines)
             × (result.fault ≡ Some why.Memory)) }
     {
         if self.fault.is_some() {
             return self;
         }
         let Part {
-            mut items,
+            mut runs,
             lines,
             ..
         } = self;
         let Part {
-            items: mut more,
+            runs: mut more,
             lines: count,
             fault,
         } = behind;
-        match items.append(&mut more) {
+        match runs.append(&mut more) {
             Ok(()) => Part {
-                items,
+                runs,
                 lines: lines + count,
                 fault,
             },
             Err(_) => Part {
-                items,
+                runs,
                 lines,
                 fault: Some(PartFault::Memory),
             },
@@ -104,12 +113,8 @@ fn read_line<L: LineReader>(
     Ok(())
 }
 
-/// What the lines of a text have.
-pub(crate) fn read_part<L: LineReader>(
-    alloc: Global,
-    reader: &L,
-    text: &[u8],
-) -> Part<L::Item, L::Fault>
+/// What the lines of a text have, in one run.
+fn read_run<L: LineReader>(alloc: Global, reader: &L, text: &[u8]) -> Run<L::Item, L::Fault>
     ensures reads { ReadsLines (L.HasItem reader.now) text.now result.lines result.items.items
         (is_none result.fault) }
     ensures bound { result.lines ≤ length text.now }
@@ -120,7 +125,7 @@ pub(crate) fn read_part<L: LineReader>(
     while !rest.is_empty() {
         let (line, behind) = rest.split_at(line_len(rest));
         if let Err(fault) = read_line(reader, line, &mut items) {
-            return Part {
+            return Run {
                 items,
                 lines,
                 fault: Some(fault),
@@ -129,9 +134,35 @@ pub(crate) fn read_part<L: LineReader>(
         lines += 1;
         rest = behind;
     }
-    Part {
+    Run {
         items,
         lines,
         fault: None,
+    }
+}
+
+/// What the lines of a text have.
+pub(crate) fn read_part<L: LineReader>(
+    alloc: Global,
+    reader: &L,
+    text: &[u8],
+) -> Part<L::Item, L::Fault>
+    ensures reads { ReadsLines (L.HasItem reader.now) text.now result.lines
+        (in_runs result.runs.items) (is_none result.fault) }
+    ensures bound { result.lines ≤ length text.now }
+{
+    let Run {
+        items,
+        lines,
+        fault,
+    } = read_run(alloc, reader, text);
+    let mut runs = Vec::new(alloc);
+    match runs.push(items) {
+        Ok(()) => Part { runs, lines, fault },
+        Err(_) => Part {
+            runs: Vec::new(alloc),
+            lines: 0,
+            fault: Some(PartFault::Memory),
+        },
     }
 }

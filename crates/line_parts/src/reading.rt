@@ -3,7 +3,7 @@
 ghost use Rattle.std.specs.Prelude.{◌≡◌, ◌+◌, ◌<◌, ◌≤◌, ◌++◌, is_none, length};
 ghost use Rattle.std.specs.Io.{IsEmptyOrEndsWith};
 ghost use Rattle.std.specs.Thread.{IsSync};
-ghost use Rattle.line_parts.specs.Lines.{ReadsLines};
+ghost use Rattle.line_parts.specs.Lines.{in_runs, ReadsLines};
 
 use crate::part::{Part, line_len, read_part};
 use crate::reader::LineReader;
@@ -32,8 +32,8 @@ pub fn read_lines<L: LineReader + Sync, R: Threads + Sync>(
     text: &[u8],
     threads: usize,
 ) -> Part<L::Item, L::Fault>
-    ensures reads { ReadsLines (L.HasItem reader.now) text.now result.lines result.items.items
-        (is_none result.fault) }
+    ensures reads { ReadsLines (L.HasItem reader.now) text.now result.lines
+        (in_runs result.runs.items) (is_none result.fault) }
     ensures bound { result.lines ≤ length text.now }
 {
     if threads < 2 || text.len() < LEAST {
@@ -44,13 +44,13 @@ pub fn read_lines<L: LineReader + Sync, R: Threads + Sync>(
     let first = move || -> Part<L::Item, L::Fault>
         requires { IsSync R.row × IsSync L.row × (2 ≤ threads) }
         ensures reads { ReadsLines (L.HasItem reader.entry.now) front.entry.now result.lines
-            result.items.items (is_none result.fault) }
+            (in_runs result.runs.items) (is_none result.fault) }
         ensures bound { result.lines ≤ length front.entry.now }
     { read_lines(rt, alloc, reader, front, threads - threads / 2) };
     let second = move || -> Part<L::Item, L::Fault>
         requires { IsSync R.row × IsSync L.row × (2 ≤ threads) }
         ensures reads { ReadsLines (L.HasItem reader.entry.now) back.entry.now result.lines
-            result.items.items (is_none result.fault) }
+            (in_runs result.runs.items) (is_none result.fault) }
         ensures bound { result.lines ≤ length back.entry.now }
     { read_lines(rt, alloc, reader, back, threads / 2) };
     let (first, second) = join(rt, first, second);

@@ -56,8 +56,8 @@ returns-then-has_states-clause-ends g c = λ ledger.
       refl,
     )
 
-pub returns-else-has_states-clause-ends : goal.returns-else-has_states-clause-ends
-returns-else-has_states-clause-ends g c = λ ledger.
+pub returns-clause-ends : goal.returns-clause-ends
+returns-clause-ends g c = λ ledger.
     let err = c.in-Err-Memory.ensures.err in (
       λ due. false≢true (sym c.if-has_states.false ∙ (c.has_states.ensures due.1.entries (ap (λ h. slice_get h.tasks c.args.task) err ∙ due.1.was)).1 due.1.same_states),
       err,

@@ -2,7 +2,7 @@ use Rattle.std.proofs.Common.{◌≡◌, ◌∙◌, ◌<◌, length, drop, take,
 use Rattle.std.specs.Io.BufRead.{take_through, drop_through}
 use Rattle.line_parts.proofs.Through.{len_within, some_line, take_line, drop_line}
 use Rattle.line_parts.proofs.Joining.{one_more}
-use Rattle.line_parts.proofs.part.read_part.Goals as goal
+use Rattle.line_parts.proofs.part.read_run.Goals as goal
 
 pub split_at-requires : goal.split_at-requires
 split_at-requires g c = omega (arith, len_within c.loop-rest.rest.now, c.line_len.ensures)

@@ -1,7 +1,7 @@
 -- the lines so far are read
 use Rattle.std.proofs.Common.{◌+◌, ◌≤◌, length}
 use Rattle.line_parts.specs.Lines.{BeginsWithLines}
-use Rattle.line_parts.proofs.part.read_part.Given as goal
+use Rattle.line_parts.proofs.part.read_run.Given as goal
 
 abbrev pub invariant-loop-rest : goal.invariant-loop-rest
 invariant-loop-rest g l =
