@@ -90,6 +90,7 @@ fn operate<O: Operator>(
 
 /// An operator's outcomes are taken. Its states are compared as they are kept, or where memory is
 /// refused.
+#[inline(never)]
 fn accept_outcomes<O: Operator>(
     attempt: &mut Attempt<O>,
     graph: &Graph,
