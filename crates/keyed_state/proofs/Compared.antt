@@ -1,5 +1,6 @@
 -- States that are compared with the expected ones, one key after another, as they are replaced.
-use Rattle.std.proofs.Common.{◌≡◌, ◌↔◌, Result, Ok, Err, ℕ, length, arith, Option, Some, None, List, [], ◌∷◌, ◌++◌, Ordering, Less, cond, map, refl, sym, ap, ap₂, ◌∙◌}
+use Rattle.std.proofs.Common.{◌≡◌, ◌↔◌, ◌+◌, Result, Ok, Err, ℕ, length, count_by, is_none, not, arith, Option, Some, None, List, [], ◌∷◌, ◌++◌, Ordering, Less, cond, map, refl, sym, ap, ap₂, ◌∙◌}
+use Rattle.std.proofs.lemmas.List.Sums.{sum_by-cons}
 use Rattle.std.specs.BTreeMap.{insert_entry}
 use Rattle.std.specs.Cmp.{IsTotalOrder}
 use Rattle.std.specs.List.{AllByRecursion}
@@ -10,6 +11,7 @@ use Rattle.std.specs.Result.{IsErrAnd}
 use Rattle.abs_codec.specs.Entries.{value_at}
 use Rattle.keyed_state.specs.Comparing.{HaveStates}
 use Rattle.keyed_state.specs.Overlay.{put_over}
+use Rattle.keyed_state.specs.Putting.{has_key}
 use Rattle.keyed_state.proofs.Laid.{value_at-insert_entry}
 
 module _ {K S : Type 0} (cmp : K → K → Ordering) where
@@ -69,3 +71,14 @@ told_on (Ok x) fault told is same = absurd is
 told_on (Err e) fault told is same =
     let met : e ≡ fault = is in
     cc
+
+-- a key is new where none is expected
+module _ {K S : Type 0} (cmp : K → K → Ordering) (es : List (K × S)) where
+  new_keys : (entries : List (K × S)) → count_by is_none (map (value_at cmp es) (keys_of entries)) ≡ count_by (λ e. not (has_key cmp es e)) entries
+  new_keys [] = refl
+  new_keys (e ∷ entries) =
+      sum_by-cons (λ (o : Option S). cond (is_none o) 1 0) (value_at cmp es e.0) (map (value_at cmp es) (keys_of entries)) ∙ ap (λ n. cond (is_none (value_at cmp es e.0)) 1 0 + n) (new_keys entries)
+      ∙ sym (sum_by-cons (λ (f : K × S). cond (not (has_key cmp es f)) 1 0) e entries)
+
+  pub none_expected : (entries : List (K × S)) (expected : List (Option S)) → HaveStates cmp es (keys_of entries) expected → count_by is_none expected ≡ count_by (λ e. not (has_key cmp es e)) entries
+  none_expected entries expected same = ap (λ states. count_by is_none states) (sym same) ∙ new_keys entries

@@ -1,7 +1,7 @@
 //! Several entries that are put into a map at once where each key has the state that is expected of
 //! it, or none of them.
 
-ghost use Rattle.std.specs.Prelude.{◌≡◌, ◌↔◌, Err, IsTrue, OnOk, OnErr, ◌++◌, ◌∷◌, [], List, Option};
+ghost use Rattle.std.specs.Prelude.{◌≡◌, ◌↔◌, Err, IsTrue, count_by, is_none, OnOk, OnErr, ◌++◌, ◌∷◌, [], List, Option};
 ghost use Rattle.std.specs.List.Sorted.{IsStrictlySortedBy};
 ghost use Rattle.std.specs.Map.{keys_of};
 ghost use Rattle.std.specs.Option.{option_copied};
@@ -54,6 +54,19 @@ pub(crate) fn is_expected<S: Eq>(state: Option<&S>, expected: Option<&S>) -> boo
         },
         None => expected.is_none(),
     }
+}
+
+/// How many of these states are none.
+pub(crate) fn count_none<S>(states: &[Option<S>]) -> usize
+    ensures { result ≡ count_by is_none states.now }
+{
+    let mut count = 0;
+    for state in states {
+        if state.is_none() {
+            count += 1;
+        }
+    }
+    count
 }
 
 /// The state that was there before at the key that is noted last, `None` where none was.

@@ -13,7 +13,7 @@ ghost use Rattle.keyed_state.specs.Overlay.{put_over};
 ghost use Rattle.keyed_state.specs.Putting.{has_key};
 ghost use Rattle.keyed_state.specs.declared.comparing.SetFault.TheVariants as SetFault;
 
-use crate::comparing::{SetFault, exchange_all_in, is_expected};
+use crate::comparing::{SetFault, count_none, exchange_all_in, is_expected};
 use crate::lending::{Lendable, Lent};
 use crate::putting::{insert_in, put_all, put_all_in, put_in_both};
 use abs_codec::{Codec, CodecFault, Map, NoMemory};
@@ -284,6 +284,27 @@ impl<K: Codec + Ord, S: Codec> KeyedState<K, S> {
             return self.set_all_alone(entries);
         }
         let len = self.len_with_all(&entries)?;
+        self.set_all_beside(entries, len)
+    }
+
+    /// Gives each of these keys its state, or none of them where memory is refused, where another
+    /// map may be kept beside the one that is seen. So many keys are seen then.
+    fn set_all_beside(&mut self, entries: Vec<(K, S)>, len: usize) -> Result<(), NoMemory>
+        requires rising { IsStrictlySortedBy K.Ord.cmp (keys_of entries.items) }
+        requires len { len ≡ length self.old.entries
+            + count_by (λ e. not (has_key K.Ord.cmp self.old.entries e)) entries.items }
+        ensures entries { OnOk result
+            (self.new.entries ≡ put_over K.Ord.cmp self.old.entries entries.items) }
+        ensures states { OnOk result ((q : K) → value_at K.Ord.cmp self.new.entries q
+            ≡ option_or (value_at K.Ord.cmp entries.items q)
+            (value_at K.Ord.cmp self.old.entries q)) }
+        ensures frozen { self.new.frozen ≡ self.old.frozen }
+        ensures unmerged { self.new.unmerged ≤ self.old.unmerged
+            + (if is_some self.old.frozen then length entries.items else 0) }
+        ensures none_merged { self.old.unmerged ≤ self.new.unmerged }
+        ensures ordered { IsStrictlySortedBy K.Ord.cmp (keys_of self.new.entries) }
+        ensures err { OnErr result (self.new ≡ self.old) }
+    {
         if self.is_frozen {
             put_all(self.alloc, &mut self.overlay, entries)?;
             self.len = len;
@@ -369,7 +390,11 @@ impl<K: Codec + Ord, S: Codec> KeyedState<K, S> {
         if !self.has_states(&entries, expected) {
             return Err(SetFault::Changed);
         }
-        self.set_all(entries)?;
+        // A key is new where none is expected.
+        let Some(len) = self.len().checked_add(count_none(expected)) else {
+            return Err(SetFault::Memory);
+        };
+        self.set_all_beside(entries, len)?;
         Ok(())
     }
 

@@ -86,6 +86,22 @@ pub(crate) fn undo<K: Ord + Drop, S: Drop>(map: &mut BTreeMap<K, S>, mut notes: 
     }
 }
 
+/// Gives this key its state, if there is one, or not where memory is refused.
+fn put_only<K: Codec + Ord, S: Drop>(
+    map: &mut BTreeMap<K, S>,
+    mut entries: Vec<(K, S)>,
+) -> Result<(), NoMemory>
+    requires { length entries.items < 2 }
+    ensures ok { OnOk result (map.new.entries
+        ≡ put_over K.Ord.cmp map.old.entries entries.items) }
+    ensures err { OnErr result (map.new.entries ≡ map.old.entries) }
+{
+    if let Some((key, state)) = entries.pop() {
+        map.insert(key, state)?;
+    }
+    Ok(())
+}
+
 /// Gives each of these keys its state, or none of them where memory is refused.
 pub(crate) fn put_all<K: Codec + Ord, S: Drop>(
     alloc: Global,
@@ -96,6 +112,9 @@ pub(crate) fn put_all<K: Codec + Ord, S: Drop>(
         ≡ put_over K.Ord.cmp map.old.entries entries.items) }
     ensures err { OnErr result (map.new.entries ≡ map.old.entries) }
 {
+    if entries.len() < 2 {
+        return put_only(map, entries);
+    }
     let mut notes = Vec::new(alloc);
     let done = put_noting(map, &mut notes, entries);
     if done.is_err() {

@@ -1,10 +1,10 @@
-use Rattle.std.proofs.Common.{sym, ap, subst, ◌∙◌}
+use Rattle.std.proofs.Common.{◌+◌, sym, ap, ap₂, subst, ◌∙◌}
 use Rattle.std.proofs.lemmas.Bool.{false≢true}
 use Rattle.std.specs.List.Sorted.{IsStrictlySortedBy}
 use Rattle.std.specs.Map.{keys_of}
 use Rattle.keyed_state.specs.Comparing.{HaveStates}
 use Rattle.keyed_state.specs.declared.comparing.SetFault.TheVariants as SetFault
-use Rattle.keyed_state.proofs.Compared.{told_on}
+use Rattle.keyed_state.proofs.Compared.{told_on, none_expected}
 use Rattle.keyed_state.proofs.Laid.{put_over-rises}
 use Rattle.keyed_state.proofs.Several.{states_put}
 use Rattle.keyed_state.proofs.keyed_map.KeyedState.compare_and_set_all.Goals as goal
@@ -32,10 +32,15 @@ pub returns-then-not-has_states-clause-ordered : goal.returns-then-not-has_state
 returns-then-not-has_states-clause-ordered g c =
     subst (λ es. IsStrictlySortedBy g.K.Ord.cmp (keys_of es)) (ap (λ m. m.entries) c.self.view_is) (put_over-rises g.met.K.Ord.total c.self.inside.base c.self.inside.overlay.entries c.self.invariant.base_rises)
 
-pub returns-in_err-set_all-clause-changed : goal.returns-in_err-set_all-clause-changed
-returns-in_err-set_all-clause-changed g c = λ is same.
+pub returns-in_err-set_all_beside-clause-changed : goal.returns-in_err-set_all_beside-clause-changed
+returns-in_err-set_all_beside-clause-changed g c = λ is same.
     let told = told_on c.from_residual.result SetFault.Memory SetFault.Changed c.from_residual.ensures.1 is in
     absurd (cc)
+
+pub set_all_beside-requires-clause-len : goal.set_all_beside-requires-clause-len
+set_all_beside-requires-clause-len g c =
+    let seen = subst (λ es. HaveStates g.K.Ord.cmp c.args.self.now.entries (keys_of es) c.args.expected.now) c.deref.ensures.value (c.has_states.ensures.0 c.if-not-has_states.false) in
+    c.in-Some.ensures.1 ∙ ap₂ (λ a b. a + b) c.len.ensures.len (c.count_none.ensures ∙ none_expected g.K.Ord.cmp c.args.self.now.entries c.args.entries.items c.args.expected.now seen)
 
 pub returns-clause-expected : goal.returns-clause-expected
 returns-clause-expected g c =
