@@ -3,7 +3,6 @@ use Rattle.std.proofs.Common.{◌≡◌, ℕ, List, refl, sym, ap, ◌∙◌}
 use Rattle.operator_state.specs.Operating.{Operating}
 use Rattle.job_state.specs.Kinds.{standing_of}
 use Rattle.job_state.specs.Standing.{Standing}
-use Rattle.job_state.specs.declared.holding.Holding.{Holding}
 use Rattle.job_state.specs.declared.holding.Holding.TheVariants as holds
 use Rattle.job_state.specs.declared.task.Kind.{Kind}
 use Rattle.job_state.specs.declared.task.Kind.TheVariants as kind

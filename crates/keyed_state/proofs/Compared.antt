@@ -1,5 +1,5 @@
 -- States that are compared with the expected ones, one key after another, as they are replaced.
-use Rattle.std.proofs.Common.{◌≡◌, ◌↔◌, ◌+◌, Result, Ok, Err, ℕ, length, count_by, is_none, not, arith, Option, Some, None, List, [], ◌∷◌, ◌++◌, Ordering, Less, cond, map, refl, sym, ap, ap₂, ◌∙◌}
+use Rattle.std.proofs.Common.{◌≡◌, ◌↔◌, ◌+◌, Result, Ok, Err, ℕ, length, count_by, is_none, not, arith, Option, Some, List, [], ◌∷◌, Ordering, Less, cond, map, refl, sym, ap, ap₂, ◌∙◌}
 use Rattle.std.proofs.lemmas.List.Sums.{sum_by-cons}
 use Rattle.std.specs.BTreeMap.{insert_entry}
 use Rattle.std.specs.Cmp.{IsTotalOrder}

@@ -1,4 +1,3 @@
-use Rattle.std.proofs.Common.{◌∙◌}
 use Rattle.claims.proofs.Copies.{among_moved}
 use Rattle.claims.proofs.states.put_in_order.Goals as goal
 

@@ -1,4 +1,4 @@
-use Rattle.std.proofs.Common.{◌≡◌, length, map, sym, ap, ◌∙◌}
+use Rattle.std.proofs.Common.{length, map, sym, ap, ◌∙◌}
 use Rattle.abs_codec.specs.Entries.{value_at}
 use Rattle.claims.specs.Keys.{states_kept, states_under}
 use Rattle.claims.proofs.Copies.{copied, copies_rise}
