@@ -21,7 +21,7 @@ enum Stage {
 }
 
 /// So many steps of records come between two pieces of a copy that would be late.
-const MOST_STEPS: u64 = 64;
+const MOST_STEPS: u64 = 128;
 
 /// A copy is late where it has a piece or more for so many records between two checkpoints.
 const RECORDS_A_PIECE: u64 = 12;
