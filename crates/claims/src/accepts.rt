@@ -215,9 +215,15 @@ pub fn accept<O: Operator, X: Transactions>(
         → X.fault_count transactions.new ≡ X.fault_count transactions.old }
 {
     match worked.made {
-        Made::Operator(operand, outcomes) => {
-            accept_outcomes(attempt, graph, operators, task, input, operand, outcomes)
-        }
+        Made::Operator(operand, outcomes) => accept_outcomes(
+            attempt,
+            graph,
+            operators,
+            task,
+            input,
+            operand.into_operand(),
+            outcomes,
+        ),
         Made::Sink(row, bytes) => accept_row(
             attempt,
             graph,

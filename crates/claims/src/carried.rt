@@ -7,7 +7,7 @@ ghost use Rattle.claims.specs.Left.{AllGood, WorksRow, made_of, state_left};
 ghost use Rattle.claims.specs.Places.{given_at, left_at, state_at};
 
 use crate::left::{Place, entries_of, place_of, places_of, put_at, state_of};
-use crate::parts::{Given, Made, Operand, Outcomes};
+use crate::parts::{Given, Load, Made, Operand, Outcomes};
 use abs_codec::{Codec, NoMemory};
 use engine_model::Rules;
 use operators::{Operator, Outcome};
@@ -148,37 +148,28 @@ fn outcomes_of<O: Operator>(
 /// The same work, with states of its own where there is memory for that.
 fn settled<O: Operator>(
     alloc: Global,
-    operand: Operand<O, O::Key, O::State, O::Record>,
-) -> Operand<O, O::Key, O::State, O::Record>
-    ensures { result ≡ operand }
+    load: Load<O, O::Key, O::State, O::Record>,
+) -> Load<O, O::Key, O::State, O::Record>
+    ensures { result ≡ load }
 {
-    let Operand {
-        operator,
-        states,
-        rows,
-    } = operand;
-    Operand {
-        operator,
-        states: states.settled(alloc),
-        rows,
-    }
+    load.settled(alloc)
 }
 
 /// An operator's work is done.
 fn worked_operand<O: Operator>(
     alloc: Global,
-    operand: Operand<O, O::Key, O::State, O::Record>,
+    load: Load<O, O::Key, O::State, O::Record>,
 ) -> Worked<O>
-    requires { IsOperand ⟦<O as Rules>⟧.all operand }
-    ensures { given_of result ≡ Given.Operator operand }
+    requires { IsOperand ⟦<O as Rules>⟧.all load }
+    ensures { given_of result ≡ Given.Operator load }
 {
-    let operand = settled(alloc, operand);
-    match outcomes_of(alloc, &operand) {
+    let own = settled(alloc, load);
+    match outcomes_of(alloc, own.get()) {
         Ok(outcomes) => Worked {
-            made: Made::Operator(operand, outcomes),
+            made: Made::Operator(own, outcomes),
         },
         Err(_) => Worked {
-            made: Made::Refused(Given::Operator(operand)),
+            made: Made::Refused(Given::Operator(own)),
         },
     }
 }
@@ -216,7 +207,7 @@ fn count_of<O, K: Ord, S, R>(given: &Given<O, K, S, R>) -> usize
     ensures { result ≡ records_of given.now }
 {
     match given {
-        Given::Operator(operand) => operand.rows.len(),
+        Given::Operator(load) => load.get().rows.len(),
         Given::Sink(_) => 1,
     }
 }
@@ -240,7 +231,7 @@ impl<O: Operator> Work<O> {
         ensures { given_of result ≡ self }
     {
         match self.given {
-            Given::Operator(operand) => worked_operand(alloc, operand),
+            Given::Operator(load) => worked_operand(alloc, load),
             Given::Sink(row) => worked_row(alloc, row),
         }
     }
@@ -255,7 +246,7 @@ impl<O: Operator> Worked<O> {
         ensures { result ≡ records_of (given_of self.now) }
     {
         match &self.made {
-            Made::Operator(operand, _) => operand.rows.len(),
+            Made::Operator(load, _) => load.get().rows.len(),
             Made::Sink(_, _) => 1,
             Made::Refused(given) => count_of(given),
         }

@@ -266,7 +266,7 @@ pub(crate) fn is_due<O: Operator>(
 {
     match given {
         Given::Operator(operand) => {
-            operand_channel(attempt, graph, operators, task, input, operand).is_some()
+            operand_channel(attempt, graph, operators, task, input, operand.get()).is_some()
         }
         Given::Sink(row) => row_channel(attempt, graph, task, input, row).is_some(),
     }

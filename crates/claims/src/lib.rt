@@ -29,5 +29,5 @@ pub use carried::{Work, Worked};
 pub use due::{channel_of, operator_of};
 pub use inputs::input_of;
 pub use offers::{offer, offer_ahead};
-pub use parts::{Given, Made, Operand, Outcomes};
+pub use parts::{Given, Load, Made, Operand, Outcomes};
 pub use states::States;

@@ -15,7 +15,7 @@ ghost use Rattle.claims.specs.Keys.{HasItsKey};
 use crate::carried::Work;
 use crate::due::operator_of;
 use crate::inputs::{first_record, free_records, input_of};
-use crate::parts::{Given, Operand};
+use crate::parts::{Given, Load, Operand};
 use crate::states::states_of;
 use abs_codec::{Codec, NoMemory};
 use engine_model::{CoreFault, Rules};
@@ -128,6 +128,29 @@ fn operand_of<O: Operator>(
     })
 }
 
+/// The same, behind an owner.
+fn load_of<O: Operator>(
+    alloc: Global,
+    attempt: &Attempt<O>,
+    operator: &O,
+    task: u32,
+    channel: u32,
+    count: usize,
+) -> Result<Load<O, O::Key, O::State, O::Record>, NoMemory>
+    requires within { count
+        ≤ length (leading_records (items_at attempt.now.channels channel)) }
+    ensures operator { IfOk result (λ load. load.operator ≡ operator.now) }
+    ensures rows { IfOk result (λ load. load.rows.items
+        ≡ take count (leading_records (items_at attempt.now.channels channel))) }
+    ensures carried { IfOk result (λ load. (entries : List (O.Key × O.State))
+        → slice_get attempt.now.tasks task ≡ Some (Holding.Operator entries)
+        → IsCarried O.meaning O.Key.cmp entries load) }
+{
+    let operand = operand_of(alloc, attempt, operator, task, channel, count)?;
+    let load = Load::new(alloc, operand)?;
+    Ok(load)
+}
+
 /// Offers the work that a task is to do at an input now: an operator's on the records before the
 /// first barrier, at most so many, and a sink's on one. It copies the operator, the records and
 /// their keys, and the state under each key, once, where the task's states are not lent. `K2` comes
@@ -157,7 +180,7 @@ pub fn offer<O: Operator>(
                 return Err(CoreFault::NoSuchTask);
             };
             let count = free_records(attempt, task, input, channel)?.min(most);
-            let operand = operand_of(alloc, attempt, operator, task, channel, count)?;
+            let operand = load_of(alloc, attempt, operator, task, channel, count)?;
             Ok(Work {
                 given: Given::Operator(operand),
             })

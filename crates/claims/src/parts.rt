@@ -1,6 +1,13 @@
 //! Work and results as plain data.
 
+ghost use Rattle.std.specs.Prelude.{◌≡◌, IfOk};
+ghost use Rattle.operators.specs.Operator.{OrderIsExact};
+
 use crate::states::States;
+use abs_codec::{Codec, NoMemory};
+use std::alloc::Global;
+use std::marker::Model;
+use std::mem::replace;
 
 /// What an operator works: the first records of an input, and under each of their keys the present
 /// state, `None` where the key has none yet.
@@ -9,6 +16,64 @@ pub struct Operand<O, K: Ord, S, R> {
     pub operator: O,
     pub states: States<K, S>,
     pub rows: Vec<R>,
+}
+
+/// An operator's work behind an owner: it is handed on as one word. Contracts see the work.
+#[derive(Drop)]
+pub struct Load<O, K: Ord, S, R> {
+    operand: Box<Operand<O, K, S, R>>,
+}
+
+impl<O, K: Ord, S, R> Model for Load<O, K, S, R> {
+    ghost use Rattle.claims.specs.declared.parts.Operand.{Operand};
+
+    ghost Value = { Operand O K S R };
+
+    ghost view = { λ l. l.operand.value };
+}
+
+impl<O: Drop, K: Ord + Drop, S: Drop, R: Drop> Load<O, K, S, R> {
+    pub(crate) fn new(alloc: Global, operand: Operand<O, K, S, R>) -> Result<Self, NoMemory>
+        ensures { IfOk result (λ load. load ≡ operand) }
+    {
+        let operand = Box::new(alloc, operand)?;
+        Ok(Load { operand })
+    }
+}
+
+impl<O, K: Ord, S, R> Load<O, K, S, R> {
+    pub(crate) fn get(&self) -> &Operand<O, K, S, R>
+        ensures { result.now ≡ self.now }
+    {
+        &self.operand
+    }
+
+    pub(crate) fn into_operand(self) -> Operand<O, K, S, R>
+        ensures { result ≡ self }
+    {
+        Box::into_inner(self.operand)
+    }
+}
+
+/// These states, copied where they are lent and there is memory for that. Keys that tie have to be
+/// one.
+fn settle<K: Codec + Ord, S: Codec>(alloc: Global, states: &mut States<K, S>)
+    ensures { OrderIsExact K.Ord.cmp → states.new ≡ states.old }
+{
+    let given = replace(states, States::none(alloc));
+    *states = given.settled(alloc);
+}
+
+impl<O, K: Codec + Ord, S: Codec, R> Load<O, K, S, R> {
+    /// The same work, with states of its own where there is memory for that. Keys that tie have to
+    /// be one.
+    pub(crate) fn settled(mut self, alloc: Global) -> Self
+        ensures { OrderIsExact K.Ord.cmp → result ≡ self }
+    {
+        let operand = &mut *self.operand;
+        settle(alloc, &mut operand.states);
+        self
+    }
 }
 
 /// What an operator makes of its records, one after another: the last state of each key, by rising
@@ -22,7 +87,7 @@ pub struct Outcomes<K, S, R> {
 /// A task's work: an operator's, or the record that a sink puts out.
 #[derive(Drop)]
 pub enum Given<O, K: Ord, S, R> {
-    Operator(Operand<O, K, S, R>),
+    Operator(Load<O, K, S, R>),
     Sink(R),
 }
 
@@ -30,7 +95,7 @@ pub enum Given<O, K: Ord, S, R> {
 /// puts out, or nothing, since memory was refused.
 #[derive(Drop)]
 pub enum Made<O, K: Ord, S, R> {
-    Operator(Operand<O, K, S, R>, Outcomes<K, S, R>),
+    Operator(Load<O, K, S, R>, Outcomes<K, S, R>),
     Sink(R, Vec<u8>),
     Refused(Given<O, K, S, R>),
 }

@@ -250,6 +250,18 @@ pub(crate) fn states_of<O: Operator>(
 }
 
 impl<K: Codec + Ord, S: Codec> States<K, S> {
+    /// No states. It takes no memory.
+    pub(crate) fn none(alloc: Global) -> Self {
+        let copies = Copies {
+            keys: Vec::new(alloc),
+            states: Vec::new(alloc),
+            guesses: Vec::new(alloc),
+        };
+        States {
+            kept: Kept::Copied(copies),
+        }
+    }
+
     /// The same states, copied where there is memory for that. Keys that tie have to be one.
     pub(crate) fn settled(self, alloc: Global) -> Self
         ensures { OrderIsExact K.Ord.cmp → result ≡ self }
