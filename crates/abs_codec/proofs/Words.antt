@@ -9,6 +9,7 @@ use Rattle.std.specs.Cmp.Lexicographic.{slice_cmp, nat_list_cmp_total}
 use Rattle.std.proofs.lemmas.Bool.{cases_lt}
 use Rattle.std.proofs.lemmas.Nat.{mul-le}
 use Rattle.std.proofs.Math.Seq.{take-append-add}
+use Rattle.std.specs.Prelude.{Option, Some, None, IfSome}
 use Rattle.abs_codec.specs.Numbers.{wide64}
 use Rattle.abs_codec.specs.Reading.{IsBytes}
 use Rattle.abs_codec.specs.Words.{leading, IsFirstWord}
@@ -143,3 +144,8 @@ pub cut : (kept head word : List ℕ) (end n : ℕ) → length head ≡ 4 → en
 cut kept head word end n four e =
     let whole : end ≡ length kept + (length head + n) = omega (arith, e, four) in
     ap (λ k. take k (kept ++ (head ++ word))) whole ∙ take-append-add kept (head ++ word) (length head + n) ∙ ap (λ w. kept ++ w) (take-append-add head word n)
+
+-- what is so of one answer is so of another that follows from it
+pub answered : {P Q : ℕ → Type 0} → (o : Option ℕ) → ((n : ℕ) → P n → Q n) → IfSome o P → IfSome o Q
+answered None follows h = h
+answered (Some n) follows h = follows n h

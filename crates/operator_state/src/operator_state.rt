@@ -7,7 +7,7 @@ ghost use Rattle.std.specs.List.{All, flat_map};
 ghost use Rattle.std.specs.Map.{keys_of};
 ghost use Rattle.std.specs.BTreeMap.{is_at};
 ghost use Rattle.abs_codec.specs.Entries.{value_at};
-ghost use Rattle.abs_codec.specs.Spelling.{pair_spelling, PairIsSpelled};
+ghost use Rattle.abs_codec.specs.Spelling.{pair_spelling, IsWrittenAt, PairIsSpelled};
 ghost use Rattle.abs_codec.specs.Same.{EqualIsSame};
 ghost use Rattle.keyed_state.specs.Comparing.{HaveStates};
 ghost use Rattle.keyed_state.specs.KeyedMap.{entries_above, frozen_entries};
@@ -21,6 +21,9 @@ use keyed_state::{KeyedState, LentStates, SetFault};
 use std::alloc::Global;
 use std::marker::Model;
 use task_part::{write_count, write_logs};
+
+/// So many bytes are taken past an entry at once, for those that come next.
+const ROOM: usize = 1_024;
 
 /// The states of an operator by key, and its copy for the pending checkpoint.
 #[derive(Drop)]
@@ -94,6 +97,48 @@ fn write_entry<K: Codec, S: Codec>(key: &K, state: &S, out: &mut Vec<u8>) -> Res
     state.write(out).map_err(|_| NoMemory)
 }
 
+/// Writes a key and its state over the bytes from `at` on, and says where they end, or nothing:
+/// always where the bytes are too few.
+fn write_entry_over<K: Codec, S: Codec>(
+    key: &K,
+    state: &S,
+    bytes: &mut [u8],
+    at: usize,
+) -> Option<usize>
+    ensures written { IfSome result (λ end. PairIsSpelled K.HasSpelling S.HasSpelling
+        (key.now, state.now) × IsWrittenAt bytes.old bytes.new at
+        (pair_spelling K.spelling S.spelling (key.now, state.now)) end) }
+    ensures keeps { take at bytes.new ≡ take at bytes.old }
+    ensures len { length bytes.new ≡ length bytes.old }
+{
+    let middle = key.write_over(bytes, at)?;
+    state.write_over(bytes, middle)
+}
+
+/// Writes a key and its state at an end, and says where they end: over what stands past it, where
+/// that is enough, and else in its place, with room for those that come next.
+fn write_entry_at<K: Codec, S: Codec>(
+    key: &K,
+    state: &S,
+    out: &mut Vec<u8>,
+    end: usize,
+) -> Result<usize, NoMemory>
+    requires { end ≤ length out.old.items }
+    ensures written { IfOk result (λ next. PairIsSpelled K.HasSpelling S.HasSpelling
+        (key.now, state.now) × IsWrittenAt out.old.items out.new.items end
+        (pair_spelling K.spelling S.spelling (key.now, state.now)) next) }
+    ensures keeps { take end out.new.items ≡ take end out.old.items }
+{
+    if let Some(next) = write_entry_over(key, state, out, end) {
+        return Ok(next);
+    }
+    out.truncate(end);
+    write_entry(key, state, out)?;
+    let next = out.len();
+    let _ = out.resize(next.saturating_add(ROOM), 0);
+    Ok(next)
+}
+
 /// Writes the next entries of the frozen map, and copies the key of the last of them.
 fn write_next<K: Codec + Ord, S: Codec>(
     states: &KeyedState<K, S>,
@@ -118,12 +163,14 @@ fn write_next<K: Codec + Ord, S: Codec>(
         return Ok(None);
     };
     let mut next = last;
+    let mut end = out.len();
     for _ in 0..count {
         if let Some((key, state)) = entries.next() {
-            write_entry(key, state, out)?;
+            end = write_entry_at(key, state, out, end)?;
             next = Some(key);
         }
     }
+    out.truncate(end);
     match next {
         Some(key) => Ok(Some(key.copied()?)),
         None => Ok(None),

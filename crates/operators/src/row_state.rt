@@ -4,7 +4,7 @@ ghost use Rattle.std.specs.Prelude.{◌≡◌, ◌∷◌};
 ghost use Rattle.std.specs.Int.{w64};
 ghost use Rattle.abs_codec.specs.Spelling.{signed_spelling};
 
-use abs_codec::{Codec, CodecFault, Items};
+use abs_codec::{Codec, CodecFault, Items, put_over};
 use std::alloc::Global;
 
 /// What an operator keeps for a key.
@@ -72,6 +72,18 @@ impl Codec for RowState {
             }
         }
         Ok(())
+    }
+
+    #[inline]
+    fn write_over(&self, bytes: &mut [u8], at: usize) -> Option<usize> {
+        match self {
+            RowState::Plain => put_over(bytes, at, &[0]),
+            RowState::Number(n) => put_over(bytes, at, &number_bytes(*n)),
+            RowState::Numbers(ns) => {
+                let start = put_over(bytes, at, &[2])?;
+                ns.write_over(bytes, start)
+            }
+        }
     }
 
     #[tactic(auto, unfolding(crate::specs::RowSpelling::state_at))]

@@ -1,18 +1,19 @@
-use Rattle.std.proofs.Common.{◌≡◌, ◌+◌, suc, take, drop, List, Some, slice_get, ap, sym, subst, ◌∙◌, arith}
+use Rattle.std.proofs.Common.{◌≡◌, ◌+◌, ◌≤◌, ℕ, suc, length, take, drop, List, Some, slice_get, ap, ap₂, sym, subst, ◌∙◌, arith}
 use Rattle.std.specs.Option.{option_copied}
 use Rattle.std.specs.List.{All, flat_map}
 use Rattle.std.proofs.lemmas.List.Elements.{All-push}
+use Rattle.std.proofs.lemmas.List.{take-append-drop}
 use Rattle.abs_codec.specs.Spelling.{pair_spelling, PairIsSpelled}
 use Rattle.keyed_state.specs.KeyedMap.{entries_above, frozen_entries}
 use Rattle.operator_state.proofs.Copying.{one_on, text_on, since, none_left, drop_on}
 use Rattle.operator_state.proofs.operator_state.write_next.Goals as goal
-use Rattle.operator_state.proofs.operator_state.write_next.Goals.{in-Some-next+in_ok-write_entry, in_default-next}
+use Rattle.operator_state.proofs.operator_state.write_next.Goals.{in-Some-next+in_ok-end, in_default-next}
 
-pub returns-in_err-write_entry-clause-keeps : goal.returns-in_err-write_entry-clause-keeps
-returns-in_err-write_entry-clause-keeps g c =
-    let more = c.write_entry.ensures.keeps in
+pub returns-in_err-end-clause-keeps : goal.returns-in_err-end-clause-keeps
+returns-in_err-end-clause-keeps g c =
+    let new = c.write_entry_at.new.out.items in
     let done = flat_map (pair_spelling g.K.Codec.spelling g.S.Codec.spelling) (take c.loop.counter (entries_above g.K.Ord.cmp (option_copied c.args.last) (frozen_entries c.args.states.now))) in
-    since c.args.out.now.items c.loop.out.items c.write_entry.new.out.items done more.0 c.loop.invariant.text more.1
+    since c.args.out.now.items (take c.loop.end new) new done (drop c.loop.end new) (c.write_entry_at.ensures.keeps ∙ c.loop.invariant.text) (sym (take-append-drop c.loop.end new))
 
 pub loop-preserved : goal.loop-preserved
 loop-preserved g c =
@@ -21,15 +22,16 @@ loop-preserved g c =
     let here = take c.loop.counter left in
     let further = take (c.loop.counter + 1) left in
     elim c.match-next.branch [
-      | in-Some-next+in_ok-write_entry w ↦
+      | in-Some-next+in_ok-end w ↦
           let e : g.row.K.Denot × g.row.S.Denot = (w.in-Some-next.key.now, w.in-Some-next.state.now) in
           let steps = w.in-Some-next.ensures.steps in
           let first : Some e ≡ slice_get (entries_above g.K.Ord.cmp (option_copied c.loop.next) frozen) 0 = ap (λ (l : List (g.row.K.Denot × g.row.S.Denot)). slice_get l 0) (sym steps ∙ c.loop.invariant.rest ∙ sym c.loop.invariant.others) in
           let on = one_on g.met.K.Ord.total (option_copied c.loop.next) frozen left c.loop.counter e c.in-Some.ensures.ordered c.loop.invariant.others first in
-          let done = w.in_ok-write_entry.ensures.appended in
+          let done = w.in_ok-end.ensures.written in
           let next : c.loop.counter + 1 ≡ suc c.loop.counter = omega arith in
           record {
-            text = ap (λ o. o.items) w.out-is ∙ text_on (pair_spelling g.K.Codec.spelling g.S.Codec.spelling) c.args.out.now.items c.loop.out.items w.write_entry.new.out.items here further e c.loop.invariant.text done.1 on.1;
+            within = omega (arith, done.1.1, w.end-is, ap (λ o. length o.items) w.out-is);
+            text = ap₂ (λ (n : ℕ) o. take n o.items) w.end-is w.out-is ∙ text_on (pair_spelling g.K.Codec.spelling g.S.Codec.spelling) c.args.out.now.items (take c.loop.end c.loop.out.items) (take w.in_ok-end.end w.write_entry_at.new.out.items) here further e c.loop.invariant.text done.1.2 on.1;
             each = subst (All (PairIsSpelled g.K.Codec.HasSpelling g.S.Codec.HasSpelling)) (sym on.1) (All-push (PairIsSpelled g.K.Codec.HasSpelling g.S.Codec.HasSpelling) here e c.loop.invariant.each done.0);
             rest = sym (drop_on c.loop.counter left e c.next.new.self (sym c.loop.invariant.rest ∙ steps)) ∙ ap (λ n. drop n left) (sym next);
             others = ap (λ n. entries_above g.K.Ord.cmp (option_copied n) frozen) w.next-is ∙ on.0;
