@@ -1,6 +1,6 @@
 -- What is laid over a map by `put_over`: one entry more, the value at a key, the order of the keys, and how many there are.
-use Rattle.std.proofs.Common.{◌≡◌, ℕ, suc, ◌+◌, ◌≤◌, Bool, true, false, cond, Option, Some, None, List, [], ◌∷◌, length, Ordering, refl, sym, ap, subst, ◌∙◌, arith}
-use Rattle.std.specs.Prelude.{is_some}
+use Rattle.std.proofs.Common.{◌≡◌, ℕ, suc, ◌+◌, ◌≤◌, Bool, true, false, cond, Option, Some, None, List, [], ◌∷◌, ◌++◌, ◌-◌, ◌<◌, ◌↔◌, length, length-append, slice_get, Ordering, refl, sym, ap, ap₂, subst, ◌∙◌, arith}
+use Rattle.std.specs.Prelude.{is_some, IsSome, IfSome, unwrap_or}
 use Rattle.std.specs.BTreeMap.{insert_entry, is_at}
 use Rattle.std.specs.Cmp.{IsTotalOrder, Equal-is, eq_by_cmp_equiv, tied_back, alike_right}
 use Rattle.std.specs.List.{AllByRecursion}
@@ -41,6 +41,16 @@ module _ {S : Type 0} where
   abbrev pub shadowed : Option S → Option S → Option S
   shadowed None under = under
   shadowed (Some v) under = Some v
+
+  none_is_some : {A : Type 0} {e : A} → Some e ≡ None → ⊥
+  none_is_some h = absurd h
+
+  unwrapped : {A : Type 0} (p e : A) → Some p ≡ Some e → p ≡ e
+  unwrapped p e same = ap (λ o. unwrap_or o p) same
+
+  last_is : {A : Type 0} (front : List A) (p : A) → slice_get (front ++ p ∷ []) (length front) ≡ Some p
+  last_is [] p = refl
+  last_is (x ∷ front) p = last_is front p
 
   twice : (b : Bool) (x y z : Option S) → cond b x z ≡ cond b x (cond b y z)
   twice true x y z = refl
@@ -111,6 +121,36 @@ module _ {K S : Type 0} {cmp : K → K → Ordering} (order : IsTotalOrder cmp) 
           let none : NonePasses (is_at (cmp k)) later = none_past_head (eq_by_cmp_equiv order) k e later (IsDistinct-from_sorted cmp (keys_of (e ∷ later)) rises) (ap is_eq p) in
           simp p (sym (ap (λ (base : List (K × S)). put_over cmp base later) (again es e.0 e.1 k v (tied_back order k e.0 p))) ∙ put_over-below (insert_entry cmp es e.0 e.1) later k v none)
       by Greater p rest = simp p rest
+
+  last_put : (es front : List (K × S)) (e : K × S) → put_over cmp es (front ++ e ∷ []) ≡ insert_entry cmp (put_over cmp es front) e.0 e.1
+  last_put es [] e = refl
+  last_put es (x ∷ front) e = last_put (insert_entry cmp es x.0 x.1) front e
+
+  below_last : (k : K) (front : List (K × S)) (e : K × S) → AllByRecursion (λ q. cmp k q ≡ Less) (keys_of (front ++ e ∷ [])) → cmp k e.0 ≡ Less
+  below_last k [] e all = all.0
+  below_last k (x ∷ front) e all = below_last k front e all.1
+
+  last_apart : (front : List (K × S)) (e : K × S) → IsStrictlySortedBy cmp (keys_of (front ++ e ∷ [])) → NonePasses (is_at (cmp e.0)) front
+  unfolding IsStrictlySortedBy
+  last_apart [] e rises = tt
+  last_apart (x ∷ front) e rises = (ap is_eq (reversed order x.0 e.0 Less (below_last x.0 front e rises.0)), last_apart front e rises.1)
+
+  -- the last entry is put in the base
+  pub last_below : (base overlay front : List (K × S)) (e : K × S) → IsStrictlySortedBy cmp (keys_of overlay) → overlay ≡ front ++ e ∷ [] → put_over cmp (insert_entry cmp base e.0 e.1) front ≡ put_over cmp base overlay
+  last_below base overlay front e rises is =
+      put_over-below base front e.0 e.1 (last_apart front e (subst (λ es. IsStrictlySortedBy cmp (keys_of es)) is rises))
+      ∙ sym (last_put base front e) ∙ sym (ap (put_over cmp base) is)
+
+  -- the entry that was looked at, put in the base, is the one that left
+  pub merged_last : (base overlay after : List (K × S)) (popped : Option (K × S)) (e : K × S) (len : ℕ) → IsStrictlySortedBy cmp (keys_of overlay) → len ≡ length overlay → slice_get overlay (len - 1) ≡ Some e → (IsSome popped ↔ (0 < len))
+      → IfSome popped (λ p. overlay ≡ after ++ p ∷ []) → (put_over cmp (insert_entry cmp base e.0 e.1) after ≡ put_over cmp base overlay) × (length after ≡ len - 1)
+  merged_last base [] after popped e len rises counted last some removed = absurd (none_is_some (sym last))
+  merged_last base (x ∷ overlay) after None e len rises counted last some removed = absurd (some.1 (omega (arith, counted)))
+  merged_last base (x ∷ overlay) after (Some p) e len rises counted last some removed =
+      let longer : len ≡ length after + 1 = counted ∙ ap length removed ∙ length-append after (p ∷ []) in
+      let place : len - 1 ≡ length after = omega (arith, longer) in
+      let same : Some p ≡ Some e = sym (last_is after p) ∙ sym (ap₂ slice_get removed place) ∙ last in
+      (last_below base (x ∷ overlay) after e rises (removed ∙ ap (λ q. after ++ q ∷ []) (unwrapped p e same)), sym place)
 
   -- ---- the value at a key
 

@@ -459,24 +459,24 @@ impl<K: Codec + Ord, S: Codec> KeyedState<K, S> {
     {
         if !self.is_frozen {
             for _ in 0..most.min(self.overlay.len()) {
-                self.merge_first()?;
+                self.merge_last()?;
             }
         }
         Ok(self.overlay.len())
     }
 
-    /// Merges the first of the later writes, if there is one. It is copied, so that a refusal
-    /// loses nothing.
-    fn merge_first(&mut self) -> Result<(), NoMemory>
+    /// Merges the last of the later writes, if there is one: its leaf moves no other. It is copied,
+    /// so that a refusal loses nothing.
+    fn merge_last(&mut self) -> Result<(), NoMemory>
         requires { self.old.frozen ≡ None }
         ensures ok { OnOk result
             (self.new ≡ record self.old { unmerged = self.old.unmerged - 1 }) }
         ensures err { OnErr result (self.new ≡ self.old) }
     {
-        if let Some((key, later)) = self.overlay.first_key_value() {
+        if let Some((key, later)) = self.overlay.last_key_value() {
             let (key, later) = (key.copied()?, later.copied()?);
             insert_in(self.alloc, &mut self.base, key, later)?;
-            let _merged = self.overlay.pop_first();
+            let _merged = self.overlay.pop_last();
         }
         Ok(())
     }
