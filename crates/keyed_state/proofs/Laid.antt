@@ -1,6 +1,6 @@
 -- What is laid over a map by `put_over`: one entry more, the value at a key, the order of the keys, and how many there are.
 use Rattle.std.proofs.Common.{◌≡◌, ℕ, suc, ◌+◌, ◌≤◌, Bool, true, false, cond, Option, Some, None, List, [], ◌∷◌, ◌++◌, ◌-◌, ◌<◌, ◌↔◌, length, length-append, slice_get, Ordering, refl, sym, ap, ap₂, subst, ◌∙◌, arith}
-use Rattle.std.specs.Prelude.{is_some, IsSome, IfSome, unwrap_or}
+use Rattle.std.specs.Prelude.{if◌then◌else◌, is_some, IsSome, IfSome, unwrap_or}
 use Rattle.std.specs.BTreeMap.{insert_entry, is_at}
 use Rattle.std.specs.Cmp.{IsTotalOrder, Equal-is, eq_by_cmp_equiv, tied_back, alike_right}
 use Rattle.std.specs.List.{AllByRecursion}
@@ -32,6 +32,18 @@ module _ {K : Type 0} {cmp : K → K → Ordering} (order : IsTotalOrder cmp) wh
   further_up a b [] h all = tt
   further_up a b (q ∷ ks) h all = (order.trans a b q h all.0, further_up a b ks h all.1)
 
+-- nothing is frozen, whatever the map is
+pub none_frozen : {A : Type 0} (is_frozen : Bool) (map other : A) → (if is_frozen then Some map else None) ≡ None → (if is_frozen then Some other else None) ≡ None
+none_frozen true map other none = absurd (false≢true (sym (ap is_some none)))
+none_frozen false map other none = refl
+
+unwrapped : {A : Type 0} (p e : A) → Some p ≡ Some e → p ≡ e
+unwrapped p e same = ap (λ o. unwrap_or o p) same
+
+last_is : {A : Type 0} (front : List A) (p : A) → slice_get (front ++ p ∷ []) (length front) ≡ Some p
+last_is [] p = refl
+last_is (x ∷ front) p = last_is front p
+
 module _ {S : Type 0} where
   none_is : (found : Option S) → is_some found ≡ false → found ≡ None
   none_is None h = refl
@@ -41,16 +53,6 @@ module _ {S : Type 0} where
   abbrev pub shadowed : Option S → Option S → Option S
   shadowed None under = under
   shadowed (Some v) under = Some v
-
-  none_is_some : {A : Type 0} {e : A} → Some e ≡ None → ⊥
-  none_is_some h = absurd h
-
-  unwrapped : {A : Type 0} (p e : A) → Some p ≡ Some e → p ≡ e
-  unwrapped p e same = ap (λ o. unwrap_or o p) same
-
-  last_is : {A : Type 0} (front : List A) (p : A) → slice_get (front ++ p ∷ []) (length front) ≡ Some p
-  last_is [] p = refl
-  last_is (x ∷ front) p = last_is front p
 
   twice : (b : Bool) (x y z : Option S) → cond b x z ≡ cond b x (cond b y z)
   twice true x y z = refl
@@ -144,8 +146,8 @@ module _ {K S : Type 0} {cmp : K → K → Ordering} (order : IsTotalOrder cmp) 
   -- the entry that was looked at, put in the base, is the one that left
   pub merged_last : (base overlay after : List (K × S)) (popped : Option (K × S)) (e : K × S) (len : ℕ) → IsStrictlySortedBy cmp (keys_of overlay) → len ≡ length overlay → slice_get overlay (len - 1) ≡ Some e → (IsSome popped ↔ (0 < len))
       → IfSome popped (λ p. overlay ≡ after ++ p ∷ []) → (put_over cmp (insert_entry cmp base e.0 e.1) after ≡ put_over cmp base overlay) × (length after ≡ len - 1)
-  merged_last base [] after popped e len rises counted last some removed = absurd (none_is_some (sym last))
-  merged_last base (x ∷ overlay) after None e len rises counted last some removed = absurd (some.1 (omega (arith, counted)))
+  merged_last base [] after popped e len rises counted last some removed = absurd (false≢true (ap is_some last))
+  merged_last base (x ∷ overlay) after None e len rises counted last some removed = absurd (false≢true (some.1 (omega (arith, counted))))
   merged_last base (x ∷ overlay) after (Some p) e len rises counted last some removed =
       let longer : len ≡ length after + 1 = counted ∙ ap length removed ∙ length-append after (p ∷ []) in
       let place : len - 1 ≡ length after = omega (arith, longer) in
