@@ -78,10 +78,12 @@ impl Entry {
         self.progress
     }
 
+    /// Its records keep no more room than they need, since no more come.
     pub(crate) fn set_progress(&mut self, progress: Progress)
         ensures { self.new ≡ record self.old { progress = progress } }
     {
         self.progress = progress;
+        self.records.shrink_to_fit();
     }
 
     pub(crate) fn records(&self) -> &[Bytes]
