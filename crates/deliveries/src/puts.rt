@@ -1,6 +1,6 @@
 //! What a task sends, by the channels that it goes into.
 
-ghost use Rattle.std.specs.Prelude.{◌≡◌, ◌++◌, ◌∷◌, [], length, filter, take, drop, OnOk, IfOk, IfSome};
+ghost use Rattle.std.specs.Prelude.{◌≡◌, ◌++◌, ◌∷◌, ℕ, [], IsTrue, length, filter, take, drop, OnOk, IfOk, IfSome};
 ghost use Rattle.std.specs.Option.{option_to_list};
 ghost use Rattle.channels.specs.declared.item.Item.TheVariants.{Record};
 ghost use Rattle.job_graph.specs.Expanded.{meets, takes, outlets_of};
@@ -9,21 +9,38 @@ ghost use Rattle.deliveries.specs.Deliveries.{deliveries_of_one, deliveries_of, 
 
 use abs_codec::{Codec, NoMemory};
 use channels::Item;
-use job_graph::Graph;
+use job_graph::{Graph, Route};
 use operators::Operator;
 use std::alloc::Global;
 
-/// Of a run of the task's channels, the one that takes records of this lane, if one does.
-fn target(graph: &Graph, numbers: &[u32], place: usize, run: usize, lane: u64) -> Option<u32>
+/// Whether a channel takes each record, whatever its lane is.
+fn takes_all(graph: &Graph, number: u32) -> bool
+    ensures { IsTrue result → (lane : ℕ) → IsTrue (meets (takes lane) graph.now.channels number) }
+{
+    match graph.channel(number) {
+        Some(channel) => channel.route == Route::Every,
+        None => false,
+    }
+}
+
+/// Of a run of the task's channels, the one that takes this record, if one does. Its lane is
+/// reckoned only where it matters.
+fn target<O: Operator>(
+    graph: &Graph,
+    numbers: &[u32],
+    place: usize,
+    run: usize,
+    row: &O::Record,
+) -> Option<u32>
     requires { IsRun graph.now.channels numbers.now place run }
-    ensures { filter (meets (takes lane) graph.now.channels) (take run (drop place numbers.now))
-        ≡ option_to_list result }
+    ensures { filter (meets (takes (O.meaning.lane row.now)) graph.now.channels)
+        (take run (drop place numbers.now)) ≡ option_to_list result }
 {
     if run > 1 {
-        return Some(numbers[place + (lane % run as u64) as usize]);
+        return Some(numbers[place + (O::lane(row) % run as u64) as usize]);
     }
     let number = numbers[place];
-    if graph.takes(number, lane) {
+    if takes_all(graph, number) || graph.takes(number, O::lane(row)) {
         Some(number)
     } else {
         None
@@ -55,7 +72,7 @@ pub fn sole_target<O: Operator>(graph: &Graph, task: u32, port: u32, row: &O::Re
         ((port, row.now) ∷ []) ≡ (number, Record row.now) ∷ []) }
 {
     let numbers = sole_run(graph, task, port)?;
-    target(graph, numbers, 0, numbers.len(), O::lane(row))
+    target::<O>(graph, numbers, 0, numbers.len(), row)
 }
 
 /// Adds that a record goes into each channel that takes it from the task's port: the record itself
@@ -70,13 +87,12 @@ fn deliver_one<O: Operator>(
     ensures { OnOk result (puts.new.items ≡ puts.old.items
         ++ deliveries_of_one O.meaning graph.now task (port, row)) }
 {
-    let lane = O::lane(&row);
     let (numbers, runs) = (graph.outlets(task, port), graph.runs(task, port));
     let mut last = None;
     let mut place = 0;
     while place < numbers.len() {
         let run = runs[place] as usize;
-        if let Some(number) = target(graph, numbers, place, run, lane) {
+        if let Some(number) = target::<O>(graph, numbers, place, run, &row) {
             if let Some(previous) = last {
                 puts.push((previous, Item::Record(row.copied()?)))?;
             }
@@ -108,7 +124,7 @@ fn deliver_next<O: Operator>(
     if port != 0 {
         return deliver_one::<O>(graph, task, port, row, puts);
     }
-    if let Some(number) = target(graph, first, 0, first.len(), O::lane(&row)) {
+    if let Some(number) = target::<O>(graph, first, 0, first.len(), &row) {
         puts.push((number, Item::Record(row)))?;
     }
     Ok(())

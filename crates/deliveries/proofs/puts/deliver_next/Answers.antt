@@ -13,7 +13,7 @@ returns-in_ok-push g c =
     c.in_ok-push.ensures.items
     ∙ ap (λ l. c.args.puts.now.items ++ l)
     (sym (ap (λ p. deliveries_of_one meaning graph c.args.task (p, row)) port
-    ∙ run_delivers meaning graph c.args.task 0 row c.args.first.now (c.in-Some.number ∷ []) c.requires.are (rw c.lane.ensures at c.in-Some.ensures)))
+    ∙ run_delivers meaning graph c.args.task 0 row c.args.first.now (c.in-Some.number ∷ []) c.requires.are c.in-Some.ensures))
 
 pub returns-in_default : goal.returns-in_default
 returns-in_default g c =
@@ -24,4 +24,4 @@ returns-in_default g c =
     sym (append-nil c.args.puts.now.items)
     ∙ ap (λ l. c.args.puts.now.items ++ l)
     (sym (ap (λ p. deliveries_of_one meaning graph c.args.task (p, row)) port
-    ∙ run_delivers meaning graph c.args.task 0 row c.args.first.now [] c.requires.are (rw c.lane.ensures at c.in_default.ensures)))
+    ∙ run_delivers meaning graph c.args.task 0 row c.args.first.now [] c.requires.are c.in_default.ensures))

@@ -12,7 +12,7 @@ loop-place-preserved g c =
     let row = c.args.row in
     let place = c.loop-place.place in
     let numbers = c.outlets-numbers.result.now in
-    let test = meets (takes c.lane-lane.result) c.args.graph.now.channels in
+    let test = meets (takes (g.O.Operator.meaning.lane row)) c.args.graph.now.channels in
     let run = slice_index c.runs-runs.result.now place in
     let long = ap length c.outlets-numbers.ensures in
     let is = c.runs-runs.ensures.each place (omega (arith, long, c.loop-place-test.true)) in
@@ -43,7 +43,7 @@ returns-in_ok-push-2 g c =
     c.in_ok-push-2.ensures.items
     ∙ ap (λ o. c.loop-place.puts.items ++ delivered_last row o) (sym c.in-Some-last-2.is)
     ∙ delivered g.O.Operator.meaning c.args.graph.now c.args.task c.args.port row c.outlets-numbers.result.now c.loop-place.place c.args.puts.now.items c.loop-place.puts.items c.loop-place.last
-    c.outlets-numbers.ensures (omega arith) (rw c.lane-lane.ensures at c.loop-place.invariant.1)
+    c.outlets-numbers.ensures (omega arith) c.loop-place.invariant.1
 
 pub returns-in_default-last-2 : goal.returns-in_default-last-2
 returns-in_default-last-2 g c =
@@ -51,4 +51,4 @@ returns-in_default-last-2 g c =
     sym (append-nil c.loop-place.puts.items)
     ∙ ap (λ o. c.loop-place.puts.items ++ delivered_last row o) (sym c.in_default-last-2.is)
     ∙ delivered g.O.Operator.meaning c.args.graph.now c.args.task c.args.port row c.outlets-numbers.result.now c.loop-place.place c.args.puts.now.items c.loop-place.puts.items c.loop-place.last
-    c.outlets-numbers.ensures (omega arith) (rw c.lane-lane.ensures at c.loop-place.invariant.1)
+    c.outlets-numbers.ensures (omega arith) c.loop-place.invariant.1
