@@ -11,6 +11,9 @@ use std::alloc::Global;
 use std::collections::VecDeque;
 use std::marker::Model;
 
+/// Room is taken for so many items at once, at least: few are sent one by one.
+const ROOM_AT_ONCE: usize = 8;
+
 /// What was sent to a task and not yet taken, in the order of sending.
 #[derive(Drop)]
 pub struct Channel<R: Drop> {
@@ -66,7 +69,8 @@ impl<R: Drop> Channel<R> {
         self.len() == 0
     }
 
-    /// Takes room for so many items, those included for which there is room already.
+    /// Takes room for so many items, those included for which there is room already, and for some
+    /// more.
     pub fn reserve(&mut self, count: usize) -> Result<(), NoMemory>
         ensures room { OnOk result (count ≤ self.new.room) }
         ensures refused { OnErr result (self.old.room < count) }
@@ -76,16 +80,18 @@ impl<R: Drop> Channel<R> {
         if count <= self.room {
             return Ok(());
         }
-        if self.len().checked_add(count).is_none() {
+        let room = count.max(ROOM_AT_ONCE);
+        if self.len().checked_add(room).is_none() {
             return Err(NoMemory);
         }
-        self.records.reserve(count)?;
-        self.barriers.reserve(count)?;
-        self.room = count;
+        self.records.reserve(room)?;
+        self.barriers.reserve(room)?;
+        self.room = room;
         Ok(())
     }
 
     /// Sends an item. It takes no memory.
+    #[inline(always)]
     pub fn push_reserved(&mut self, item: Item<R>)
         requires { 0 < self.old.room }
         ensures { self.new ≡ record self.old {

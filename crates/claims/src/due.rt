@@ -227,6 +227,7 @@ pub(crate) fn operand_channel<O: Operator>(
 }
 
 /// The channel from which a sink is to take a record, where that work is due.
+#[inline(always)]
 pub(crate) fn row_channel<O: Operator>(
     attempt: &Attempt<O>,
     graph: &Graph,

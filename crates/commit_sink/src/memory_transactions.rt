@@ -316,6 +316,7 @@ impl MemoryTransactions {
     }
 
     /// Puts a record last in an open transaction. It is not copied.
+    #[inline(always)]
     pub(crate) fn append_bytes(
         &mut self,
         transaction: u64,

@@ -145,6 +145,7 @@ pub(crate) fn record_at<R: Drop>(channels: &[Channel<R>], channel: u32, index: u
 }
 
 /// Takes the first item of a channel, if there is one. Its room is left.
+#[inline(always)]
 pub(crate) fn take_head<R: Drop>(channels: &mut [Channel<R>], channel: u32) -> Option<Item<R>>
     ensures taken { result ≡ slice_get (items_at (contents_items channels.old) channel) 0 }
     ensures rest { contents_items channels.new

@@ -23,6 +23,10 @@ enum Stage {
 /// So many steps of records come between two pieces of a copy that would be late.
 const MOST_STEPS: u64 = 128;
 
+/// So many pieces are written with no step of records between, where copies are not late: a small
+/// map is frozen for no claim.
+const PIECES_AT_ONCE: u64 = 64;
+
 /// A copy is late where it has a piece or more for so many records between two checkpoints.
 const RECORDS_A_PIECE: u64 = 12;
 
@@ -139,7 +143,9 @@ impl Round {
     /// Work on the first copy has gone on, and more is left of it.
     pub(crate) fn has_more(&mut self) {
         self.pieces = self.pieces.saturating_add(1);
-        self.steps_left = self.steps;
+        if self.is_late() || self.pieces >= PIECES_AT_ONCE {
+            self.steps_left = self.steps;
+        }
     }
 
     /// Whether a record has its turn before what is needed next. It has had one where it is asked.
