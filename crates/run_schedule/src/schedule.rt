@@ -73,14 +73,14 @@ impl Node {
 const TOLD_TOGETHER: usize = 8;
 
 /// A source sends so many records in one turn, at most.
-const MOST_READS: u32 = 8;
+const MOST_READS: u32 = 32;
 
 /// Where claims are of one record, so many are read ahead of the claims that are held, until a task
 /// that sources send to has been found without a record.
 const MOST_AHEAD: u32 = 64;
 
 /// A sink takes so many records at a time, at most.
-const MOST_OF_A_SINK: u32 = 64;
+const MOST_OF_A_SINK: u32 = 256;
 
 /// What may have something, so that the next step is found in the same time whatever the number of
 /// tasks and channels. The task that stands furthest downstream comes first, so channels stay
