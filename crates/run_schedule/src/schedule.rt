@@ -177,10 +177,10 @@ impl Schedule {
         }
     }
 
-    /// How many records a source sends in one turn, at most: one while a copy is written that has
-    /// time, so that its pieces come soon.
+    /// How many records a source sends in one turn, at most: one between two pieces of a copy that
+    /// has time, so that its pieces come soon.
     pub(crate) fn reads(&self) -> u32 {
-        if self.round.is_pending() && !self.round.is_late() {
+        if self.round.next().is_some() && !self.round.is_late() {
             1
         } else {
             MOST_READS
