@@ -56,8 +56,28 @@ fn push_row<R: Drop>(partitions: &mut Lists<R>, partition: usize, row: R) -> Res
     }
 }
 
+/// Puts records last in a partition, all of them or none.
+#[tactic(auto, using(crate::proofs::Appending::pushed_lists, crate::proofs::Appending::same_lists))]
+fn push_rows<R: Drop>(
+    partitions: &mut Lists<R>,
+    partition: usize,
+    mut rows: Vec<R>,
+) -> Result<(), SourceFault>
+    requires there { partition < length partitions.old.items }
+    ensures ok { OnOk result (lists_of partitions.new.items
+        ≡ slice_set (lists_of partitions.old.items) partition
+        (records_at (lists_of partitions.old.items) partition ++ rows.items)) }
+    ensures err { OnErr result (lists_of partitions.new.items ≡ lists_of partitions.old.items) }
+    ensures memory { IfErr result (λ f. f ≡ SourceFault.Memory) }
+{
+    match partitions[partition].append(&mut rows) {
+        Ok(()) => Ok(()),
+        Err(_) => Err(SourceFault::Memory),
+    }
+}
+
 impl<R: Codec> Rows<R> {
-    ghost use Rattle.std.specs.Prelude.{◌≡◌, ◌<◌, ◌≤◌, [], ◌∷◌, ◌++◌, Some, length, replicate, slice_get, slice_set, OnOk, OnErr, IfOk, IfErr, IfSome, IfNone};
+    ghost use Rattle.std.specs.Prelude.{◌≡◌, ◌<◌, ◌≤◌, [], ◌∷◌, ◌++◌, Some, length, replicate, slice_get, slice_set, All, OnOk, OnErr, IfOk, IfErr, IfSome, IfNone};
     ghost use Rattle.abs_codec.specs.Spelling.{Fits};
     ghost use Rattle.source_log.specs.Partitions.{AllFit, records_at};
 
@@ -117,5 +137,16 @@ impl<R: Codec> Rows<R> {
         ensures memory { IfErr result (λ f. f ≡ SourceFault.Memory) }
     {
         push_row(&mut self.partitions, partition, row)
+    }
+    /// Puts records last in a partition, all of them or none.
+    pub(crate) fn push_all(&mut self, partition: usize, rows: Vec<R>) -> Result<(), SourceFault>
+        requires partition { partition < length self.old }
+        requires fits { All (Fits R.HasSpelling R.spelling) rows.items }
+        ensures ok { OnOk result (self.new ≡ slice_set self.old partition
+            (records_at self.old partition ++ rows.items)) }
+        ensures err { OnErr result (self.new ≡ self.old) }
+        ensures memory { IfErr result (λ f. f ≡ SourceFault.Memory) }
+    {
+        push_rows(&mut self.partitions, partition, rows)
     }
 }
