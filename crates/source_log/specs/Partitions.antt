@@ -1,5 +1,5 @@
 -- Partitions, as the list of the records of each.
-use Rattle.std.specs.Prelude.{◌≡◌, ◌⊎◌, ◌<◌, ◌≤◌, ◌-◌, ◌^◌, ℕ, nat_lt, if◌then◌else◌, List, [], ◌∷◌, ◌++◌, length, Option, Some, None, Result, Ok, Err, slice_get, slice_set, unwrap_or}
+use Rattle.std.specs.Prelude.{◌≡◌, ◌⊎◌, ◌<◌, ◌≤◌, ◌+◌, ◌-◌, ◌^◌, ℕ, nat_lt, if◌then◌else◌, List, [], ◌∷◌, ◌++◌, length, Option, Some, None, Result, Ok, Err, slice_get, slice_set, unwrap_or}
 use Rattle.source_log.specs.declared.partitions.SourceFault.{SourceFault}
 use Rattle.source_log.specs.declared.partitions.SourceFault.TheVariants.{NoSuchPartition, Fault, Full, Memory}
 
@@ -22,6 +22,14 @@ append_refusal partitions p =
 
 abbrev pub appended : {R : Type 0} → List (List R) → ℕ → R → List (List R)
 appended partitions p row = slice_set partitions p (records_at partitions p ++ row ∷ [])
+
+-- where so many records are put last
+abbrev pub append_all_refusal : {R : Type 0} → List (List R) → ℕ → ℕ → Option SourceFault
+append_all_refusal partitions p count =
+    if nat_lt p (length partitions) then (if nat_lt (length (records_at partitions p) + count) (2 ^ 32) then None else Some Full) else Some NoSuchPartition
+
+abbrev pub appended_all : {R : Type 0} → List (List R) → ℕ → List R → List (List R)
+appended_all partitions p rows = slice_set partitions p (records_at partitions p ++ rows)
 
 -- How a call ends, of which `refusal` says why it is refused and `after` what it leaves at Ok.
 -- A fault is counted, and leaves what was there or what Ok leaves. Every other refusal changes nothing.

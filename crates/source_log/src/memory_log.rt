@@ -21,7 +21,9 @@ pub struct MemoryLog<R: Codec> {
 }
 
 impl<R: Codec> MemoryLog<R> {
-    ghost use Rattle.std.specs.Prelude.{◌≡◌, [], replicate, IfOk};
+    ghost use Rattle.std.specs.Prelude.{◌≡◌, ◌⊎◌, [], None, Some, length, replicate, All, IfOk, IfErr, OnOk, OnErr};
+    ghost use Rattle.abs_codec.specs.Spelling.{Fits};
+    ghost use Rattle.source_log.specs.Partitions.{append_all_refusal, appended_all};
 
     /// Partitions with no records.
     pub fn new(alloc: Global, count: u32) -> Result<MemoryLog<R>, NoMemory>
@@ -30,6 +32,33 @@ impl<R: Codec> MemoryLog<R> {
     {
         let rows = Rows::new(alloc, count)?;
         Ok(MemoryLog { rows })
+    }
+
+    /// Puts these records last in a partition, all of them or none.
+    pub fn append_all(&mut self, partition: u32, rows: Vec<R>) -> Result<(), SourceFault>
+        requires { All (Fits R.HasSpelling R.spelling) rows.items }
+        ensures ok { OnOk result (⟦<MemoryLog<R> as Partitions>⟧.records self.new
+            ≡ appended_all (⟦<MemoryLog<R> as Partitions>⟧.records self.old) partition
+            rows.items) }
+        ensures err { OnErr result (⟦<MemoryLog<R> as Partitions>⟧.records self.new
+            ≡ ⟦<MemoryLog<R> as Partitions>⟧.records self.old) }
+        ensures taken { IfOk result (λ _. append_all_refusal
+            (⟦<MemoryLog<R> as Partitions>⟧.records self.old) partition (length rows.items)
+            ≡ None) }
+        // Where they might be taken, memory is refused.
+        ensures refused { IfErr result (λ f. (append_all_refusal
+            (⟦<MemoryLog<R> as Partitions>⟧.records self.old) partition (length rows.items)
+            ≡ Some f) ⊎ ((append_all_refusal
+            (⟦<MemoryLog<R> as Partitions>⟧.records self.old) partition (length rows.items)
+            ≡ None) × (f ≡ SourceFault.Memory))) }
+    {
+        let Some(len) = self.rows.len(partition as usize) else {
+            return Err(SourceFault::NoSuchPartition);
+        };
+        if rows.len() > MOST_RECORDS - len {
+            return Err(SourceFault::Full);
+        }
+        self.rows.push_all(partition as usize, rows)
     }
 }
 
