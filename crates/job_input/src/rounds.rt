@@ -21,7 +21,7 @@ use std::thread::Threads;
 
 /// So many bytes of a file are read before their rows are put, and no more than a line and a
 /// buffer beside them.
-const ROUND: usize = 1_048_576;
+const ROUND: usize = 4_194_304;
 
 /// What reads the row of a line.
 #[derive(Clone, Copy)]
@@ -47,20 +47,6 @@ impl LineReader for RowReader {
     }
 }
 
-/// Puts these rows last in the partition.
-fn append_rows(log: &mut MemoryLog<Row>, partition: u32, rows: Vec<Row>) -> Result<(), LineFault>
-    requires { All (Fits RowIsSpelled row_spelling) rows.items }
-    ensures puts { PutsRows partition (⟦<MemoryLog<Row> as Partitions>⟧.records log.old)
-        (⟦<MemoryLog<Row> as Partitions>⟧.records log.new) }
-    ensures rows { OnOk result (⟦<MemoryLog<Row> as Partitions>⟧.records log.new
-        ≡ with_rows (⟦<MemoryLog<Row> as Partitions>⟧.records log.old) partition rows.items) }
-{
-    for row in rows {
-        log.append(partition, row)?;
-    }
-    Ok(())
-}
-
 /// Puts the rows of these runs last in the partition, one run behind another.
 fn append_runs(
     log: &mut MemoryLog<Row>,
@@ -75,7 +61,7 @@ fn append_runs(
         (in_runs runs.items)) }
 {
     for run in runs {
-        append_rows(log, partition, run)?;
+        log.append_all(partition, run)?;
     }
     Ok(())
 }

@@ -4,7 +4,7 @@ use Rattle.abs_codec.specs.Spelling.{Fits}
 use Rattle.line_parts.specs.Lines.{in_runs}
 use Rattle.operators.specs.RowSpelling.{RowIsSpelled, row_spelling}
 use Rattle.job_input.specs.Lines.{with_rows}
-use Rattle.job_input.proofs.Putting.{no_rows, more_rows, puts_more}
+use Rattle.job_input.proofs.Putting.{no_rows, more_rows}
 use Rattle.job_input.proofs.Runs.{all_before, all_behind}
 use Rattle.job_input.proofs.rounds.append_runs.Goals as goal
 
@@ -12,8 +12,8 @@ pub loop-run-init : goal.loop-run-init
 loop-run-init c =
     (sym (no_rows c.args.log.now.rows c.args.partition), subst (λ runs. All (Fits RowIsSpelled row_spelling) (in_runs runs)) (sym c.into_iter-run-iterator.ensures.into_iter_gives.0) c.requires)
 
-pub append_rows-requires : goal.append_rows-requires
-append_rows-requires c =
+pub append_all-requires : goal.append_all-requires
+append_all-requires c =
     let (put, fit) = c.loop-run.invariant in
     all_before (Fits RowIsSpelled row_spelling) c.in-Some.run'.items _ (subst (λ runs. All (Fits RowIsSpelled row_spelling) (in_runs runs)) c.in-Some.ensures.steps.0 fit)
 
@@ -24,11 +24,11 @@ loop-run-preserved c =
     let old = c.args.log.now.rows in
     let p = c.args.partition in
     let ran = c.loop-run.yielded in (
-      c.in_ok-append_rows.ensures.rows ∙ ap (λ ps. with_rows ps p run.items) put ∙ more_rows old p (in_runs ran) run.items ∙ ap (with_rows old p) (flat_map_more (λ one. one.items) [] ran run),
+      c.in_ok-append_all.ensures.ok ∙ ap (λ ps. with_rows ps p run.items) put ∙ more_rows old p (in_runs ran) run.items ∙ ap (with_rows old p) (flat_map_more (λ one. one.items) [] ran run),
       all_behind (Fits RowIsSpelled row_spelling) run.items _ (subst (λ runs. All (Fits RowIsSpelled row_spelling) (in_runs runs)) c.in-Some.ensures.steps.0 fit),
     )
 
-pub returns-in_err-append_rows-clause-puts : goal.returns-in_err-append_rows-clause-puts
-returns-in_err-append_rows-clause-puts c =
+pub returns-in_err-append_all-clause-puts : goal.returns-in_err-append_all-clause-puts
+returns-in_err-append_all-clause-puts c =
     let (put, fit) = c.loop-run.invariant in
-    puts_more c.args.partition c.args.log.now.rows c.loop-run.log.rows _ (in_runs c.loop-run.yielded, put) c.append_rows.ensures.puts
+    (in_runs c.loop-run.yielded, c.in_err-append_all.ensures.err ∙ put)
