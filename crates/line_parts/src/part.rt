@@ -9,6 +9,10 @@ use crate::reader::LineReader;
 use memchr::memchr;
 use std::alloc::{AllocFailed, Global};
 
+/// A line counts as no shorter where room is taken, so that a first line that is blank does not ask
+/// for an item a byte.
+const SHORT_LINE: usize = 16;
+
 /// Why a text is not read to its end.
 #[derive(Debug, Drop)]
 pub enum PartFault<E> {
@@ -113,6 +117,14 @@ fn read_line<L: LineReader>(
     Ok(())
 }
 
+/// Takes room for about as many items as the text has lines, if they are as long as its first. With
+/// no memory for it, the items take their room one by one.
+fn take_room<X>(text: &[u8], items: &mut Vec<X>)
+    ensures { items.new.items ≡ items.old.items }
+{
+    let _ = items.reserve(text.len() / line_len(text).max(SHORT_LINE));
+}
+
 /// What the lines of a text have, in one run.
 fn read_run<L: LineReader>(alloc: Global, reader: &L, text: &[u8]) -> Run<L::Item, L::Fault>
     ensures reads { ReadsLines (L.HasItem reader.now) text.now result.lines result.items.items
@@ -120,6 +132,7 @@ fn read_run<L: LineReader>(alloc: Global, reader: &L, text: &[u8]) -> Run<L::Ite
     ensures bound { result.lines ≤ length text.now }
 {
     let mut items = Vec::new(alloc);
+    take_room(text, &mut items);
     let mut lines = 0;
     let mut rest = text;
     while !rest.is_empty() {
