@@ -1,3 +1,4 @@
 pub mod Compared
+pub mod Exchanged
 pub mod Laid
 pub mod Several

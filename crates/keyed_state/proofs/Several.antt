@@ -43,6 +43,15 @@ module _ {K S : Type 0} where
       by false p seen rest =
           ap (λ (b : Bool). cond b ((e.0, former) ∷ set_value test es state) (e ∷ set_value test (set_value test es state) former)) p ∙ ap (λ (l : List (K × S)). e ∷ l) (rest seen)
 
+  -- a state that is replaced by itself
+  pub same_set : (test : K → Bool) (es : List (K × S)) (state : S) → lookup test es ≡ Some state → set_value test es state ≡ es
+  same_set test [] state found = refl
+  same_set test (e ∷ es) state found = by (test e.0) found (same_set test es state)
+    where
+      by : (b : Bool) → cond b (Some e.1) (lookup test es) ≡ Some state → (lookup test es ≡ Some state → set_value test es state ≡ es) → cond b ((e.0, state) ∷ es) (e ∷ set_value test es state) ≡ e ∷ es
+      by true seen rest = ap (λ (o : Option S). (e.0, unwrap_or o state) ∷ es) (sym seen)
+      by false seen rest = ap (λ (l : List (K × S)). e ∷ l) (rest seen)
+
   -- there is no state to replace
   pub none_set : (test : K → Bool) (es : List (K × S)) (state : S) → lookup test es ≡ None → set_value test es state ≡ es
   none_set test [] state none = refl

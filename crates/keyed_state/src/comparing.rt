@@ -1,21 +1,24 @@
 //! Several entries that are put into a map at once where each key has the state that is expected of
 //! it, or none of them.
 
-ghost use Rattle.std.specs.Prelude.{◌≡◌, ◌↔◌, Err, IsTrue, count_by, is_none, OnOk, OnErr, ◌++◌, ◌∷◌, [], List, Option};
+ghost use Rattle.std.specs.Prelude.{◌≡◌, ◌↔◌, Err, IsTrue, IfErr, count_by, is_none, option_map, slice_get, take, OnOk, OnErr};
 ghost use Rattle.std.specs.List.Sorted.{IsStrictlySortedBy};
 ghost use Rattle.std.specs.Map.{keys_of};
+ghost use Rattle.std.specs.BTreeMap.{insert_entry};
 ghost use Rattle.std.specs.Option.{option_copied};
+ghost use Rattle.abs_codec.specs.Entries.{value_at};
 ghost use Rattle.abs_codec.specs.Same.{EqualIsSame};
 ghost use Rattle.keyed_state.specs.Comparing.{HaveStates};
 ghost use Rattle.keyed_state.specs.Overlay.{put_over};
-ghost use Rattle.keyed_state.specs.Putting.{undone};
+ghost use Rattle.keyed_state.specs.Putting.{note_of, notes_of, undone};
 ghost use Rattle.keyed_state.specs.declared.comparing.SetFault.TheVariants as SetFault;
 
 use crate::lending::Lendable;
-use crate::putting::{MANY, put_one, taken, undo};
+use crate::putting::{MANY, put_back, taken};
 use abs_codec::{Codec, Map, NoMemory};
 use std::alloc::{AllocError, Global};
 use std::collections::BTreeMap;
+use std::mem::swap;
 
 /// Why states are not set.
 #[derive(Clone, Copy, Debug, PartialEq, Eq)]
@@ -69,62 +72,119 @@ pub(crate) fn count_none<S>(states: &[Option<S>]) -> usize
     count
 }
 
-/// The state that was there before at the key that is noted last, `None` where none was.
-fn last_noted<K, S>(notes: &[(K, Option<S>)]) -> Option<&S>
-    ensures { (note : K × Option S) (others : List (K × Option S))
-        → notes.now ≡ others ++ note ∷ [] → option_copied result ≡ note.1 }
-{
-    notes.last()?.1.as_ref()
-}
-
-/// Gives each of these keys, which rise, its state, and notes what was there before. At an `Err`
-/// that is noted of those that were given theirs.
-#[inline(never)]
-fn put_expected<K: Codec + Ord, S: Eq + Drop>(
+/// Gives an entry's key its state where it has the expected one, which the entry takes for its own.
+/// A key that has none, as is expected of it, is given a copy.
+fn exchange_one<K: Codec + Ord, S: Codec + Eq>(
     map: &mut BTreeMap<K, S>,
-    notes: &mut Vec<(K, Option<S>)>,
-    entries: Vec<(K, S)>,
-    expected: &[Option<S>],
+    entry: &mut (K, S),
+    expected: Option<&S>,
 ) -> Result<(), SetFault>
-    requires exact { EqualIsSame S.eq }
-    requires rising { IsStrictlySortedBy K.Ord.cmp (keys_of entries.items) }
-    ensures ok { OnOk result (map.new.entries
-        ≡ put_over K.Ord.cmp map.old.entries entries.items) }
-    ensures expected { OnOk result (HaveStates K.Ord.cmp map.old.entries
-        (keys_of entries.items) expected.now) }
+    requires exact { EqualIsSame S.Eq.eq }
+    ensures put { OnOk result (map.new.entries
+        ≡ insert_entry K.Ord.cmp map.old.entries entry.old.0 entry.old.1) }
+    ensures expected { OnOk result (value_at K.Ord.cmp map.old.entries entry.old.0
+        ≡ option_copied expected.entry) }
     ensures changed { result ≡ Err SetFault.Changed
-        → ¬ HaveStates K.Ord.cmp map.old.entries (keys_of entries.items) expected.now }
-    ensures undone { undone K.Ord.cmp notes.new.items map.new.entries
-        ≡ undone K.Ord.cmp notes.old.items map.old.entries }
+        → ¬ (value_at K.Ord.cmp map.old.entries entry.old.0 ≡ option_copied expected.entry) }
+    ensures noted { OnOk result (note_of entry.new (option_copied expected.entry)
+        ≡ (entry.old.0, option_copied expected.entry)) }
+    ensures err { OnErr result (map.new.entries ≡ map.old.entries) }
+    // The keys rise.
+    ensures ordered { IsStrictlySortedBy K.Ord.cmp (keys_of map.old.entries) }
 {
-    notes.reserve(entries.len())?;
-    let mut left = expected;
-    for (key, state) in entries {
-        let Some((first, others)) = left.split_first() else {
-            return Err(SetFault::Changed);
-        };
-        put_one(map, notes, key, state)?;
-        if !is_expected(last_noted(notes), first.as_ref()) {
+    let (key, state) = entry;
+    let Some(seen) = map.get_mut(&*key) else {
+        if expected.is_some() {
             return Err(SetFault::Changed);
         }
-        left = others;
+        let (own, first) = (key.copied()?, state.copied()?);
+        return match map.insert(own, first) {
+            Ok(_) => Ok(()),
+            Err(_) => Err(SetFault::Memory),
+        };
+    };
+    if !is_expected(Some(&*seen), expected) {
+        return Err(SetFault::Changed);
     }
-    if left.is_empty() {
-        Ok(())
-    } else {
-        Err(SetFault::Changed)
+    swap(seen, state);
+    Ok(())
+}
+
+/// What is expected of the entry at a place, if something is said of it.
+fn expected_at<S>(expected: &[Option<S>], index: usize) -> Option<&Option<S>>
+    ensures { option_copied result ≡ slice_get expected.now index }
+{
+    expected.get(index)
+}
+
+/// Exchanges each of these entries, whose keys rise, as [`exchange_one`] does. At an `Err`, how many
+/// were exchanged, and why no more.
+#[inline(never)]
+fn exchange_each<K: Codec + Ord, S: Codec + Eq>(
+    map: &mut BTreeMap<K, S>,
+    entries: &mut [(K, S)],
+    expected: &[Option<S>],
+) -> Result<(), (usize, SetFault)>
+    requires exact { EqualIsSame S.Eq.eq }
+    requires rising { IsStrictlySortedBy K.Ord.cmp (keys_of entries.old) }
+    ensures ok { OnOk result (map.new.entries
+        ≡ put_over K.Ord.cmp map.old.entries entries.old) }
+    ensures expected { OnOk result (HaveStates K.Ord.cmp map.old.entries
+        (keys_of entries.old) expected.now) }
+    ensures changed { IfErr result (λ e. e.1 ≡ SetFault.Changed
+        → ¬ HaveStates K.Ord.cmp map.old.entries (keys_of entries.old) expected.now) }
+    ensures undone { IfErr result (λ e. undone K.Ord.cmp (notes_of (take e.0 entries.new)
+        expected.now) map.new.entries ≡ map.old.entries) }
+{
+    for index in 0..entries.len() {
+        let Some(first) = expected_at(expected, index) else {
+            return Err((index, SetFault::Changed));
+        };
+        if let Err(fault) = exchange_one(map, &mut entries[index], first.as_ref()) {
+            return Err((index, fault));
+        }
+    }
+    if entries.len() < expected.len() {
+        return Err((entries.len(), SetFault::Changed));
+    }
+    Ok(())
+}
+
+/// The state that was there before, where one was expected.
+fn former_of<S: Drop>(state: S, expected: &Option<S>) -> Option<S>
+    ensures { result ≡ option_map (λ _. state) expected.now }
+{
+    match expected {
+        Some(_) => Some(state),
+        None => None,
+    }
+}
+
+/// Puts back what these entries, which were exchanged, took for their own, the last first. It takes
+/// no memory.
+fn exchange_back<K: Ord + Drop, S: Drop>(
+    map: &mut BTreeMap<K, S>,
+    mut entries: Vec<(K, S)>,
+    expected: &[Option<S>],
+)
+    ensures { map.new.entries
+        ≡ undone K.cmp (notes_of entries.items expected.now) map.old.entries }
+{
+    while let Some((key, state)) = entries.pop() {
+        if let Some(first) = expected_at(expected, entries.len()) {
+            put_back(map, &key, former_of(state, first));
+        }
     }
 }
 
 /// Gives each of these keys, which rise, its state, or none of them where memory is refused or a
 /// state is not the expected one.
-fn exchange_all<K: Codec + Ord, S: Eq + Drop>(
-    alloc: Global,
+fn exchange_all<K: Codec + Ord, S: Codec + Eq>(
     map: &mut BTreeMap<K, S>,
-    entries: Vec<(K, S)>,
+    mut entries: Vec<(K, S)>,
     expected: &[Option<S>],
 ) -> Result<(), SetFault>
-    requires exact { EqualIsSame S.eq }
+    requires exact { EqualIsSame S.Eq.eq }
     requires rising { IsStrictlySortedBy K.Ord.cmp (keys_of entries.items) }
     ensures ok { OnOk result (map.new.entries
         ≡ put_over K.Ord.cmp map.old.entries entries.items) }
@@ -134,12 +194,12 @@ fn exchange_all<K: Codec + Ord, S: Eq + Drop>(
         → ¬ HaveStates K.Ord.cmp map.old.entries (keys_of entries.items) expected.now }
     ensures err { OnErr result (map.new.entries ≡ map.old.entries) }
 {
-    let mut notes = Vec::new(alloc);
-    let done = put_expected(map, &mut notes, entries, expected);
-    if done.is_err() {
-        undo(map, notes);
+    if let Err((count, fault)) = exchange_each(map, &mut entries, expected) {
+        entries.truncate(count);
+        exchange_back(map, entries, expected);
+        return Err(fault);
     }
-    done
+    Ok(())
 }
 
 /// Gives each of these keys, which rise, its state, or none of them where memory is refused or a
@@ -164,7 +224,7 @@ pub(crate) fn exchange_all_in<K: Codec + Ord, S: Codec + Eq>(
         return Err(SetFault::Memory);
     };
     let mut tree = own.into_btree_map();
-    let done = exchange_all(alloc, &mut tree, entries, expected);
+    let done = exchange_all(&mut tree, entries, expected);
     let own = Lendable::new(Map::from_btree_map(alloc, tree));
     *map = if is_many { own.ready(alloc) } else { own };
     done

@@ -16,7 +16,7 @@ use std::mem::replace;
 
 /// Gives a key its state, and notes what was there before. The key is looked up once where it is
 /// there.
-pub(crate) fn put_one<K: Codec + Ord, S: Drop>(
+fn put_one<K: Codec + Ord, S: Drop>(
     map: &mut BTreeMap<K, S>,
     notes: &mut Vec<(K, Option<S>)>,
     key: K,
@@ -65,7 +65,7 @@ fn put_noting<K: Codec + Ord, S: Drop>(
 }
 
 /// Puts back what was there before at a key. It takes no memory.
-fn put_back<K: Ord + Drop, S: Drop>(map: &mut BTreeMap<K, S>, key: &K, former: Option<S>)
+pub(crate) fn put_back<K: Ord + Drop, S: Drop>(map: &mut BTreeMap<K, S>, key: &K, former: Option<S>)
     ensures { map.new.entries ≡ with_former K.cmp map.old.entries key.now former }
 {
     let Some(state) = former else {
@@ -78,7 +78,7 @@ fn put_back<K: Ord + Drop, S: Drop>(map: &mut BTreeMap<K, S>, key: &K, former: O
 }
 
 /// Puts back what was there before at each of these keys, the last first. It takes no memory.
-pub(crate) fn undo<K: Ord + Drop, S: Drop>(map: &mut BTreeMap<K, S>, mut notes: Vec<(K, Option<S>)>)
+fn undo<K: Ord + Drop, S: Drop>(map: &mut BTreeMap<K, S>, mut notes: Vec<(K, Option<S>)>)
     ensures { map.new.entries ≡ undone K.cmp notes.items map.old.entries }
 {
     while let Some((key, former)) = notes.pop() {
