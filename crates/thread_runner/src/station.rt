@@ -373,13 +373,13 @@ impl<
         ensures total { self.new.total ≡ self.old.total }
         ensures step { Preserves ⟦<O as Rules>⟧.all self.old.core.engine self.new.core.engine }
     {
-        for _ in 1..TURNS_A_HOLD {
+        for _ in 0..TURNS_A_HOLD {
             match self.choose(alloc, worker) {
                 Next::Again => {}
                 next => return next,
             }
         }
-        self.choose(alloc, worker)
+        Next::Again
     }
 
     /// What came of a task's job of so many records.
