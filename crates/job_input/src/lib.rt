@@ -6,7 +6,7 @@
 //! source task of the graph that the job expands to.
 //!
 //! Inputs are read line by line through one buffer that is used again, or by several threads in
-//! rounds of four mebibytes, so that memory is bounded whatever the lines are. What is proved of
+//! rounds of one mebibyte, so that memory is bounded whatever the lines are. What is proved of
 //! both is the same.
 #![tactic(auto)]
 

@@ -21,7 +21,7 @@ use std::thread::Threads;
 
 /// So many bytes of a file are read before their rows are put, and no more than a line and a
 /// buffer beside them.
-const ROUND: usize = 4_194_304;
+const ROUND: usize = 1_048_576;
 
 /// What reads the row of a line.
 #[derive(Clone, Copy)]
