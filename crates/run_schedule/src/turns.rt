@@ -16,6 +16,8 @@ pub struct Turns {
     left: u64,
     /// How many restarts are left.
     restarts: u64,
+    /// How many workers are awake: at least one, while the run lasts.
+    awake: u64,
     /// How the run has ended, once it has.
     end: Option<Result<(), RunFault>>,
 }
@@ -27,19 +29,21 @@ impl Turns {
             schedule,
             left: 0,
             restarts: 0,
+            awake: 0,
             end: None,
         }
     }
 
-    /// A run of so many turns and restarts begins. A checkpoint is triggered after every so many
-    /// records that were worked, or at the end alone where that is 0. A claim takes so many records
-    /// at most.
-    pub fn begin(&mut self, every: u64, turns: u64, restarts: u64, batch: u32)
+    /// A run of so many turns and restarts begins, by so many workers, all of whom are awake. A
+    /// checkpoint is triggered after every so many records that were worked, or at the end alone
+    /// where that is 0. A claim takes so many records at most.
+    pub fn begin(&mut self, workers: u64, every: u64, turns: u64, restarts: u64, batch: u32)
         requires { 1 ≤ batch }
     {
         self.schedule.begin(every, batch);
         self.left = turns;
         self.restarts = restarts;
+        self.awake = workers;
         self.end = None;
     }
 
@@ -87,6 +91,11 @@ impl Turns {
         self.schedule.useful(workers)
     }
 
+    /// How many turns are left.
+    pub fn left(&self) -> u64 {
+        self.left
+    }
+
     /// How the run has ended. Where its workers have left before it was over, its turns are spent.
     pub fn end(&mut self) -> Result<(), RunFault> {
         if let Some(end) = self.end {
@@ -102,6 +111,25 @@ impl Turns {
     /// The run ends by a refusal.
     fn stop(&mut self, fault: RunFault) {
         self.end = Some(Err(fault));
+    }
+
+    /// A worker wants to rest. Whether it may: where another one is awake.
+    pub fn rests(&mut self) -> bool {
+        if self.awake < 2 {
+            return false;
+        }
+        self.awake -= 1;
+        true
+    }
+
+    /// Whether the run is over.
+    pub fn is_over(&self) -> bool {
+        self.end.is_some()
+    }
+
+    /// A worker has rested.
+    pub fn wakes(&mut self) {
+        self.awake = self.awake.saturating_add(1);
     }
 
     /// Whether barriers of a pending checkpoint may stand at the heads of inputs.

@@ -70,14 +70,18 @@ impl<L: Ledger> Worker<L> {
         for _ in 0..turns {
             match self.take_turns(rt, alloc, station, worked.take()) {
                 Next::Over => return,
-                Next::Idle => self.patience.wait(rt),
-                Next::Again => self.patience.made_step(),
+                Next::Idle => self.idled(rt, station),
+                Next::Again => self.made(rt, station),
                 Next::Publish => {
                     let _ = station.lock(rt).publish();
-                    self.patience.made_step();
+                    self.made(rt, station);
                 }
                 Next::Run(batch) => {
                     worked = self.run_job(rt, alloc, station, turns, pause, batch);
+                    if self.patience.is_tired() {
+                        self.hand_in(&mut station.lock(rt), worked.take());
+                        self.rests(rt, station, true);
+                    }
                 }
             }
         }
@@ -92,7 +96,7 @@ impl<L: Ledger> Worker<L> {
         X: Transactions + Drop,
         P: Partitions<Record = O::Record> + Drop,
         W: Wait + Drop,
-        R: Wait,
+        R: Wait + Clock,
     >(
         &mut self,
         rt: &R,
@@ -101,8 +105,64 @@ impl<L: Ledger> Worker<L> {
         worked: Option<DoneBatch<O>>,
     ) -> Next<O> {
         let mut held = station.lock(rt);
+        self.patience.has_lock(rt);
         self.hand_in(&mut held, worked);
-        held.choose_some(alloc, self.number)
+        let (next, before, left) = held.choose_some(alloc, self.number);
+        drop(held);
+        self.patience.gave_lock(rt);
+        self.patience.took_turns(before, left);
+        next
+    }
+
+    /// A step was made. A worker that others can do without rests, where another one is awake.
+    fn made<
+        O: Operator,
+        S: SnapshotStore + Drop,
+        X: Transactions + Drop,
+        P: Partitions<Record = O::Record> + Drop,
+        W: Wait + Drop,
+        R: Wait + Clock,
+    >(&mut self, rt: &R, station: &Mutex<Station<O, S, X, P, L, W>>) {
+        self.patience.made_step();
+        let is_tired = self.patience.is_tired();
+        self.rests(rt, station, is_tired);
+    }
+
+    /// Nothing was to be done. The worker rests, or waits a little.
+    fn idled<
+        O: Operator,
+        S: SnapshotStore + Drop,
+        X: Transactions + Drop,
+        P: Partitions<Record = O::Record> + Drop,
+        W: Wait + Drop,
+        R: Wait + Clock,
+    >(&mut self, rt: &R, station: &Mutex<Station<O, S, X, P, L, W>>) {
+        let is_tired = self.patience.is_tired();
+        if !self.rests(rt, station, is_tired) {
+            self.patience.wait(rt);
+        }
+    }
+
+    /// A worker that is tired rests, where another one is awake. Whether it did.
+    fn rests<
+        O: Operator,
+        S: SnapshotStore + Drop,
+        X: Transactions + Drop,
+        P: Partitions<Record = O::Record> + Drop,
+        W: Wait + Drop,
+        R: Wait + Clock,
+    >(&mut self, rt: &R, station: &Mutex<Station<O, S, X, P, L, W>>, is_tired: bool) -> bool {
+        if !is_tired || !station.lock(rt).rests() {
+            return false;
+        }
+        for _ in 0..self.patience.rests() {
+            self.patience.rest(rt);
+            if is_seen_over(station) {
+                break;
+            }
+        }
+        station.lock(rt).wakes();
+        true
     }
 
     /// Runs a task's job with no lock held. What was done of it is `None` where the run ended while
@@ -114,7 +174,7 @@ impl<L: Ledger> Worker<L> {
         P: Partitions<Record = O::Record> + Drop,
         W: Wait + Drop,
         H: Pause,
-        R: Wait,
+        R: Wait + Clock,
     >(
         &mut self,
         rt: &R,
@@ -135,7 +195,7 @@ impl<L: Ledger> Worker<L> {
         }
         let done = batch.run(alloc);
         pause.after_run(attempt, serial);
-        self.patience.made_step();
+        self.patience.ran_job(rt);
         Some(done)
     }
 
@@ -156,6 +216,21 @@ impl<L: Ledger> Worker<L> {
             ..
         } = self;
         *finished += station.take_batch(share, batch);
+    }
+}
+
+/// Whether the run is over, as far as that is seen: it is not asked while a worker has the lock.
+fn is_seen_over<
+    O: Operator,
+    S: SnapshotStore + Drop,
+    X: Transactions + Drop,
+    P: Partitions<Record = O::Record> + Drop,
+    L: Ledger,
+    W: Wait + Drop,
+>(station: &Mutex<Station<O, S, X, P, L, W>>) -> bool {
+    match station.try_lock() {
+        Some(held) => held.is_over(),
+        None => false,
     }
 }
 
@@ -274,7 +349,9 @@ where
         station.lock(rt).give_up();
         return Err(RunFault::Memory);
     };
-    station.lock(rt).begin(every, turns, restarts, batch);
+    station
+        .lock(rt)
+        .begin(workers, every, turns, restarts, batch);
     for _ in 0..workers {
         let number = crew.len() as u32;
         crew.push_reserved(Worker::new(number, all.split_off(1, 0)));

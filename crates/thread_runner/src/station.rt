@@ -335,12 +335,21 @@ impl<
         book.audit(share);
     }
 
-    /// A run of so many turns and restarts begins. A claim takes so many records at most.
-    pub(crate) fn begin(&mut self, every: u64, turns: u64, restarts: u64, batch: u32)
+    /// A run of so many turns and restarts begins, by so many workers. A claim takes so many
+    /// records at most.
+    pub(crate) fn begin(
+        &mut self,
+        workers: usize,
+        every: u64,
+        turns: u64,
+        restarts: u64,
+        batch: u32,
+    )
         requires { 1 ≤ batch }
         ensures { self.new ≡ self.old }
     {
-        self.turns.begin(every, turns, restarts, batch);
+        self.turns
+            .begin(workers as u64, every, turns, restarts, batch);
     }
 
     /// How many of so many workers can be of use.
@@ -351,6 +360,25 @@ impl<
         self.turns.useful(workers)
     }
 
+    /// A worker wants to rest. Whether it may.
+    pub(crate) fn rests(&mut self) -> bool
+        ensures { self.new ≡ self.old }
+    {
+        self.turns.rests()
+    }
+
+    /// Whether the run is over.
+    pub(crate) fn is_over(&self) -> bool {
+        self.turns.is_over()
+    }
+
+    /// A worker has rested.
+    pub(crate) fn wakes(&mut self)
+        ensures { self.new ≡ self.old }
+    {
+        self.turns.wakes();
+    }
+
     /// Counts the turn of a worker that waits with its job. False where the run is over, or no turn
     /// is left.
     pub(crate) fn wait(&mut self) -> bool
@@ -359,27 +387,32 @@ impl<
         self.turns.wait()
     }
 
-    /// One turn: what this worker does next. Every step but a task's work is made here.
-    pub(crate) fn choose(&mut self, alloc: Global, worker: u32) -> Next<O>
+    /// One turn: what this worker does next, and how many turns are left. Every step but a task's
+    /// work is made here.
+    pub(crate) fn choose(&mut self, alloc: Global, worker: u32) -> (Next<O>, u64)
         ensures total { self.new.total ≡ self.old.total }
         ensures step { Preserves ⟦<O as Rules>⟧.all self.old.core.engine self.new.core.engine }
     {
         let Station { core, turns, .. } = self;
-        take_turn(alloc, core, turns, worker)
+        let next = take_turn(alloc, core, turns, worker);
+        (next, turns.left())
     }
 
-    /// Turns of one hold of the lock, until one leaves this worker something to do: what that is.
-    pub(crate) fn choose_some(&mut self, alloc: Global, worker: u32) -> Next<O>
+    /// Turns of one hold of the lock, until one leaves this worker something to do: what that is,
+    /// and how many turns were left before them and are after them.
+    pub(crate) fn choose_some(&mut self, alloc: Global, worker: u32) -> (Next<O>, u64, u64)
         ensures total { self.new.total ≡ self.old.total }
         ensures step { Preserves ⟦<O as Rules>⟧.all self.old.core.engine self.new.core.engine }
     {
-        for _ in 0..TURNS_A_HOLD {
+        let before = self.turns.left();
+        for _ in 1..TURNS_A_HOLD {
             match self.choose(alloc, worker) {
-                Next::Again => {}
-                next => return next,
+                (Next::Again, _) => {}
+                (next, left) => return (next, before, left),
             }
         }
-        Next::Again
+        let (next, left) = self.choose(alloc, worker);
+        (next, before, left)
     }
 
     /// What came of a task's job of so many records.

@@ -3,4 +3,4 @@ use Rattle.row_publishing.proofs.Shown.{shows_kept}
 use Rattle.thread_runner.proofs.station.Station.choose.Goals as goal
 
 pub invariant_of-self : goal.invariant_of-self
-invariant_of-self g c = (search rules, shows_kept _ _ _ _ c.take_turn.ensures.step c.self.invariant.1)
+invariant_of-self g c = (search rules, shows_kept _ _ _ _ c.take_turn-next.ensures.step c.self.invariant.1)

@@ -10,3 +10,9 @@ returns-in_default g c = record { total = c.choose.ensures.total ∙ c.loop.inva
 
 pub loop-preserved : goal.loop-preserved
 loop-preserved g c = record { total = c.choose.ensures.total ∙ c.loop.invariant.total; step = of_both _ _ _ _ c.loop.invariant.step c.choose.ensures.step }
+
+pub returns-clause-total : goal.returns-clause-total
+returns-clause-total g c = c.choose-next.ensures.total ∙ c.loop.invariant.total
+
+pub returns-clause-step : goal.returns-clause-step
+returns-clause-step g c = of_both _ _ _ _ c.loop.invariant.step c.choose-next.ensures.step
