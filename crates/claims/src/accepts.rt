@@ -195,7 +195,8 @@ fn accept_row<O: Operator, X: Transactions>(
 
 /// Takes what was made of a task's work. `K7` is told exactly where that work is not due: the
 /// operator, a state or a record is another one, or nothing may be taken from the input. An
-/// operator's records are all taken, in so many steps, or none is. Nothing is copied.
+/// operator's records are all taken, in so many steps, or none is. Nothing is copied but a key that
+/// is new, with its state.
 pub fn accept<O: Operator, X: Transactions>(
     attempt: &mut Attempt<O>,
     graph: &Graph,

@@ -11,8 +11,8 @@
 //! when the work is done. With n records of m keys, offering takes n copies of records and of keys.
 //! The states take m copies, one sort of the n keys in place and m searches among the task's, when
 //! they are offered or, where they are lent, when the work is run: the keys themselves are kept, and
-//! beside them their states in the same order. Running copies no record. Taking copies nothing, in
-//! the time of m searches among the task's keys.
+//! beside them their states in the same order. Running copies no record. Taking copies a key and its
+//! state where the key is new, and nothing else, in the time of m searches among the task's keys.
 #![tactic(auto)]
 
 mod accepts;
