@@ -1,6 +1,11 @@
 -- Rows that stand in runs.
-use Rattle.std.proofs.Common.{List, [], ◌∷◌, ◌++◌, All}
+use Rattle.std.proofs.Common.{◌≡◌, ℕ, List, [], ◌∷◌, ◌++◌, All, Vec, length, sym, arith}
 use Rattle.std.proofs.lemmas.List.Elements.{All-nil, All-cons, All-head, All-tail}
+use Rattle.std.specs.declared.alloc.Global.{Global}
+use Rattle.line_parts.specs.Lines.{in_runs}
+use Rattle.operators.specs.declared.row.Row.{Row}
+use Rattle.job_input.specs.Lines.{with_rows}
+use Rattle.job_input.proofs.Putting.{no_rows}
 
 module _ {X : Type 0} (P : X → Type 0) where
   pub all_before : (xs ys : List X) → All P (xs ++ ys) → All P xs
@@ -10,3 +15,8 @@ module _ {X : Type 0} (P : X → Type 0) where
   pub all_behind : (xs ys : List X) → All P (xs ++ ys) → All P ys
   all_behind [] ys all = all
   all_behind (x ∷ xs) ys all = all_behind xs ys (All-tail P x (xs ++ ys) all)
+
+-- with no runs there is nothing to put
+pub none_to_put : (p : ℕ) (partitions : List (List Row)) (runs : List (Vec Row Global)) → length runs ≡ 0 → partitions ≡ with_rows partitions p (in_runs runs)
+none_to_put p partitions [] none = sym (no_rows partitions p)
+none_to_put p partitions (run ∷ runs) none = absurd (omega (arith, none))

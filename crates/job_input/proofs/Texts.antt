@@ -1,5 +1,5 @@
 -- The rows of texts that stand one after the other.
-use Rattle.std.proofs.Common.{◌≡◌, ◌∙◌, ◌<◌, ℕ, zero, suc, Option, None, Some, IfSome, OnSome, List, [], ◌∷◌, ◌++◌, All, length, refl, sym, ap, subst, arith, append_assoc, append-nil, ◌+◌, ◌-◌, get_or, length-append}
+use Rattle.std.proofs.Common.{◌≡◌, ◌∙◌, ◌<◌, ℕ, zero, suc, Option, None, Some, IfSome, OnSome, Result, Ok, Err, OnOk, List, [], ◌∷◌, ◌++◌, All, length, refl, sym, ap, subst, arith, append_assoc, append-nil, ◌+◌, ◌-◌, get_or, length-append}
 use Rattle.std.proofs.lemmas.List.{get_or-append-add}
 use Rattle.std.proofs.lemmas.List.Elements.{All-nil, All-push, All-append}
 use Rattle.std.specs.Io.{IsEmptyOrEndsWith}
@@ -105,3 +105,11 @@ all_put p (Some xs) (Some ys) None old mid new first second end = absurd second
 all_put p (Some xs) (Some ys) (Some zs) old mid new first second end =
     let (text, is, puts, ends) = more_put p (Some xs) (Some ys) (Some zs) old mid new first second in
     subst (λ l. PutsText p l old new) (sym (is ∙ ap (λ l. text ++ l) end ∙ append-nil text)) puts
+
+-- where what was still to be put at the end is put
+pub then_put : {X E : Type 0} (p : ℕ) (r : Result X E) (known : Option (List ℕ)) (old mid new : List (List Row)) (first last : List Row) → first ≡ [] → new ≡ with_rows mid p last
+    → OnOk r (IfSome known (λ bytes. PutsText p bytes (with_rows old p first) (with_rows mid p last))) → OnOk r (IfSome known (λ bytes. PutsText p bytes old new))
+then_put p (Err e) known old mid new first last none put text = tt
+then_put p (Ok x) known old mid new first last none put text =
+    let before : with_rows old p first ≡ old = ap (with_rows old p) none ∙ no_rows old p in
+    subst (λ ps. IfSome known (λ bytes. PutsText p bytes old ps)) (sym put) (subst (λ ps. IfSome known (λ bytes. PutsText p bytes ps (with_rows mid p last))) before text)

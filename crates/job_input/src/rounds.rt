@@ -1,11 +1,12 @@
 //! The rows of an input, read by several threads.
 
-ghost use Rattle.std.specs.Prelude.{◌≡◌, ◌≤◌, ◌++◌, ℕ, List, false, length, take, drop, All, Ok, OnOk, OnSome, IfSome};
+ghost use Rattle.std.specs.Prelude.{◌≡◌, ◌≤◌, ◌++◌, ℕ, List, [], false, is_none, length, take, drop, All, Ok, OnOk, OnSome, IfSome};
 ghost use Rattle.std.specs.Io.{IsEmptyOrEndsWith};
 ghost use Rattle.std.specs.Io.KnownBytes.{IsAtEnd, prepend_known};
+ghost use Rattle.std.specs.Thread.{IsSync};
 ghost use Rattle.abs_codec.specs.Spelling.{Fits};
 ghost use Rattle.operators.specs.RowSpelling.{RowIsSpelled, row_spelling};
-ghost use Rattle.line_parts.specs.Lines.{in_runs};
+ghost use Rattle.line_parts.specs.Lines.{in_runs, ReadsLines};
 ghost use Rattle.job_input.specs.Lines.{with_rows, HasRow, PutsFront, PutsRows, PutsText};
 
 use crate::fault::LineFault;
@@ -17,11 +18,19 @@ use operators::Row;
 use source_log::{MemoryLog, Partitions};
 use std::alloc::Global;
 use std::io::BufRead;
-use std::thread::Threads;
+use std::mem::replace;
+use std::thread::{Threads, join_mut};
 
 /// So many bytes of a file are read before their rows are put, and no more than a line and a
 /// buffer beside them.
 const ROUND: usize = 1_048_576;
+
+/// Rows that are still to be put, and the number of the line behind theirs.
+#[derive(Drop)]
+struct Pending {
+    runs: Vec<Vec<Row>>,
+    next: u64,
+}
 
 /// What reads the row of a line.
 #[derive(Clone, Copy)]
@@ -66,37 +75,114 @@ fn append_runs(
     Ok(())
 }
 
-/// Takes so many bytes from the front of the buffer, and puts the rows of their lines last in the
-/// partition, or answers the number of the line that is not taken, from 1, and why.
+/// Puts the rows that are still to be put last in the partition, or answers their line's number,
+/// and why. None are left to be put.
+fn put_pending(
+    alloc: Global,
+    log: &mut MemoryLog<Row>,
+    partition: u32,
+    pending: &mut Pending,
+) -> Result<(), (u64, LineFault)>
+    requires { All (Fits RowIsSpelled row_spelling) (in_runs pending.old.runs.items) }
+    ensures puts { PutsRows partition (⟦<MemoryLog<Row> as Partitions>⟧.records log.old)
+        (⟦<MemoryLog<Row> as Partitions>⟧.records log.new) }
+    ensures rows { OnOk result (⟦<MemoryLog<Row> as Partitions>⟧.records log.new
+        ≡ with_rows (⟦<MemoryLog<Row> as Partitions>⟧.records log.old) partition
+        (in_runs pending.old.runs.items)) }
+    ensures none { pending.new.runs.items ≡ [] }
+{
+    let runs = replace(&mut pending.runs, Vec::new(alloc));
+    if let Err(fault) = append_runs(log, partition, runs) {
+        return Err((pending.next, fault));
+    }
+    Ok(())
+}
+
+/// The rows of a text's lines, read by so many threads at most, this one included.
+fn rows_of_lines<R: Threads + Sync>(
+    rt: &R,
+    alloc: Global,
+    text: &[u8],
+    threads: usize,
+) -> Part<Row, LineFault>
+    ensures { ReadsLines HasRow text.now result.lines (in_runs result.runs.items)
+        (is_none result.fault) }
+{
+    read_lines(rt, alloc, &RowReader { alloc }, text, threads)
+}
+
+/// Reads the rows of a text's lines, while one of so many threads puts the rows of these runs last
+/// in the partition. Of two threads neither is spared for that, and a third does it.
+fn read_beside<R: Threads + Sync>(
+    rt: &R,
+    alloc: Global,
+    log: &mut MemoryLog<Row>,
+    partition: u32,
+    mut runs: Vec<Vec<Row>>,
+    text: &[u8],
+    threads: usize,
+) -> (Result<(), LineFault>, Part<Row, LineFault>)
+    requires { All (Fits RowIsSpelled row_spelling) (in_runs runs.items) }
+    ensures puts { PutsRows partition (⟦<MemoryLog<Row> as Partitions>⟧.records log.old)
+        (⟦<MemoryLog<Row> as Partitions>⟧.records log.new) }
+    ensures rows { OnOk result.0 (⟦<MemoryLog<Row> as Partitions>⟧.records log.new
+        ≡ with_rows (⟦<MemoryLog<Row> as Partitions>⟧.records log.old) partition
+        (in_runs runs.items)) }
+    ensures reads { ReadsLines HasRow text.now result.1.lines (in_runs result.1.runs.items)
+        (is_none result.1.fault) }
+{
+    if runs.is_empty() {
+        return (Ok(()), rows_of_lines(rt, alloc, text, threads));
+    }
+    let readers = threads.saturating_sub(1).max(2);
+    let mut put = || -> Result<(), LineFault>
+        requires { All (Fits RowIsSpelled row_spelling) (in_runs runs.items) }
+        ensures puts { PutsRows partition log.entry.now.rows log.exit.now.rows }
+        ensures rows { OnOk result (log.exit.now.rows
+            ≡ with_rows log.entry.now.rows partition (in_runs runs.entry.items)) }
+    { append_runs(log, partition, replace(&mut runs, Vec::new(alloc))) };
+    let mut read = move || -> Part<Row, LineFault>
+        requires { IsSync R.row }
+        ensures { ReadsLines HasRow text.entry.now result.lines (in_runs result.runs.items)
+            (is_none result.fault) }
+    { rows_of_lines(rt, alloc, text, readers) };
+    join_mut(rt, &mut put, &mut read)
+}
+
+/// Takes so many bytes from the front of the buffer, and reads the rows of their lines, which are
+/// still to be put then. Those that were still to be put are put last in the partition meanwhile.
+/// Or answers the number of the line that is not taken, from 1, and why.
 fn put_lines<R: Threads + Sync>(
     rt: &R,
     alloc: Global,
     log: &mut MemoryLog<Row>,
     partition: u32,
+    pending: &mut Pending,
     buffer: &mut LineBuffer,
     count: usize,
     threads: usize,
 ) -> Result<(), (u64, LineFault)>
-    requires { count ≤ length buffer.old.text.items }
+    requires count { count ≤ length buffer.old.text.items }
+    requires fits { All (Fits RowIsSpelled row_spelling) (in_runs pending.old.runs.items) }
     ensures puts { PutsRows partition (⟦<MemoryLog<Row> as Partitions>⟧.records log.old)
         (⟦<MemoryLog<Row> as Partitions>⟧.records log.new) }
+    ensures fits { All (Fits RowIsSpelled row_spelling) (in_runs pending.new.runs.items) }
     ensures text { OnOk result (PutsText partition (take count buffer.old.text.items)
-        (⟦<MemoryLog<Row> as Partitions>⟧.records log.old)
-        (⟦<MemoryLog<Row> as Partitions>⟧.records log.new)) }
+        (with_rows (⟦<MemoryLog<Row> as Partitions>⟧.records log.old) partition
+        (in_runs pending.old.runs.items))
+        (with_rows (⟦<MemoryLog<Row> as Partitions>⟧.records log.new) partition
+        (in_runs pending.new.runs.items))) }
     ensures rest { OnOk result (buffer.new.text.items ≡ drop count buffer.old.text.items) }
 {
-    let reader = RowReader { alloc };
-    let Part { runs, lines, fault } = read_lines(
-        rt,
-        alloc,
-        &reader,
-        &buffer.text[..count],
-        threads,
-    );
-    let next = buffer.lines.saturating_add(lines).saturating_add(1);
-    if let Err(fault) = append_runs(log, partition, runs) {
-        return Err((next, fault));
+    let before = replace(&mut pending.runs, Vec::new(alloc));
+    let text = &buffer.text[..count];
+    let (put, part) = read_beside(rt, alloc, log, partition, before, text, threads);
+    if let Err(fault) = put {
+        return Err((pending.next, fault));
     }
+    let Part { runs, lines, fault } = part;
+    let next = buffer.lines.saturating_add(lines).saturating_add(1);
+    *pending = Pending { runs, next };
     if let Some(fault) = fault {
         return Err((next, LineFault::from(fault)));
     }
@@ -106,68 +192,111 @@ fn put_lines<R: Threads + Sync>(
     }
 }
 
-/// Puts the rows of the lines that are in the buffer with their ends last in the partition, as
-/// [`put_lines`] does.
+/// Takes the lines that are in the buffer with their ends, as [`put_lines`] does.
 fn put_whole_lines<R: Threads + Sync>(
     rt: &R,
     alloc: Global,
     log: &mut MemoryLog<Row>,
     partition: u32,
+    pending: &mut Pending,
     buffer: &mut LineBuffer,
     threads: usize,
 ) -> Result<(), (u64, LineFault)>
+    requires { All (Fits RowIsSpelled row_spelling) (in_runs pending.old.runs.items) }
     ensures puts { PutsRows partition (⟦<MemoryLog<Row> as Partitions>⟧.records log.old)
         (⟦<MemoryLog<Row> as Partitions>⟧.records log.new) }
+    ensures fits { All (Fits RowIsSpelled row_spelling) (in_runs pending.new.runs.items) }
     ensures text { OnOk result ((text : List ℕ)
         × (buffer.old.text.items ≡ text ++ buffer.new.text.items) × IsEmptyOrEndsWith text 10
-        × PutsText partition text (⟦<MemoryLog<Row> as Partitions>⟧.records log.old)
-        (⟦<MemoryLog<Row> as Partitions>⟧.records log.new)) }
+        × PutsText partition text
+        (with_rows (⟦<MemoryLog<Row> as Partitions>⟧.records log.old) partition
+        (in_runs pending.old.runs.items))
+        (with_rows (⟦<MemoryLog<Row> as Partitions>⟧.records log.new) partition
+        (in_runs pending.new.runs.items))) }
 {
     let count = buffer.whole_len();
-    put_lines(rt, alloc, log, partition, buffer, count, threads)?;
+    put_lines(rt, alloc, log, partition, pending, buffer, count, threads)?;
     if is_too_long(&buffer.text) {
         return Err((buffer.lines.saturating_add(1), LineFault::BadRow));
     }
     Ok(())
 }
 
-/// Reads a round of the file, and puts the rows of its lines last in the partition. False: the
-/// file has no more.
+/// Reads a round of the file, and takes its lines as [`put_lines`] does. False: the file has no
+/// more.
 fn put_round<F: BufRead, R: Threads + Sync>(
     rt: &R,
     alloc: Global,
     log: &mut MemoryLog<Row>,
     partition: u32,
     file: &mut F,
+    pending: &mut Pending,
     buffer: &mut LineBuffer,
     threads: usize,
 ) -> Result<bool, (u64, LineFault)>
+    requires { All (Fits RowIsSpelled row_spelling) (in_runs pending.old.runs.items) }
     ensures puts { PutsRows partition (⟦<MemoryLog<Row> as Partitions>⟧.records log.old)
         (⟦<MemoryLog<Row> as Partitions>⟧.records log.new) }
+    ensures fits { All (Fits RowIsSpelled row_spelling) (in_runs pending.new.runs.items) }
     ensures front { OnOk result (PutsFront partition
         (prepend_known buffer.old.text.items (F.remaining file.old))
         (prepend_known buffer.new.text.items (F.remaining file.new))
-        (⟦<MemoryLog<Row> as Partitions>⟧.records log.old)
-        (⟦<MemoryLog<Row> as Partitions>⟧.records log.new)) }
+        (with_rows (⟦<MemoryLog<Row> as Partitions>⟧.records log.old) partition
+        (in_runs pending.old.runs.items))
+        (with_rows (⟦<MemoryLog<Row> as Partitions>⟧.records log.new) partition
+        (in_runs pending.new.runs.items))) }
     ensures end { result ≡ Ok false
         → OnSome (prepend_known buffer.old.text.items (F.remaining file.old))
         (IsAtEnd (prepend_known buffer.new.text.items (F.remaining file.new))) }
 {
     match buffer.fill(file, ROUND) {
         Ok(true) => {
-            put_whole_lines(rt, alloc, log, partition, buffer, threads)?;
+            put_whole_lines(rt, alloc, log, partition, pending, buffer, threads)?;
             Ok(true)
         }
         Ok(false) => {
             let count = buffer.text.len();
-            put_lines(rt, alloc, log, partition, buffer, count, threads)?;
+            put_lines(rt, alloc, log, partition, pending, buffer, count, threads)?;
             Ok(false)
         }
         Err(error) => {
-            put_whole_lines(rt, alloc, log, partition, buffer, threads)?;
+            put_whole_lines(rt, alloc, log, partition, pending, buffer, threads)?;
             Err((buffer.lines.saturating_add(1), line_fault(&error)))
         }
     }
+}
+
+/// Takes the lines of the file in rounds, as [`put_lines`] does. What is still to be put at the end
+/// stands before the line whose number is answered.
+fn put_rounds<F: BufRead, R: Threads + Sync>(
+    rt: &R,
+    alloc: Global,
+    log: &mut MemoryLog<Row>,
+    partition: u32,
+    file: &mut F,
+    pending: &mut Pending,
+    threads: usize,
+) -> Result<(), (u64, LineFault)>
+    requires { All (Fits RowIsSpelled row_spelling) (in_runs pending.old.runs.items) }
+    ensures puts { PutsRows partition (⟦<MemoryLog<Row> as Partitions>⟧.records log.old)
+        (⟦<MemoryLog<Row> as Partitions>⟧.records log.new) }
+    ensures fits { All (Fits RowIsSpelled row_spelling) (in_runs pending.new.runs.items) }
+    ensures text { OnOk result (IfSome (F.remaining file.old)
+        (λ bytes. PutsText partition bytes
+        (with_rows (⟦<MemoryLog<Row> as Partitions>⟧.records log.old) partition
+        (in_runs pending.old.runs.items))
+        (with_rows (⟦<MemoryLog<Row> as Partitions>⟧.records log.new) partition
+        (in_runs pending.new.runs.items)))) }
+{
+    let mut buffer = LineBuffer::new(alloc);
+    for _ in 0..u64::MAX {
+        match put_round(rt, alloc, log, partition, file, pending, &mut buffer, threads) {
+            Ok(true) => {}
+            Ok(false) => return Ok(()),
+            Err(fault) => return Err(fault),
+        }
+    }
+    Err((u64::MAX, LineFault::Unreadable))
 }
 
 /// Puts the rows of the file last in the partition as [`read_rows`] does. Its lines are read by so
@@ -190,13 +319,11 @@ pub fn read_rows_by<F: BufRead, R: Threads + Sync>(
     if threads < 2 {
         return read_rows(alloc, log, partition, file, &mut Vec::new(alloc));
     }
-    let mut buffer = LineBuffer::new(alloc);
-    for _ in 0..u64::MAX {
-        match put_round(rt, alloc, log, partition, file, &mut buffer, threads) {
-            Ok(true) => {}
-            Ok(false) => return Ok(()),
-            Err(fault) => return Err(fault),
-        }
-    }
-    Err((u64::MAX, LineFault::Unreadable))
+    let mut pending = Pending {
+        runs: Vec::new(alloc),
+        next: 1,
+    };
+    let read = put_rounds(rt, alloc, log, partition, file, &mut pending, threads);
+    put_pending(alloc, log, partition, &mut pending)?;
+    read
 }

@@ -1,23 +1,41 @@
-use Rattle.std.proofs.Common.{◌≡◌, [], is_none, take, ap, sym, subst}
+use Rattle.std.proofs.Common.{◌≡◌, ◌∙◌, [], All, OnOk, is_none, take, ap, sym, subst}
+use Rattle.abs_codec.specs.Spelling.{Fits}
 use Rattle.line_parts.specs.Lines.{in_runs, BeginsWithLines}
-use Rattle.job_input.specs.Lines.{HasRow, PutsLines}
+use Rattle.operators.specs.RowSpelling.{RowIsSpelled, row_spelling}
+use Rattle.job_input.specs.Lines.{with_rows, HasRow, PutsLines}
 use Rattle.job_input.proofs.Texts.{lines_put, all_fit}
 use Rattle.job_input.proofs.rounds.put_lines.Goals as goal
 
-pub append_runs-requires : goal.append_runs-requires
-append_runs-requires g c =
-    let (rest, lines, whole) = c.read_lines-runs.ensures.reads in
+pub read_beside-put-requires-after_bounds : goal.read_beside-put-requires-after_bounds
+read_beside-put-requires-after_bounds g c κs within = subst (λ runs. All (Fits RowIsSpelled row_spelling) (in_runs runs.items)) (sym c.replace-before.ensures.value) c.requires.fits
+
+pub returns-in-Some-clause-fits : goal.returns-in-Some-clause-fits
+returns-in-Some-clause-fits g c =
+    let (rest, lines, whole) = c.read_beside-put.ensures.reads in
+    all_fit _ _ rest _ lines
+
+pub returns-in-Ok-clause-fits : goal.returns-in-Ok-clause-fits
+returns-in-Ok-clause-fits g c =
+    let (rest, lines, whole) = c.read_beside-put.ensures.reads in
+    all_fit _ _ rest _ lines
+
+pub returns-in-Err-take_front-clause-fits : goal.returns-in-Err-take_front-clause-fits
+returns-in-Err-take_front-clause-fits g c =
+    let (rest, lines, whole) = c.read_beside-put.ensures.reads in
     all_fit _ _ rest _ lines
 
 pub returns-in-Ok-clause-text : goal.returns-in-Ok-clause-text
 returns-in-Ok-clause-text g c =
-    let (rest, lines, whole) = c.read_lines-runs.ensures.reads in
-    let n = c.read_lines-runs.result.lines in
+    let (rest, lines, whole) = c.read_beside-put.ensures.reads in
+    let n = c.read_beside-put.result.1.lines in
     let p = c.args.partition in
     let count = c.args.count in
-    let old = c.args.log.now.rows in
+    let rows = in_runs c.read_beside-put.result.1.runs.items in
+    let old = with_rows c.args.log.now.rows p (in_runs c.args.pending.now.runs.items) in
     let none : rest ≡ [] = whole (ap is_none c.in_default-fault.is) in
-    let put = lines_put p n (take count c.deref.result.now) (in_runs c.read_lines-runs.result.runs.items) old (subst (BeginsWithLines HasRow n (take count c.deref.result.now) (in_runs c.read_lines-runs.result.runs.items)) none lines) in (
+    let put = lines_put p n (take count c.deref.result.now) rows old (subst (BeginsWithLines HasRow n (take count c.deref.result.now) rows) none lines) in
+    let before = subst (λ r. OnOk r (c.read_beside-put.new.log.rows ≡ with_rows c.args.log.now.rows p (in_runs c.replace-before.result.items))) c.in_default.is c.read_beside-put.ensures.rows in
+    let same : c.read_beside-put.new.log.rows ≡ old = before ∙ ap (λ runs. with_rows c.args.log.now.rows p (in_runs runs.items)) c.replace-before.ensures.value in (
       n,
-      subst (λ text. PutsLines n p (take count text) old c.append_runs.new.log.rows) c.deref.ensures.value (subst (PutsLines n p (take count c.deref.result.now) old) (sym c.in_default.ensures.rows) put),
+      subst (λ text. PutsLines n p (take count text) old (with_rows c.read_beside-put.new.log.rows p rows)) c.deref.ensures.value (subst (λ ps. PutsLines n p (take count c.deref.result.now) old (with_rows ps p rows)) (sym same) put),
     )

@@ -1,23 +1,16 @@
-use Rattle.std.proofs.Common.{rules}
-use Rattle.job_input.proofs.Putting.{puts_none, puts_more}
-use Rattle.job_input.proofs.Texts.{none_yet, more_put, all_put}
+use Rattle.std.proofs.Common.{ap}
+use Rattle.line_parts.specs.Lines.{in_runs}
+use Rattle.job_input.proofs.Putting.{puts_more}
+use Rattle.job_input.proofs.Texts.{then_put}
 use Rattle.job_input.proofs.rounds.read_rows_by.Goals as goal
 
-pub loop-init : goal.loop-init
-loop-init g c = (puts_none _ _, none_yet _ _ _ _ c.new-buffer.ensures.text)
+pub returns-in_err-put_pending-clause-puts : goal.returns-in_err-put_pending-clause-puts
+returns-in_err-put_pending-clause-puts g c = puts_more _ _ _ _ c.put_rounds-read.ensures.puts c.put_pending.ensures.puts
 
-pub returns-in-Ok-false-clause-puts : goal.returns-in-Ok-false-clause-puts
-returns-in-Ok-false-clause-puts g c = puts_more _ _ _ _ c.loop.invariant.0 c.put_round.ensures.puts
+pub returns-clause-puts : goal.returns-clause-puts
+returns-clause-puts g c = puts_more _ _ _ _ c.put_rounds-read.ensures.puts c.put_pending.ensures.puts
 
-pub returns-in-Ok-false-clause-text : goal.returns-in-Ok-false-clause-text
-returns-in-Ok-false-clause-text g c =
-    all_put _ _ _ _ _ _ _ c.loop.invariant.1 c.in-Ok-false.ensures.front (c.in-Ok-false.ensures.end (search rules))
-
-pub returns-in-Err-clause-puts : goal.returns-in-Err-clause-puts
-returns-in-Err-clause-puts g c = puts_more _ _ _ _ c.loop.invariant.0 c.put_round.ensures.puts
-
-pub loop-preserved : goal.loop-preserved
-loop-preserved g c = (
-  puts_more _ _ _ _ c.loop.invariant.0 c.put_round.ensures.puts,
-  more_put _ _ _ _ _ _ _ c.loop.invariant.1 c.in-Ok-true.ensures.front,
-)
+pub returns-clause-text : goal.returns-clause-text
+returns-clause-text g c =
+    then_put c.args.partition c.put_rounds-read.result _ c.args.log.now.rows c.put_rounds-read.new.log.rows c.put_pending.new.log.rows
+    _ (in_runs c.put_rounds-read.new.pending.runs.items) (ap in_runs c.new-2.ensures.items) c.in_ok-put_pending.ensures.rows c.put_rounds-read.ensures.text
