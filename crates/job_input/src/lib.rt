@@ -6,8 +6,8 @@
 //! source task of the graph that the job expands to.
 //!
 //! Inputs are read line by line through one buffer that is used again, or by several threads in
-//! rounds of one mebibyte, so that memory is bounded whatever the lines are. What is proved of
-//! both is the same.
+//! rounds of one mebibyte, so that memory is bounded whatever the lines are. The rows of a round
+//! are put while the lines of the next one are read. What is proved of both is the same.
 #![tactic(auto)]
 
 mod fault;

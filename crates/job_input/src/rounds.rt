@@ -21,8 +21,8 @@ use std::io::BufRead;
 use std::mem::replace;
 use std::thread::{Threads, join_mut};
 
-/// So many bytes of a file are read before their rows are put, and no more than a line and a
-/// buffer beside them.
+/// So many bytes of a file are read before their lines are, and no more than a line and a buffer
+/// beside them. Their rows are put while the lines of the next round are read.
 const ROUND: usize = 1_048_576;
 
 /// Rows that are still to be put, and the number of the line behind theirs.
@@ -112,7 +112,7 @@ fn rows_of_lines<R: Threads + Sync>(
 }
 
 /// Reads the rows of a text's lines, while one of so many threads puts the rows of these runs last
-/// in the partition. Of two threads neither is spared for that, and a third does it.
+/// in the partition. Two threads both read, and a third puts.
 fn read_beside<R: Threads + Sync>(
     rt: &R,
     alloc: Global,
@@ -168,10 +168,8 @@ fn put_lines<R: Threads + Sync>(
         (⟦<MemoryLog<Row> as Partitions>⟧.records log.new) }
     ensures fits { All (Fits RowIsSpelled row_spelling) (in_runs pending.new.runs.items) }
     ensures text { OnOk result (PutsText partition (take count buffer.old.text.items)
-        (with_rows (⟦<MemoryLog<Row> as Partitions>⟧.records log.old) partition
-        (in_runs pending.old.runs.items))
-        (with_rows (⟦<MemoryLog<Row> as Partitions>⟧.records log.new) partition
-        (in_runs pending.new.runs.items))) }
+        (with_rows log.old.rows partition (in_runs pending.old.runs.items))
+        (with_rows log.new.rows partition (in_runs pending.new.runs.items))) }
     ensures rest { OnOk result (buffer.new.text.items ≡ drop count buffer.old.text.items) }
 {
     let before = replace(&mut pending.runs, Vec::new(alloc));
@@ -209,10 +207,8 @@ fn put_whole_lines<R: Threads + Sync>(
     ensures text { OnOk result ((text : List ℕ)
         × (buffer.old.text.items ≡ text ++ buffer.new.text.items) × IsEmptyOrEndsWith text 10
         × PutsText partition text
-        (with_rows (⟦<MemoryLog<Row> as Partitions>⟧.records log.old) partition
-        (in_runs pending.old.runs.items))
-        (with_rows (⟦<MemoryLog<Row> as Partitions>⟧.records log.new) partition
-        (in_runs pending.new.runs.items))) }
+        (with_rows log.old.rows partition (in_runs pending.old.runs.items))
+        (with_rows log.new.rows partition (in_runs pending.new.runs.items))) }
 {
     let count = buffer.whole_len();
     put_lines(rt, alloc, log, partition, pending, buffer, count, threads)?;
@@ -241,10 +237,8 @@ fn put_round<F: BufRead, R: Threads + Sync>(
     ensures front { OnOk result (PutsFront partition
         (prepend_known buffer.old.text.items (F.remaining file.old))
         (prepend_known buffer.new.text.items (F.remaining file.new))
-        (with_rows (⟦<MemoryLog<Row> as Partitions>⟧.records log.old) partition
-        (in_runs pending.old.runs.items))
-        (with_rows (⟦<MemoryLog<Row> as Partitions>⟧.records log.new) partition
-        (in_runs pending.new.runs.items))) }
+        (with_rows log.old.rows partition (in_runs pending.old.runs.items))
+        (with_rows log.new.rows partition (in_runs pending.new.runs.items))) }
     ensures end { result ≡ Ok false
         → OnSome (prepend_known buffer.old.text.items (F.remaining file.old))
         (IsAtEnd (prepend_known buffer.new.text.items (F.remaining file.new))) }
@@ -283,14 +277,21 @@ fn put_rounds<F: BufRead, R: Threads + Sync>(
     ensures fits { All (Fits RowIsSpelled row_spelling) (in_runs pending.new.runs.items) }
     ensures text { OnOk result (IfSome (F.remaining file.old)
         (λ bytes. PutsText partition bytes
-        (with_rows (⟦<MemoryLog<Row> as Partitions>⟧.records log.old) partition
-        (in_runs pending.old.runs.items))
-        (with_rows (⟦<MemoryLog<Row> as Partitions>⟧.records log.new) partition
-        (in_runs pending.new.runs.items)))) }
+        (with_rows log.old.rows partition (in_runs pending.old.runs.items))
+        (with_rows log.new.rows partition (in_runs pending.new.runs.items)))) }
 {
     let mut buffer = LineBuffer::new(alloc);
     for _ in 0..u64::MAX {
-        match put_round(rt, alloc, log, partition, file, pending, &mut buffer, threads) {
+        match put_round(
+            rt,
+            alloc,
+            log,
+            partition,
+            file,
+            pending,
+            &mut buffer,
+            threads,
+        ) {
             Ok(true) => {}
             Ok(false) => return Ok(()),
             Err(fault) => return Err(fault),
@@ -299,8 +300,9 @@ fn put_rounds<F: BufRead, R: Threads + Sync>(
     Err((u64::MAX, LineFault::Unreadable))
 }
 
-/// Puts the rows of the file last in the partition as [`read_rows`] does. Its lines are read by so
-/// many threads, this one included.
+/// Puts the rows of the file last in the partition as [`read_rows`] does. So many threads, this one
+/// included, read its lines. One of them puts the rows of the lines before meanwhile, but of two
+/// threads both read, and a third puts.
 pub fn read_rows_by<F: BufRead, R: Threads + Sync>(
     rt: &R,
     alloc: Global,
