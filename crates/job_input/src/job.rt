@@ -83,7 +83,7 @@ fn read_inputs<'a, R: Threads + Sync, F: Read + Drop>(
 
 /// Reads a job and the rows of its inputs, one for each source task in task order, or answers the
 /// first fault: of the job, of the number of inputs, of the inputs in order. An input is read by so
-/// many threads as there are workers, this one included.
+/// many threads as there are workers, this one included, and by three where there are two.
 pub fn judge<'a, R: Threads + Sync, J: Read + Drop, F: Read + Drop>(
     rt: &R,
     alloc: Global,
