@@ -1,7 +1,7 @@
 -- The records that lead a channel, and the items that stand first.
-use Rattle.std.proofs.Common.{◌≡◌, ◌<◌, ◌≤◌, ◌+◌, ◌++◌, ℕ, zero, suc, List, [], ◌∷◌, length, map, take, Option, Some, slice_get, refl, sym, ap, ◌∙◌, arith}
+use Rattle.std.proofs.Common.{◌≡◌, ◌<◌, ◌≤◌, ◌+◌, ◌-◌, ◌++◌, ℕ, zero, suc, List, [], ◌∷◌, length, map, min, take, drop, Option, Some, slice_get, refl, sym, ap, ◌∙◌, arith, add-one, length-drop}
 use Rattle.std.specs.List.{All}
-use Rattle.std.proofs.lemmas.List.{take_more}
+use Rattle.std.proofs.lemmas.List.{map_push, take_min, take_more}
 use Rattle.std.proofs.lemmas.Option.{get_or_from_slice_get, slice_get_within}
 use Rattle.std.proofs.lemmas.List.Elements.{All-nil, All-cons, All-head, All-tail}
 use Rattle.channels.specs.Items.{leading_records}
@@ -64,3 +64,23 @@ module _ {R : Type 0} where
   pub taken_more : (leading old new : List R) (row : R) (i : ℕ) → slice_get leading i ≡ Some row → old ≡ take i leading → new ≡ old ++ row ∷ [] → new ≡ take (i + 1) leading
   taken_more leading old new row i at was is =
       is ∙ ap (λ (xs : List R). xs ++ row ∷ []) was ∙ ap (λ (r : R). take i leading ++ r ∷ []) (sym (get_or_from_slice_get leading i row row at)) ∙ sym (take_more leading i row (slice_get_within leading i row at))
+
+  -- what stands at a place behind the first
+  behind_at : (leading : List R) (row : R) (i : ℕ) → slice_get leading (i + 1) ≡ Some row → slice_get (drop 1 leading) i ≡ Some row
+  behind_at [] row i stands = absurd cc
+  behind_at (r ∷ leading) row i stands = rw add-one at stands
+
+  module _ {W : Type 0} (work : R → W) (leading : List R) where
+    -- a record more behind the first is worked, by a copy of it
+    pub behind_more : (old new : List W) (row copy : R) (i : ℕ) → slice_get leading (i + 1) ≡ Some row → copy ≡ row → old ≡ map work (take i (drop 1 leading)) → new ≡ old ++ work copy ∷ [] → new ≡ map work (take (i + 1) (drop 1 leading))
+    behind_more old new row copy i at same was is =
+        let rows = take i (drop 1 leading) in
+        let more : rows ++ row ∷ [] ≡ take (i + 1) (drop 1 leading) = taken_more (drop 1 leading) rows (rows ++ row ∷ []) row i (behind_at leading row i at) refl refl in
+        let whole : old ++ work copy ∷ [] ≡ map work rows ++ work row ∷ [] = ap (λ (ws : List W). ws ++ work copy ∷ []) was ∙ ap (λ (r : R). map work rows ++ work r ∷ []) same in
+        is ∙ whole ∙ sym (map_push work rows row) ∙ ap (λ (rs : List R). map work rs) more
+
+    -- all behind the first are worked, or so many where there are more
+    pub all_behind : (works : List W) (count most : ℕ) → count ≡ min most (length leading - 1) → works ≡ map work (take count (drop 1 leading)) → works ≡ map work (take most (drop 1 leading))
+    all_behind works count most least is =
+        let long : count ≡ min most (length (drop 1 leading)) = least ∙ ap (λ n. min most n) (sym (length-drop 1 leading)) in
+        is ∙ ap (λ (rs : List R). map work rs) (ap (λ n. take n (drop 1 leading)) long ∙ take_min most (drop 1 leading))

@@ -1,5 +1,6 @@
 -- Which work is a task's to do now, and how work is offered and a result is taken.
-use Rattle.std.specs.Prelude.{◌≡◌, ◌<◌, ℕ, List, length, min, slice_get, Option, Some, None, Result, Ok, Err}
+use Rattle.std.specs.Prelude.{◌≡◌, ◌<◌, ℕ, List, length, min, map, take, drop, slice_get, Option, Some, None, Result, Ok, Err, Vec}
+use Rattle.std.specs.declared.alloc.Global.{Global}
 use Rattle.channels.specs.Items.{leading_records}
 use Rattle.commit_sink.specs.Ledger.{Ledger}
 use Rattle.job_graph.specs.Expanded.{Expanded}
@@ -43,25 +44,17 @@ pub record IsRowDue {R K S : Type 0} (graph : Expanded) (task input : ℕ) (h : 
 abbrev pub SinksFrom : Expanded → (task input channel : ℕ) → Type 0
 SinksFrom graph task input channel = (subtask : ℕ) × (slice_get graph.tasks task ≡ Some (role.Sink subtask)) × (input_at graph task input ≡ Some channel)
 
-module _ {R K S : Type 0} (graph : Expanded) (task input index : ℕ) (h : Held R K S) where
-  -- the task is a sink, and this record stands at this place of its input, with no barrier before it
-  pub record StandsAhead (row : R) : Type 0 where
-    pub channel : ℕ
-    pub sinks : SinksFrom graph task input channel
-    pub stands : slice_get (leading_records (items_at h.channels channel)) index ≡ Some row
+-- so many records at most that stand behind the first of a channel, before the first barrier
+abbrev pub rows_behind : {R K S : Type 0} → Held R K S → (channel most : ℕ) → List R
+rows_behind h channel most = take most (drop 1 (leading_records (items_at h.channels channel)))
 
-  -- the work is a sink's, on the record at this place of its input
-  abbrev pub IsAhead : {O : Type 0} → Given O K S R → Type 0
-  IsAhead (given.Operator operand) = ⊥
-  IsAhead (given.Sink row) = StandsAhead row
-
-  -- that work is offered, or why it is not is told
-  abbrev pub EndsOfferAhead : {O : Type 0} → Result (Given O K S R) CoreFault → Type 0
-  EndsOfferAhead (Ok work) = IsAhead work
-  EndsOfferAhead (Err NoSuchTask) = (channel : ℕ) → ¬ SinksFrom graph task input channel
-  EndsOfferAhead (Err NotReady) = (channel : ℕ) × SinksFrom graph task input channel × (slice_get (leading_records (items_at h.channels channel)) index ≡ None)
-  EndsOfferAhead (Err Memory) = (row : R) × StandsAhead row
-  EndsOfferAhead (Err other) = ⊥
+module _ {R K S : Type 0} (graph : Expanded) (task input most : ℕ) (h : Held R K S) where
+  -- the work on these records of a sink's input is offered, in their order, or why it is not is told
+  abbrev pub EndsOfferBehind : {O : Type 0} → Result (Vec (Given O K S R) Global) CoreFault → Type 0
+  EndsOfferBehind (Ok works) = (channel : ℕ) × SinksFrom graph task input channel × (works.items ≡ map given.Sink (rows_behind h channel most))
+  EndsOfferBehind (Err NoSuchTask) = (channel : ℕ) → ¬ SinksFrom graph task input channel
+  EndsOfferBehind (Err Memory) = (channel : ℕ) × SinksFrom graph task input channel × (0 < length (rows_behind h channel most))
+  EndsOfferBehind (Err other) = ⊥
 
 -- whether there is such a task and input is answered
 abbrev pub EndsAsking : Expanded → (task input : ℕ) → Result Unit CoreFault → Type 0

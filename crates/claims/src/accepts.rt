@@ -17,6 +17,7 @@ ghost use Rattle.claims.specs.declared.parts.Given.TheVariants as Given;
 
 use crate::carried::Worked;
 use crate::due::{has_states, is_due, records_channel, row_channel};
+use crate::leavings::Leavings;
 use crate::parts::{Given, Made, Operand, Outcomes};
 use crate::states::States;
 use commit_sink::{TransactionFault, Transactions};
@@ -97,21 +98,21 @@ fn accept_outcomes<O: Operator>(
     operators: &[O],
     task: u32,
     input: u32,
-    operand: Operand<O, O::Key, O::State, O::Record>,
+    operand: &Operand<O, O::Key, O::State, O::Record>,
     outcomes: Outcomes<O::Key, O::State, O::Record>,
 ) -> Result<(), CoreFault>
     requires serves { (ledger : Ledger) × Serves ⟦<O as Rules>⟧.all
         graph.now operators.now ledger attempt.old }
-    requires operand { IsOperand ⟦<O as Rules>⟧.all operand }
-    requires outcomes { IsOutcome O.meaning O.Key.cmp operand outcomes }
+    requires operand { IsOperand ⟦<O as Rules>⟧.all operand.now }
+    requires outcomes { IsOutcome O.meaning O.Key.cmp operand.now outcomes }
     ensures told { result ≢ Err CoreFault.Device }
     ensures ends { (ledger : Ledger) → EndsTaking ⟦<O as Rules>⟧.lang graph.now operators.now task
-        input attempt.old attempt.new ledger ledger (Given.Operator operand) result }
+        input attempt.old attempt.new ledger ledger (Given.Operator operand.now) result }
 {
-    let Some(channel) = records_channel(attempt, graph, operators, task, input, &operand) else {
+    let Some(channel) = records_channel(attempt, graph, operators, task, input, operand) else {
         return Err(CoreFault::WrongResult);
     };
-    match operate(attempt, graph, task, input, channel, &operand, outcomes) {
+    match operate(attempt, graph, task, input, channel, operand, outcomes) {
         Ok(()) => Ok(()),
         Err(SetFault::Changed) => Err(CoreFault::WrongResult),
         Err(SetFault::Memory) => {
@@ -196,7 +197,7 @@ fn accept_row<O: Operator, X: Transactions>(
 /// Takes what was made of a task's work. `K7` is told exactly where that work is not due: the
 /// operator, a state or a record is another one, or nothing may be taken from the input. An
 /// operator's records are all taken, in so many steps, or none is. Nothing is copied but a key that
-/// is new, with its state.
+/// is new, with its state. What is left of an operator's work is kept, to be let go later.
 pub fn accept<O: Operator, X: Transactions>(
     attempt: &mut Attempt<O>,
     graph: &Graph,
@@ -205,6 +206,7 @@ pub fn accept<O: Operator, X: Transactions>(
     task: u32,
     input: u32,
     worked: Worked<O>,
+    leavings: &mut Leavings<O>,
 ) -> Result<(), CoreFault>
     requires serves { Serves ⟦<O as Rules>⟧.all graph.now
         operators.now (X.state transactions.old) attempt.old }
@@ -216,15 +218,12 @@ pub fn accept<O: Operator, X: Transactions>(
         → X.fault_count transactions.new ≡ X.fault_count transactions.old }
 {
     match worked.made {
-        Made::Operator(operand, outcomes) => accept_outcomes(
-            attempt,
-            graph,
-            operators,
-            task,
-            input,
-            operand.into_operand(),
-            outcomes,
-        ),
+        Made::Operator(load, outcomes) => {
+            let operand = load.get();
+            let end = accept_outcomes(attempt, graph, operators, task, input, operand, outcomes);
+            leavings.keep(load);
+            end
+        }
         Made::Sink(row, bytes) => accept_row(
             attempt,
             graph,

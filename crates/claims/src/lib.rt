@@ -1,9 +1,10 @@
 //! What a claim carries: a task's work on the first records of an input, which is done outside the
 //! engine, with no lock held, and handed in later. Proved: a result carries the work that it was
 //! made of, and is what that work means, record by record; `offer` offers work exactly where a task
-//! could do it now, and `offer_ahead` a sink's, exactly where it is due once those before it are
-//! taken; and a result is taken, as so many steps of the task's own work would end, exactly where
-//! its work is what the task would do now (`K7` where it is not).
+//! could do it now, and `offer_behind` a sink's on the very records behind the first of its input,
+//! each of which it could do once those before it are taken; and a result is taken, as so many steps
+//! of the task's own work would end, exactly where its work is what the task would do now (`K7`
+//! where it is not).
 //!
 //! An operator's work carries the records that stand before the first barrier, as many as are asked
 //! for, and of each of their keys the present state, once. A sink's work is one record. The states
@@ -19,6 +20,7 @@ mod accepts;
 mod carried;
 mod due;
 mod inputs;
+mod leavings;
 mod left;
 mod offers;
 mod parts;
@@ -28,6 +30,7 @@ pub use accepts::accept;
 pub use carried::{Work, Worked};
 pub use due::{channel_of, operator_of};
 pub use inputs::input_of;
-pub use offers::{offer, offer_ahead};
+pub use leavings::Leavings;
+pub use offers::{offer, offer_behind};
 pub use parts::{Given, Load, Made, Operand, Outcomes};
 pub use states::States;

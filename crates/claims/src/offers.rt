@@ -1,6 +1,6 @@
 //! Work is offered.
 
-ghost use Rattle.std.specs.Prelude.{◌≡◌, ◌<◌, ◌≤◌, ◌++◌, ◌∷◌, [], List, Some, length, take, slice_get, OnOk, IfOk};
+ghost use Rattle.std.specs.Prelude.{◌≡◌, ◌<◌, ◌≤◌, ◌++◌, ◌∷◌, [], List, Some, length, map, take, slice_get, OnOk, OnErr, IfOk};
 ghost use Rattle.std.specs.List.{All, IsAmong};
 ghost use Rattle.channels.specs.Items.{leading_records};
 ghost use Rattle.job_graph.specs.Expanded.{IsExpanded};
@@ -8,8 +8,9 @@ ghost use Rattle.job_graph.specs.PlainGraph.{HaveOperators};
 ghost use Rattle.job_state.specs.Sending.{items_at};
 ghost use Rattle.job_state.specs.declared.holding.Holding.TheVariants as Holding;
 ghost use Rattle.engine_model.specs.Keeps.{Shape};
+ghost use Rattle.claims.specs.declared.parts.Given.TheVariants as Given;
 ghost use Rattle.claims.specs.Carried.{IsCarried};
-ghost use Rattle.claims.specs.Due.{EndsOffer, EndsOfferAhead};
+ghost use Rattle.claims.specs.Due.{EndsOffer, EndsOfferBehind, rows_behind};
 ghost use Rattle.claims.specs.Keys.{HasItsKey};
 
 use crate::carried::Work;
@@ -200,16 +201,44 @@ pub fn offer<O: Operator>(
     }
 }
 
-/// Offers the work on the record at a place of a sink's input, counted from 0, with no barrier
-/// before it: it is due once those before it are taken. `K2` comes before `K4`, and `K11` last.
-pub fn offer_ahead<O: Operator>(
+/// The work on the records behind the first of a channel, before the first barrier, in their order
+/// and on so many at most. Room for them is taken once, and none where there are none.
+fn works_behind<O: Operator>(
+    alloc: Global,
+    attempt: &Attempt<O>,
+    channel: u32,
+    most: usize,
+) -> Result<Vec<Work<O>>, NoMemory>
+    ensures rows { IfOk result (λ works. works.items
+        ≡ map Given.Sink (rows_behind attempt.now channel most)) }
+    ensures some { OnErr result (0 < length (rows_behind attempt.now channel most)) }
+{
+    let count = attempt.before_barrier(channel).saturating_sub(1).min(most);
+    let mut works = Vec::with_capacity(alloc, count)?;
+    for index in 0..count {
+        let Some(row) = attempt.record(channel, index + 1) else {
+            return Err(NoMemory);
+        };
+        let row = row.copied()?;
+        works.push_reserved(Work {
+            given: Given::Sink(row),
+        });
+    }
+    Ok(works)
+}
+
+/// Offers the work on the records behind the first of a sink's input, in their order, on so many at
+/// most and with no barrier before one of them: each is due once those before it are taken. `K2`
+/// comes before `K11`.
+pub fn offer_behind<O: Operator>(
+    alloc: Global,
     attempt: &Attempt<O>,
     graph: &Graph,
     task: u32,
     input: u32,
-    index: usize,
-) -> Result<Work<O>, CoreFault>
-    ensures { EndsOfferAhead graph.now task input index attempt.now result }
+    most: usize,
+) -> Result<Vec<Work<O>>, CoreFault>
+    ensures { EndsOfferBehind graph.now task input most attempt.now result }
 {
     let Some(Role::Sink(_)) = graph.role(task) else {
         return Err(CoreFault::NoSuchTask);
@@ -217,11 +246,6 @@ pub fn offer_ahead<O: Operator>(
     let Some(channel) = input_of(graph, task, input) else {
         return Err(CoreFault::NoSuchTask);
     };
-    let Some(ahead) = attempt.record(channel, index) else {
-        return Err(CoreFault::NotReady);
-    };
-    let row = ahead.copied()?;
-    Ok(Work {
-        given: Given::Sink(row),
-    })
+    let works = works_behind(alloc, attempt, channel, most)?;
+    Ok(works)
 }

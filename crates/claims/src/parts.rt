@@ -47,12 +47,6 @@ impl<O, K: Ord, S, R> Load<O, K, S, R> {
     {
         &self.operand
     }
-
-    pub(crate) fn into_operand(self) -> Operand<O, K, S, R>
-        ensures { result ≡ self }
-    {
-        Box::into_inner(self.operand)
-    }
 }
 
 /// These states, copied where they are lent and there is memory for that. Keys that tie have to be

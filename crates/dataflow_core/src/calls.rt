@@ -29,7 +29,7 @@ ghost use Rattle.dataflow_core.specs.Steps.{IsStep, IsRestart};
 use crate::held::{Claim, drop_claims};
 use abs_codec::Bytes;
 use commit_sink::Transactions;
-use engine::{CoreFault, Engine, Persisted};
+use engine::{CopyWork, CoreFault, Engine, Persisted};
 use engine_model::Rules;
 use job_graph::Graph;
 use operators::Operator;
@@ -221,6 +221,16 @@ impl<O: Operator, S: SnapshotStore, X: Transactions, P: Partitions<Record = O::R
     {
         let Core { engine, .. } = self;
         engine.persist(task)
+    }
+
+    /// Hands out the work on an operator's copy, to be done by anyone while nothing is held, where
+    /// it has at most `most` entries, and enough to be worth that. `persist_some` takes what comes
+    /// of it, as work that was done (`More`); where nothing does, it does the work itself.
+    pub fn hand_out(&mut self, task: u32, most: u32) -> Option<CopyWork<O::Key, O::State>>
+        ensures { self.new ≡ self.old }
+    {
+        let Core { engine, .. } = self;
+        engine.hand_out(task, most)
     }
 
     /// At most `most` entries of the work on a task's part are done, which nothing shows (`More`);

@@ -4,7 +4,7 @@ ghost use Rattle.std.specs.Prelude.{◌≡◌, ◌≢◌, ◌⊎◌, ◌+◌, �
 ghost use Rattle.claims.specs.declared.parts.Given.{Given};
 ghost use Rattle.engine_model.specs.declared.fault.CoreFault.TheVariants as CoreFault;
 ghost use Rattle.engine_plain.specs.Plain.{Stays};
-ghost use Rattle.engine.specs.Claimed.{OffersAhead};
+ghost use Rattle.engine.specs.Claimed.{OffersBehind};
 ghost use Rattle.engine.specs.Running.{IsCounted};
 ghost use Rattle.dataflow_core.specs.Claims.{IsHeldAt, IsFreshTicket, IsHeldUp, Refuses, MayClaim, Claims, TakesBarrierUnclaimed, EndsFinish, FinishMoves, MayAccept, RefusesAccept, EndsAccepting, AcceptMoves, spent_as};
 ghost use Rattle.dataflow_core.specs.Steps.{IsStep};
@@ -13,7 +13,7 @@ use crate::calls::Core;
 use crate::held::{Claim, claim_of, end_claim, is_busy, keep_claim};
 use crate::jobs::{Done, Job};
 use alignment::Effect;
-use claims::{Work, Worked};
+use claims::{Leavings, Work, Worked};
 use commit_sink::Transactions;
 use engine::CoreFault;
 use engine_model::Rules;
@@ -157,12 +157,18 @@ impl<O: Operator, S: SnapshotStore, X: Transactions, P: Partitions<Record = O::R
         outcome
     }
 
-    /// Offers the work on the record at a place of a sink's input, counted from 0, which is due
-    /// once those before it are taken. It makes no claim, and changes nothing.
-    pub fn offer_ahead(&self, task: u32, input: u32, index: usize) -> Result<Work<O>, CoreFault>
-        ensures { OffersAhead self.now.engine task input index result }
+    /// Offers the work on the records behind the first of a sink's input, in their order and on so
+    /// many at most, each of which is due once those before it are taken. It makes no claim, and
+    /// changes nothing.
+    pub fn offer_behind(
+        &self,
+        task: u32,
+        input: u32,
+        most: usize,
+    ) -> Result<Vec<Work<O>>, CoreFault>
+        ensures { OffersBehind self.now.engine task input most result }
     {
-        self.engine.offer_ahead(task, input, index)
+        self.engine.offer_behind(task, input, most)
     }
 
     /// Whether what was made of a task's work may be taken with no claim.
@@ -196,6 +202,15 @@ impl<O: Operator, S: SnapshotStore, X: Transactions, P: Partitions<Record = O::R
         self.may_accept(task)?;
         self.serials += 1;
         self.engine.accept(task, input, worked)
+    }
+
+    /// Exchanges what results that were taken have left for these leavings, which were let go: who
+    /// gets it lets it go, at any time.
+    pub fn swap_leavings(&mut self, leavings: &mut Leavings<O>)
+        ensures { self.new ≡ self.old }
+    {
+        let Core { engine, .. } = self;
+        engine.swap_leavings(leavings);
     }
 
     /// Whether a task would take a barrier over its claim.

@@ -51,7 +51,7 @@ mod settling;
 
 pub use calls::Core;
 pub use desks::Desk;
-pub use engine::{CoreFault, DeviceCall, Persisted};
+pub use engine::{CopyWork, CoreFault, DeviceCall, Persisted};
 pub use engine_model::Rules;
 pub use engine_settling::Drained;
 pub use engine_steps::Step;

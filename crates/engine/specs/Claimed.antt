@@ -1,6 +1,7 @@
 -- How an engine offers work, and takes what was made of it.
-use Rattle.std.specs.Prelude.{◌≡◌, ℕ, Result, Err, MatchOption}
-use Rattle.claims.specs.Due.{EndsOfferAhead, EndsAccept}
+use Rattle.std.specs.Prelude.{◌≡◌, ℕ, Result, Err, MatchOption, Vec}
+use Rattle.std.specs.declared.alloc.Global.{Global}
+use Rattle.claims.specs.Due.{EndsOfferBehind, EndsAccept}
 use Rattle.claims.specs.declared.parts.Given.{Given}
 use Rattle.claims.specs.declared.parts.Made.{Made}
 use Rattle.engine_model.specs.Language.{Language}
@@ -10,10 +11,10 @@ use Rattle.engine_model.specs.declared.fault.CoreFault.TheVariants.{NotRunning}
 use Rattle.engine.specs.Running.{OnTransactions}
 
 module _ {O R K S : Type 0} where
-  -- while the job runs, the work on the record at a place of a sink's input is offered
-  abbrev pub OffersAhead : State O R K S → (task input index : ℕ) → Result (Given O K S R) CoreFault → Type 0
-  OffersAhead engine task input index result =
-      MatchOption engine.held (result ≡ Err NotRunning) (λ h. EndsOfferAhead engine.graph task input index h result)
+  -- while the job runs, the work on the records behind the first of a sink's input is offered, on so many at most
+  abbrev pub OffersBehind : State O R K S → (task input most : ℕ) → Result (Vec (Given O K S R) Global) CoreFault → Type 0
+  OffersBehind engine task input most result =
+      MatchOption engine.held (result ≡ Err NotRunning) (λ h. EndsOfferBehind engine.graph task input most h result)
 
   -- while the job runs, what was made of work is taken, as the task's work would end
   abbrev pub Accepts : Language R K S O → (old new : State O R K S) → (task input : ℕ) → Made O K S R → Result Unit CoreFault → Type 0

@@ -35,12 +35,13 @@ ghost use Rattle.engine.specs.Running.{IsCounted, IsSameJob, number_of, raised, 
 use crate::tasks::take_barrier;
 use abs_codec::Bytes;
 use alignment::Effect;
+use claims::Leavings;
 use commit_sink::Transactions;
 use engine_checkpoints::{commit, complete, persist, persist_some, trigger};
 use engine_model::{CoreFault, Persisted, Rules};
 use engine_moves::{inject, read_next};
 use job_graph::Graph;
-use job_state::Attempt;
+use job_state::{Attempt, CopyWork};
 use operators::Operator;
 use recovery::restarted;
 use snapshot_store::SnapshotStore;
@@ -67,6 +68,8 @@ pub struct Engine<
     pub(crate) is_fresh: bool,
     /// How many attempts were made: a number below 2^63.
     pub(crate) attempts: u64,
+    /// What results that were taken have left.
+    pub(crate) leavings: Leavings<O>,
 }
 
 impl<O: Operator, S: SnapshotStore, X: Transactions, P: Partitions<Record = O::Record>> Model
@@ -214,6 +217,7 @@ impl<O: Operator, S: SnapshotStore, X: Transactions, P: Partitions<Record = O::R
             attempt: None,
             is_fresh,
             attempts: 0,
+            leavings: Leavings::new(alloc),
         }
     }
 
@@ -398,6 +402,18 @@ impl<O: Operator, S: SnapshotStore, X: Transactions, P: Partitions<Record = O::R
         };
         let outcome = persist(attempt, &self.graph, &mut self.store, task);
         leave(&mut self.attempt, outcome)
+    }
+
+    /// Hands out the work on an operator's copy, to be done by anyone while nothing is held, where
+    /// it has at most `most` entries, and enough to be worth that. `persist_some` takes what comes
+    /// of it.
+    pub fn hand_out(&mut self, task: u32, most: u32) -> Option<CopyWork<O::Key, O::State>>
+        ensures { self.new ≡ self.old }
+    {
+        match &mut self.attempt {
+            Some(attempt) => attempt.hand_out(task, most as usize),
+            None => None,
+        }
     }
 
     /// At most `most` entries of the work on a task's part are done, which nothing shows (`More`);

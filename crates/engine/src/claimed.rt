@@ -12,16 +12,17 @@ ghost use Rattle.engine_model.specs.Sound.{IsSound};
 ghost use Rattle.engine_plain.specs.Plain.{StepsOftenIfOk, Stays};
 ghost use Rattle.claims.specs.Carried.{given_of, records_of};
 ghost use Rattle.claims.specs.Due.{EndsAsking, EndsOffer};
-ghost use Rattle.engine.specs.Claimed.{Accepts, OffersAhead};
+ghost use Rattle.engine.specs.Claimed.{Accepts, OffersBehind};
 ghost use Rattle.engine.specs.Running.{IsCounted, IsSameJob};
 
 use crate::calls::{Engine, leave};
-use claims::{Work, Worked, accept, channel_of, offer, offer_ahead};
+use claims::{Leavings, Work, Worked, accept, channel_of, offer, offer_behind};
 use commit_sink::Transactions;
 use engine_model::{CoreFault, Rules};
 use operators::Operator;
 use snapshot_store::SnapshotStore;
 use source_log::Partitions;
+use std::mem::swap;
 
 impl<O: Operator, S: SnapshotStore, X: Transactions, P: Partitions<Record = O::Record>> Engine<
     O,
@@ -79,15 +80,20 @@ impl<O: Operator, S: SnapshotStore, X: Transactions, P: Partitions<Record = O::R
         )
     }
 
-    /// Offers the work on the record at a place of a sink's input, counted from 0, which is due
-    /// once those before it are taken, and changes nothing.
-    pub fn offer_ahead(&self, task: u32, input: u32, index: usize) -> Result<Work<O>, CoreFault>
-        ensures { OffersAhead self.now task input index result }
+    /// Offers the work on the records behind the first of a sink's input, in their order and on so
+    /// many at most, each of which is due once those before it are taken, and changes nothing.
+    pub fn offer_behind(
+        &self,
+        task: u32,
+        input: u32,
+        most: usize,
+    ) -> Result<Vec<Work<O>>, CoreFault>
+        ensures { OffersBehind self.now task input most result }
     {
         let Some(attempt) = &self.attempt else {
             return Err(CoreFault::NotRunning);
         };
-        offer_ahead(attempt, &self.graph, task, input, index)
+        offer_behind(self.alloc, attempt, &self.graph, task, input, most)
     }
 
     /// Takes what was made of a task's work: its records are worked in turn. Where that work is not
@@ -118,7 +124,16 @@ impl<O: Operator, S: SnapshotStore, X: Transactions, P: Partitions<Record = O::R
             task,
             input,
             worked,
+            &mut self.leavings,
         );
         leave(&mut self.attempt, outcome)
+    }
+
+    /// Exchanges what results that were taken have left for these leavings, which were let go: who
+    /// gets it lets it go, at any time.
+    pub fn swap_leavings(&mut self, leavings: &mut Leavings<O>)
+        ensures { self.new ≡ self.old }
+    {
+        swap(&mut self.leavings, leavings);
     }
 }

@@ -21,5 +21,7 @@ mod rows;
 mod tasks;
 
 pub use calls::Engine;
+pub use claims::Leavings;
 pub use engine_model::{CoreFault, Persisted};
 pub use engine_steps::DeviceCall;
+pub use job_state::CopyWork;

@@ -9,7 +9,7 @@ ghost use Rattle.job_state.specs.Held.{with_logs};
 
 use crate::task::{Kind, Task};
 use abs_codec::{Codec, NoMemory};
-use operator_state::OperatorState;
+use operator_state::{CopyWork, OperatorState};
 use task_part::{Part, write_with_logs};
 
 /// The spelling of the part that a copy is with these logs, in place of what the vector held. What
@@ -61,8 +61,20 @@ impl<R: Codec, K: Codec + Ord, S: Codec> Task<R, K, S> {
         Ok(())
     }
 
-    /// Spells at most so many entries of the copy, or where all are spelled merges at most so many
-    /// later writes, and answers whether there was such work.
+    /// Hands out the work on an operator's copy, where it has at most so many entries, and enough.
+    pub(crate) fn hand_out(&mut self, most: usize) -> Option<CopyWork<K, S>>
+        ensures holding { self.new.holding ≡ self.old.holding }
+        ensures copy { self.new.copy ≡ self.old.copy }
+    {
+        match &mut self.kind {
+            Kind::Operator(states) => states.hand_out(most),
+            _ => None,
+        }
+    }
+
+    /// Takes what was spelled of the copy elsewhere, or spells at most so many entries of it, or
+    /// where all are spelled merges at most so many later writes, and answers whether there was
+    /// such work.
     pub(crate) fn spell_some(&mut self, most: usize) -> Result<bool, NoMemory>
         ensures holding { self.new.holding ≡ self.old.holding }
         ensures copy { self.new.copy ≡ self.old.copy }
@@ -70,6 +82,9 @@ impl<R: Codec, K: Codec + Ord, S: Codec> Task<R, K, S> {
         let Kind::Operator(states) = &mut self.kind else {
             return Ok(false);
         };
+        if states.take_spelled() {
+            return Ok(true);
+        }
         if states.unspelled() > 0 {
             states.spell_some(most)?;
             return Ok(true);

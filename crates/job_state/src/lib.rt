@@ -23,3 +23,4 @@ mod tasks;
 
 pub use attempt::Attempt;
 pub use holding::Holding;
+pub use operator_state::CopyWork;

@@ -9,10 +9,11 @@ ghost use Rattle.job_state.specs.Held.{marked_inputs};
 ghost use Rattle.job_state.specs.Inside.{logged_in};
 
 use crate::attempt::Attempt;
-use crate::tasks::{part, spell_all, spell_part, spell_some};
+use crate::tasks::{hand_out, part, spell_all, spell_part, spell_some};
 use abs_codec::NoMemory;
 use backedge_log::Logs;
 use job_graph::Graph;
+use operator_state::CopyWork;
 use operators::Operator;
 use std::alloc::Global;
 
@@ -50,8 +51,18 @@ impl<O: Operator> Attempt<O> {
     ghost use Rattle.job_state.specs.Held.{copy_at, logs_of, with_logs};
     ghost use Rattle.job_state.specs.contracts.attempt.Attempt.{the_row};
 
-    /// Spells at most so many entries of a task's copy, or where all are spelled merges at most so
-    /// many of its later writes, and answers whether there was such work.
+    /// Hands out the work on an operator's copy, to be done by anyone while nothing is held, where
+    /// it has at most so many entries, enough to be worth that, and none of them is spelled.
+    /// `spell_some` takes what comes of it.
+    pub fn hand_out(&mut self, task: u32, most: usize) -> Option<CopyWork<O::Key, O::State>>
+        ensures { self.new ≡ self.old }
+    {
+        hand_out(&mut self.tasks, task, most)
+    }
+
+    /// Takes what was spelled of a task's copy elsewhere, or spells at most so many entries of it,
+    /// or where all are spelled merges at most so many of its later writes, and answers whether
+    /// there was such work.
     pub fn spell_some(&mut self, task: u32, most: usize) -> Result<bool, NoMemory>
         ensures { self.new ≡ self.old }
     {
@@ -78,7 +89,7 @@ impl<O: Operator> Attempt<O> {
         ensures* stays { sem 𝓛 (Rests (the_row O.row O.Record.row O.Key.row O.State.row
             (record { meaning = O.meaning; Suits = O.Suits }) (record { eq = O.eq })
             O.Record.Codec (record { eq = O.Record.eq }) O.Key.Codec
-            (record { cmp = O.Key.cmp }) (record { eq = O.Key.eq })
+            (record { cmp = O.Key.cmp }) (record {}) (record { eq = O.Key.eq })
             (record { partial_cmp = O.Key.partial_cmp }) O.State.Codec
             (record { eq = O.State.eq })) self.entry (λ new. new ≡ self.old)) }
     {

@@ -22,6 +22,7 @@ use crate::task::Task;
 use abs_codec::{Codec, Items, NoMemory};
 use commit_sink::Sink;
 use keyed_state::SetFault;
+use operator_state::CopyWork;
 use operators::Operator;
 use std::alloc::Global;
 
@@ -181,6 +182,23 @@ pub(crate) fn forget_oldest<R: Codec, K: Codec + Ord, S: Codec>(
     ensures copies { copies_of tasks.new ≡ copies_of tasks.old }
 {
     tasks[task as usize].forget_oldest();
+}
+
+/// Hands out the work on a task's copy, where it has at most so many entries, and enough.
+pub(crate) fn hand_out<R: Codec, K: Codec + Ord, S: Codec>(
+    tasks: &mut [Task<R, K, S>],
+    task: u32,
+    most: usize,
+) -> Option<CopyWork<K, S>>
+    ensures holdings { holdings_of tasks.new ≡ holdings_of tasks.old }
+    ensures copies { copies_of tasks.new ≡ copies_of tasks.old }
+{
+    let place = task as usize;
+    if place < tasks.len() {
+        tasks[place].hand_out(most)
+    } else {
+        None
+    }
 }
 
 /// Spells at most so many entries of a task's copy, or where all are spelled merges at most so many

@@ -15,7 +15,7 @@ ghost use Rattle.keyed_state.specs.declared.comparing.SetFault.TheVariants as Se
 
 use crate::comparing::{SetFault, count_none, exchange_all_in, is_expected};
 use crate::lending::{Lendable, Lent};
-use crate::putting::{insert_in, put_all, put_all_in, put_in_both};
+use crate::putting::{insert_in, make_ready, put_all, put_all_in, put_in_both};
 use abs_codec::{Codec, CodecFault, Map, NoMemory};
 use std::alloc::Global;
 use std::collections::BTreeMap;
@@ -90,6 +90,21 @@ impl<K: Ord, S> KeyedState<K, S> {
         let len = map.len();
         KeyedState {
             base: Lendable::new(map),
+            overlay: BTreeMap::new(alloc),
+            len,
+            is_frozen: false,
+            alloc,
+        }
+    }
+
+    /// A map with these states, which were lent, and with nothing frozen. Those who read them with
+    /// it go on. It takes no memory.
+    pub fn from_lent(alloc: Global, lent: LentStates<K, S>) -> Self
+        ensures { result ≡ record { entries = lent; frozen = None; unmerged = 0 } }
+    {
+        let len = lent.base.value().len();
+        KeyedState {
+            base: Lendable::of_lent(lent.base),
             overlay: BTreeMap::new(alloc),
             len,
             is_frozen: false,
@@ -424,6 +439,21 @@ impl<K: Codec + Ord, S: Codec> KeyedState<K, S> {
         exchange_all_in(self.alloc, &mut self.base, entries, expected)?;
         self.len = self.base.value().len();
         Ok(())
+    }
+
+    /// The frozen map for a reader, who may keep it however the map is written here. `None` where
+    /// no map is frozen, or there is no memory to share it.
+    pub fn lend_frozen(&mut self) -> Option<LentStates<K, S>>
+        ensures lent { IfSome result (λ lent. self.old.frozen ≡ Some lent) }
+        ensures same { self.new ≡ self.old }
+    {
+        if !self.is_frozen() {
+            return None;
+        }
+        make_ready(self.alloc, &mut self.base);
+        Some(LentStates {
+            base: self.base.lend()?,
+        })
     }
 
     /// Keeps the map as it is now beside it, in place of what was frozen before. It takes no

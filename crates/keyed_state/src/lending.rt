@@ -51,6 +51,15 @@ impl<T> Lendable<T> {
         }
     }
 
+    /// The value that was lent, shared with those who read it.
+    pub(crate) fn of_lent(lent: Lent<T>) -> Self
+        ensures { result ≡ lent }
+    {
+        Lendable {
+            kept: Kept::Shared(lent.value),
+        }
+    }
+
     /// The value.
     pub(crate) fn value(&self) -> &T
         ensures { result.now ≡ self.now }

@@ -123,6 +123,14 @@ pub(crate) fn put_all<K: Codec + Ord, S: Drop>(
     done
 }
 
+/// The same map, made ready to be lent where there is memory for that.
+pub(crate) fn make_ready<K: Ord + Drop, S: Drop>(alloc: Global, map: &mut Lendable<Map<K, S>>)
+    ensures { map.new ≡ map.old }
+{
+    let own = replace(map, Lendable::new(Map::new(alloc)));
+    *map = own.ready(alloc);
+}
+
 /// The map, to be written and put back, or a copy of it where others read it. At an `Err` it stays
 /// in its place.
 pub(crate) fn taken<K: Codec + Ord, S: Codec>(

@@ -188,6 +188,25 @@ module _ {K S : Type 0} (cmp : K → K → Ordering) (order : IsTotalOrder cmp) 
     copied_first = λ _. refl;
   })
 
+  -- ---- a copy that someone else has spelled
+
+  -- the copy stays, and is held
+  pub on_taken : (frozen thawed : Option (List (K × S))) (has_copied : Bool) (last next : Option K) (left : ℕ) (before kept : List ℕ) (es : List (K × S)) → Held frozen has_copied last left before → frozen ≡ Some es → Front next es 0 kept → thawed ≡ None → (seen thawed kept ≡ seen frozen before) × Held thawed has_copied next 0 kept
+  on_taken frozen thawed has_copied last next left before kept es h is front none =
+      let were : seen frozen before ≡ es = ap (λ (f : Option (List (K × S))). seen f before) is in
+      let rises : IsStrictlySortedBy cmp (keys_of es) = subst (λ (l : List (K × S)). IsStrictlySortedBy cmp (keys_of l)) were h.rises in
+      let now : seen thawed kept ≡ es = ap (λ (f : Option (List (K × S))). seen f kept) none ∙ read_back next es kept rises front in (
+        now ∙ sym were,
+        record {
+          rises = subst (λ (l : List (K × S)). IsStrictlySortedBy cmp (keys_of l)) (sym now) rises;
+          within = omega arith;
+          front = subst (λ (l : List (K × S)). Front next l 0 kept) (sym now) front;
+          frozen_on = λ _. refl;
+          frozen_off = λ _. none;
+          copied_first = λ _. refl;
+        },
+      )
+
   -- ---- entries that are left
 
   pub left_above : (last : Option K) (es : List (K × S)) (left : ℕ) (bytes : List ℕ) → Front last es left bytes → entries_above cmp last es ≡ drop (length es - left) es

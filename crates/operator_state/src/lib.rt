@@ -5,9 +5,11 @@
 //! An [`OperatorState`] is a `keyed_state::KeyedState` and a vector of bytes. `copy` freezes the
 //! map: no entry is copied for it. `spell_some` appends the spelling of the next entries of the
 //! frozen map to the vector, in the order of their keys, and after the last of them the map is
-//! thawed. What was written since is merged by `merge_some`. `spell_logs` puts the logs behind the
-//! entries, so that a part is held once, and a later call puts others there. `part` gives the
-//! bytes.
+//! thawed. `hand_out` gives the frozen map to someone else to spell, while the task is not held,
+//! and `take_spelled` takes what came of it: a rule over the line between the two says that it
+//! spells this copy. What was written since is merged by `merge_some`. `spell_logs` puts the logs
+//! behind the entries, so that a part is held once, and a later call puts others there. `part`
+//! gives the bytes.
 //!
 //! With n entries:
 //!
@@ -15,11 +17,16 @@
 //!   that first, and where entries of an earlier copy are not spelled yet, it copies all n;
 //! - `spell_some` of k entries takes k times a time logarithmic in n, the time and memory of their
 //!   spelling, and one copy of a key. What a call cannot spell in full, it takes back;
+//! - `hand_out` takes constant time, and the memory of the line and of a counter. Whoever spells the
+//!   copy holds it until then, and takes the time and memory of spelling all n. `take_spelled` takes
+//!   constant time and no memory;
 //! - `spell_logs` takes the time and memory of the spelling of the logs;
 //! - `get`, `set`, `set_all` and `merge_some` are those of `KeyedState`, and all else takes
 //!   constant time and no memory.
 #![tactic(auto)]
 
+mod handed;
 mod operator_state;
 
+pub use handed::CopyWork;
 pub use operator_state::OperatorState;

@@ -1,6 +1,6 @@
 //! States by key, and the copy for the pending checkpoint as far as it is spelled.
 
-ghost use Rattle.std.specs.Prelude.{◌≡◌, ◌≤◌, ◌+◌, ◌-◌, ◌++◌, ℕ, List, [], take, drop, length, is_some, Some, None, Err, IsTrue, IsOk, OnOk, OnErr, IfOk, IfSome, if◌then◌else◌};
+ghost use Rattle.std.specs.Prelude.{◌≡◌, ◌≤◌, ◌+◌, ◌-◌, ◌++◌, ℕ, List, [], take, drop, length, is_some, false, Some, None, Err, IsTrue, IsOk, OnOk, OnErr, IfOk, IfSome, if◌then◌else◌};
 ghost use Rattle.std.specs.Option.{option_copied, option_or};
 ghost use Rattle.std.specs.List.Sorted.{IsStrictlySortedBy};
 ghost use Rattle.std.specs.List.{All, flat_map};
@@ -12,10 +12,11 @@ ghost use Rattle.abs_codec.specs.Same.{EqualIsSame};
 ghost use Rattle.keyed_state.specs.Comparing.{HaveStates};
 ghost use Rattle.keyed_state.specs.KeyedMap.{entries_above, frozen_entries};
 ghost use Rattle.keyed_state.specs.declared.comparing.SetFault.TheVariants as SetFault;
-ghost use Rattle.operator_state.specs.Spelled.{Begins};
+ghost use Rattle.operator_state.specs.Spelled.{Begins, IsFront};
 ghost use Rattle.task_part.specs.declared.part.Part.TheVariants as Part;
 ghost use Rattle.task_part.specs.Spelling.{logs_now, part_spelling, PartIsSpelled};
 
+use crate::handed::{CopyWork, Sheet, Side};
 use abs_codec::{Codec, Map, NoMemory};
 use keyed_state::{KeyedState, LentStates, SetFault};
 use std::alloc::Global;
@@ -24,6 +25,9 @@ use task_part::{write_count, write_logs};
 
 /// So many bytes are taken past an entry at once, for those that come next.
 const ROOM: usize = 1_024;
+
+/// A copy of fewer entries is not handed out: to spell it takes less than to hand it over.
+const FEW: usize = 256;
 
 /// The states of an operator by key, and its copy for the pending checkpoint.
 #[derive(Drop)]
@@ -40,10 +44,12 @@ pub struct OperatorState<K: Codec + Ord, S: Codec> {
     bytes: Vec<u8>,
     /// How many bytes the part has up to that entry.
     end: usize,
+    /// The task's side of the line to who spells the frozen map, if that was handed out.
+    handed: Option<Side<K, S>>,
 }
 
 impl<K: Codec + Ord, S: Codec> Model for OperatorState<K, S> {
-    ghost use Rattle.std.specs.Prelude.{◌≤◌, Some, None, take, length, if◌then◌else◌};
+    ghost use Rattle.std.specs.Prelude.{◌≡◌, ◌≤◌, Some, None, take, length, IfSome, if◌then◌else◌};
     ghost use Rattle.operator_state.specs.Operating.{Operating};
     ghost use Rattle.operator_state.specs.Spelled.{copied, IsHeld};
 
@@ -58,7 +64,8 @@ impl<K: Codec + Ord, S: Codec> Model for OperatorState<K, S> {
       part = o.bytes.items;
     } };
 
-    ghost invariant = { λ o. (o.end ≤ length o.bytes.items)
+    ghost invariant = { λ o. ((o.end ≤ length o.bytes.items)
+        × IfSome o.handed (λ side. o.states.frozen ≡ Some side))
         × IsHeld K.Ord.cmp K.HasSpelling K.spelling S.HasSpelling S.spelling o.states.frozen
         (copied K.Ord.cmp K.reading S.reading o.states.frozen (take o.end o.bytes.items))
         o.has_copied o.last o.left (take o.end o.bytes.items) };
@@ -196,7 +203,62 @@ impl<K: Codec + Ord, S: Codec> OperatorState<K, S> {
             left: 0,
             bytes: Vec::new(alloc),
             end: 0,
+            handed: None,
         }
+    }
+
+    /// These states, which were lent, and no copy. It takes no memory.
+    fn from_lent(alloc: Global, lent: LentStates<K, S>) -> Self
+        ensures { result ≡ record {
+          entries = lent;
+          copy = None;
+          unspelled = 0;
+          unmerged = 0;
+          part = [];
+        } }
+    {
+        OperatorState {
+            alloc,
+            states: KeyedState::from_lent(alloc, lent),
+            has_copied: false,
+            last: None,
+            left: 0,
+            bytes: Vec::new(alloc),
+            end: 0,
+            handed: None,
+        }
+    }
+
+    /// The front of the part that these states are, with all of them, and the key of the last.
+    pub(crate) fn spelled(
+        alloc: Global,
+        lent: LentStates<K, S>,
+    ) -> Result<(Option<K>, Vec<u8>), NoMemory>
+        ensures { IfOk result (λ front. IsFront K.Ord.cmp K.HasSpelling K.spelling S.HasSpelling
+            S.spelling front.0 lent 0 front.1.items) }
+    {
+        let mut whole = OperatorState::from_lent(alloc, lent);
+        whole.copy()?;
+        whole.spell_some(FEW)?;
+        let unspelled = whole.unspelled();
+        whole.spell_some(unspelled)?;
+        Ok(whole.into_front())
+    }
+
+    /// The front of the part, and the key of the last entry that is spelled.
+    fn into_front(self) -> (Option<K>, Vec<u8>)
+        requires { self.unspelled ≡ 0 }
+        ensures { (copy : List (K × S)) → self.copy ≡ Some copy → IsFront K.Ord.cmp K.HasSpelling
+            K.spelling S.HasSpelling S.spelling result.0 copy 0 result.1.items }
+    {
+        let OperatorState {
+            last,
+            mut bytes,
+            end,
+            ..
+        } = self;
+        bytes.truncate(end);
+        (last, bytes)
     }
 
     /// The state at a key, among those that are seen.
@@ -295,6 +357,7 @@ impl<K: Codec + Ord, S: Codec> OperatorState<K, S> {
         ensures unmerged { self.new.unmerged ≤ self.old.unmerged }
     {
         self.states.freeze()?;
+        self.handed = None;
         self.has_copied = true;
         self.last = None;
         self.left = self.states.len();
@@ -321,6 +384,7 @@ impl<K: Codec + Ord, S: Codec> OperatorState<K, S> {
         } }
     {
         self.states.thaw();
+        self.handed = None;
         self.has_copied = false;
         self.last = None;
         self.left = 0;
@@ -364,9 +428,48 @@ impl<K: Codec + Ord, S: Codec> OperatorState<K, S> {
         self.left -= count;
         self.end = self.bytes.len();
         if self.left == 0 {
+            self.handed = None;
             self.states.thaw();
         }
         Ok(())
+    }
+
+    /// Hands out the work on the copy, to be done by someone else, where it has at most so many
+    /// entries, and some, and none of them is spelled. Whoever does it leaves what he has spelled
+    /// to `take_spelled`. It takes the memory of a line between the two.
+    pub fn hand_out(&mut self, most: usize) -> Option<CopyWork<K, S>>
+        ensures { self.new ≡ self.old }
+    {
+        if self.left < FEW || self.left > most || self.last.is_some() || self.handed.is_some() {
+            return None;
+        }
+        let lent = self.states.lend_frozen()?;
+        let Ok((side, work)) = CopyWork::on(self.alloc, lent, self.left) else {
+            return None;
+        };
+        self.handed = Some(side);
+        Some(work)
+    }
+
+    /// Takes what was spelled of the copy by someone else, if it is there, and says whether it was.
+    pub fn take_spelled(&mut self) -> bool
+        ensures taken { IsTrue result
+            → self.new ≡ record self.old { unspelled = 0; part = self.new.part } }
+        ensures none { result ≡ false → self.new ≡ self.old }
+    {
+        let Some(side) = &mut self.handed else {
+            return false;
+        };
+        let Some(Sheet::Written(last, bytes)) = side.take() else {
+            return false;
+        };
+        self.end = bytes.len();
+        self.bytes = bytes;
+        self.last = last;
+        self.left = 0;
+        self.states.thaw();
+        self.handed = None;
+        true
     }
 
     /// Merges at most so many of the later writes, and none while entries of the copy are still to

@@ -14,5 +14,5 @@ mod turns;
 
 pub use fault::RunFault;
 pub use inputs::Place;
-pub use schedule::{Schedule, Step};
+pub use schedule::{HandedOut, Schedule, Step};
 pub use turns::Turns;

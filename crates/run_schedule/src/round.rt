@@ -140,6 +140,18 @@ impl Round {
         let _ = self.to_inject.pop_front();
     }
 
+    /// The first copy, which has so many pieces, is written elsewhere.
+    pub(crate) fn handed_out(&mut self, pieces: u64) {
+        self.steps_left = 0;
+        self.pieces = self.pieces.saturating_add(pieces);
+        let _ = self.to_persist.pop_front();
+    }
+
+    /// A copy was written elsewhere, and comes first.
+    pub(crate) fn handed_in(&mut self, task: u32) {
+        let _ = self.to_persist.push_front(task);
+    }
+
     /// Work on the first copy has gone on, and more is left of it.
     pub(crate) fn has_more(&mut self) {
         self.pieces = self.pieces.saturating_add(1);

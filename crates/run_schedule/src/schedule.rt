@@ -58,6 +58,13 @@ pub(crate) struct Node {
     pub(crate) worker: u32,
 }
 
+/// A task's copy that is written elsewhere, since the job was restarted so often.
+#[derive(Clone, Copy, PartialEq, Eq, Debug)]
+pub struct HandedOut {
+    task: u32,
+    restarts: u64,
+}
+
 impl Node {
     /// After so many records the ends are marked: about a batch for each, which counts as eight
     /// records at least, and no fewer than there are ends, so that a mark costs the same however
@@ -113,6 +120,8 @@ pub struct Schedule {
     every: u64,
     /// How many were since the last one.
     finished: u64,
+    /// How often the job was restarted.
+    restarts: u64,
     /// Whether a restart comes next.
     is_down: bool,
     /// Whether every input was marked since a step was last made.
@@ -145,6 +154,7 @@ impl Schedule {
             batch: 1,
             every: 0,
             finished: 0,
+            restarts: 0,
             is_down: true,
             is_searched: false,
             is_last: false,
@@ -329,6 +339,7 @@ impl Schedule {
     /// The job is up, and anything may be anywhere.
     pub(crate) fn restarted(&mut self) {
         self.is_down = false;
+        self.restarts = self.restarts.wrapping_add(1);
         self.claims = 0;
         self.ahead = 0;
         self.finished = 0;
@@ -529,6 +540,39 @@ impl Schedule {
     pub(crate) fn has_more(&mut self) {
         self.is_searched = false;
         self.round.has_more();
+    }
+
+    /// Whether the next copy may be written elsewhere: where copies are not late, and the task
+    /// holds no claim.
+    pub(crate) fn may_hand_out(&self, task: u32) -> bool {
+        let node = self.nodes.get(task as usize);
+        !self.round.is_late() && node.is_some_and(|node| !node.is_busy)
+    }
+
+    /// A worker writes the next copy, a task's, which has so many pieces. The task works no record
+    /// meanwhile.
+    pub(crate) fn handed_out(&mut self, worker: u32, task: u32, pieces: u64) -> HandedOut {
+        self.is_searched = false;
+        self.round.handed_out(pieces);
+        self.claims = self.claims.saturating_add(1);
+        if let Some(node) = self.nodes.get_mut(task as usize) {
+            node.worker = worker;
+        }
+        self.set_busy(task, true);
+        HandedOut {
+            task,
+            restarts: self.restarts,
+        }
+    }
+
+    /// A copy was written elsewhere. One from before a restart is dropped.
+    pub(crate) fn handed_in(&mut self, copy: HandedOut) {
+        if copy.restarts != self.restarts {
+            return;
+        }
+        self.is_searched = false;
+        self.unclaimed(copy.task);
+        self.round.handed_in(copy.task);
     }
 
     /// The next part is in the store: now, or it was before.

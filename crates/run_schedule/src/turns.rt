@@ -4,7 +4,7 @@ ghost use Rattle.std.specs.Prelude.{◌≤◌};
 
 use crate::fault::RunFault;
 use crate::inputs::Place;
-use crate::schedule::{Schedule, Step};
+use crate::schedule::{HandedOut, Schedule, Step};
 use alignment::Effect;
 use engine_model::{CoreFault, Persisted};
 
@@ -201,6 +201,22 @@ impl Turns {
             }
             Err(fault) => self.refused(Step::Work(place), fault),
         }
+    }
+
+    /// Whether a task's copy, for which its part's turn has come, may be written by a worker with
+    /// nothing held.
+    pub fn may_hand_out(&self, task: u32) -> bool {
+        self.schedule.may_hand_out(task)
+    }
+
+    /// A worker writes this copy, which has so many pieces, with nothing held.
+    pub fn handed_out(&mut self, worker: u32, task: u32, pieces: u64) -> HandedOut {
+        self.schedule.handed_out(worker, task, pieces)
+    }
+
+    /// A worker has written a copy, as far as there was memory for that.
+    pub fn handed_in(&mut self, copy: HandedOut) {
+        self.schedule.handed_in(copy);
     }
 
     /// What came of a call for a task's part.

@@ -1,9 +1,9 @@
 //! A task's job, with the work on what comes behind it.
 
 use claims::{Work, Worked};
-use dataflow_core::{Done, Job};
+use dataflow_core::{CopyWork, Done, Job};
 use operators::Operator;
-use run_schedule::Place;
+use run_schedule::{HandedOut, Place};
 use std::alloc::Global;
 
 /// A claimed job, and where its task is a sink, the work on the records behind the job's own.
@@ -20,6 +20,31 @@ pub(crate) struct DoneBatch<O: Operator> {
     pub(crate) place: Place,
     pub(crate) done: Done<O>,
     pub(crate) ahead: Vec<Worked<O>>,
+}
+
+/// A task's copy, to be spelled with no lock held.
+#[derive(Drop)]
+pub(crate) struct Spelling<O: Operator> {
+    pub(crate) copy: HandedOut,
+    pub(crate) work: CopyWork<O::Key, O::State>,
+}
+
+/// What a worker hands in.
+#[derive(Drop)]
+pub(crate) enum Finished<O: Operator> {
+    /// What was done of a job.
+    Batch(DoneBatch<O>),
+    /// A copy was spelled, and its bytes are left to its task.
+    Copy(HandedOut),
+}
+
+impl<O: Operator> Spelling<O> {
+    /// Does the work.
+    pub(crate) fn run(self, alloc: Global) -> HandedOut {
+        let Spelling { copy, work } = self;
+        work.run(alloc);
+        copy
+    }
 }
 
 impl<O: Operator> Batch<O> {

@@ -5,7 +5,7 @@ ghost use Rattle.std.specs.Prelude.{◌≡◌, ◌⊎◌, ◌≤◌, ◌<◌, Is
 ghost use Rattle.std.specs.Option.{option_map};
 ghost use Rattle.abs_codec.specs.Spelling.{Fits};
 ghost use Rattle.commit_sink.specs.Ledger.{committed_rows};
-ghost use Rattle.engine.specs.Claimed.{OffersAhead};
+ghost use Rattle.engine.specs.Claimed.{OffersBehind};
 ghost use Rattle.engine_model.specs.ExactlyOnce.{IsExactlyOnce};
 ghost use Rattle.engine_model.specs.LastCommitted.{committed_of, complete_numbers};
 ghost use Rattle.engine_model.specs.Sound.{IsSound};
@@ -114,12 +114,18 @@ impl<
         self.core.claim_some(task, input, most)
     }
 
-    /// Offers the work on the record at a place of a sink's input, counted from 0, which is due
-    /// once those before it are taken. What was made of it is handed in by `accept_with`.
-    pub fn offer_ahead(&self, task: u32, input: u32, index: usize) -> Result<Work<O>, CoreFault>
-        ensures { OffersAhead self.now.core.engine task input index result }
+    /// Offers the work on the records behind the first of a sink's input, in their order and on so
+    /// many at most, each of which is due once those before it are taken. What was made of each is
+    /// handed in by `accept_with`, in that order.
+    pub fn offer_behind(
+        &self,
+        task: u32,
+        input: u32,
+        most: usize,
+    ) -> Result<Vec<Work<O>>, CoreFault>
+        ensures { OffersBehind self.now.core.engine task input most result }
     {
-        self.core.offer_ahead(task, input, index)
+        self.core.offer_behind(task, input, most)
     }
 
     /// A task that holds no claim takes the barrier at the head of its input.

@@ -2,10 +2,11 @@
 
 ghost use Rattle.std.specs.Prelude.{◌≡◌, ◌+◌, ◌≤◌, ◌<◌, ◌^◌, IfOk, vec_len};
 
-use crate::batch::{Batch, DoneBatch};
+use crate::batch::{Batch, Finished, Spelling};
 use crate::patience::Patience;
 use crate::pause::Pause;
 use crate::station::{Next, Station};
+use claims::Leavings;
 use commit_sink::Transactions;
 use operators::Operator;
 use run_schedule::RunFault;
@@ -67,8 +68,9 @@ impl<L: Ledger> Worker<L> {
         pause: &H,
     ) {
         let mut worked = None;
+        let mut leavings = Leavings::new(alloc);
         for _ in 0..turns {
-            match self.take_turns(rt, alloc, station, worked.take()) {
+            match self.take_turns(rt, alloc, station, worked.take(), &mut leavings) {
                 Next::Over => return,
                 Next::Idle => self.idled(rt, station),
                 Next::Again => self.made(rt, station),
@@ -78,18 +80,51 @@ impl<L: Ledger> Worker<L> {
                 }
                 Next::Run(batch) => {
                     worked = self.run_job(rt, alloc, station, turns, pause, batch);
-                    if self.patience.is_tired() {
-                        self.hand_in(&mut station.lock(rt), worked.take());
-                        self.rests(rt, station, true);
-                    }
+                    worked = self.rests_if_tired(rt, station, worked);
                 }
+                Next::Spell(spelling) => worked = Some(self.spell(rt, alloc, spelling)),
             }
         }
         self.hand_in(&mut station.lock(rt), worked);
     }
 
-    /// Hands in what was done of the last job, if there is something, and takes turns in the same
-    /// hold of the lock.
+    /// A worker that is tired hands in what was done, and rests, where another one is awake. What
+    /// was done, where it is not.
+    fn rests_if_tired<
+        O: Operator,
+        S: SnapshotStore + Drop,
+        X: Transactions + Drop,
+        P: Partitions<Record = O::Record> + Drop,
+        W: Wait + Drop,
+        R: Wait + Clock,
+    >(
+        &mut self,
+        rt: &R,
+        station: &Mutex<Station<O, S, X, P, L, W>>,
+        worked: Option<Finished<O>>,
+    ) -> Option<Finished<O>> {
+        if !self.patience.is_tired() {
+            return worked;
+        }
+        self.hand_in(&mut station.lock(rt), worked);
+        self.rests(rt, station, true);
+        None
+    }
+
+    /// Spells a task's copy with no lock held.
+    fn spell<O: Operator, R: Clock>(
+        &mut self,
+        rt: &R,
+        alloc: Global,
+        spelling: Spelling<O>,
+    ) -> Finished<O> {
+        let copy = spelling.run(alloc);
+        self.patience.ran_job(rt);
+        Finished::Copy(copy)
+    }
+
+    /// Hands in what was done last, if there is something, and takes turns in the same hold of the
+    /// lock. What results have left is let go after it.
     fn take_turns<
         O: Operator,
         S: SnapshotStore + Drop,
@@ -102,14 +137,17 @@ impl<L: Ledger> Worker<L> {
         rt: &R,
         alloc: Global,
         station: &Mutex<Station<O, S, X, P, L, W>>,
-        worked: Option<DoneBatch<O>>,
+        worked: Option<Finished<O>>,
+        leavings: &mut Leavings<O>,
     ) -> Next<O> {
         let mut held = station.lock(rt);
         self.patience.has_lock(rt);
         self.hand_in(&mut held, worked);
         let (next, before, left) = held.choose_some(alloc, self.number);
+        held.swap_leavings(leavings);
         drop(held);
         self.patience.gave_lock(rt);
+        leavings.let_go();
         self.patience.took_turns(before, left);
         next
     }
@@ -183,7 +221,7 @@ impl<L: Ledger> Worker<L> {
         turns: u64,
         pause: &H,
         batch: Batch<O>,
-    ) -> Option<DoneBatch<O>> {
+    ) -> Option<Finished<O>> {
         let (attempt, serial) = (batch.job.attempt(), batch.job.serial());
         for _ in 0..turns {
             if pause.before_run(attempt, serial) {
@@ -196,26 +234,29 @@ impl<L: Ledger> Worker<L> {
         let done = batch.run(alloc);
         pause.after_run(attempt, serial);
         self.patience.ran_job(rt);
-        Some(done)
+        Some(Finished::Batch(done))
     }
 
-    /// Hands in what was done of a task's job, if there is something.
+    /// Hands in what was done, if there is something.
     fn hand_in<
         O: Operator,
         S: SnapshotStore + Drop,
         X: Transactions + Drop,
         P: Partitions<Record = O::Record> + Drop,
         W: Wait + Drop,
-    >(&mut self, station: &mut Station<O, S, X, P, L, W>, worked: Option<DoneBatch<O>>) {
-        let Some(batch) = worked else {
-            return;
-        };
-        let Worker {
-            share,
-            finished,
-            ..
-        } = self;
-        *finished += station.take_batch(share, batch);
+    >(&mut self, station: &mut Station<O, S, X, P, L, W>, worked: Option<Finished<O>>) {
+        match worked {
+            Some(Finished::Batch(batch)) => {
+                let Worker {
+                    share,
+                    finished,
+                    ..
+                } = self;
+                *finished += station.take_batch(share, batch);
+            }
+            Some(Finished::Copy(copy)) => station.handed_in(copy),
+            None => {}
+        }
     }
 }
 

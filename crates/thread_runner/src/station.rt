@@ -1,24 +1,25 @@
 //! What stands behind the lock: the core, the book of totals, the turns of the present run, and
 //! the output writer, if there are readers.
 
-ghost use Rattle.std.specs.Prelude.{◌≡◌, ◌+◌, ◌<◌, ◌≤◌, ◌^◌, [], ⊤, None, IfOk, IfErr, MatchOption, MatchResult, length, replicate};
+ghost use Rattle.std.specs.Prelude.{◌≡◌, ◌⊎◌, ◌+◌, ◌-◌, ◌<◌, ◌≤◌, ◌^◌, [], ⊤, None, Ok, IfOk, IfErr, MatchOption, MatchResult, length, replicate};
 ghost use Rattle.std.specs.Option.{option_map};
 ghost use Rattle.claims.specs.Carried.{given_of, records_of};
 ghost use Rattle.dataflow_core.specs.Claims.{EndsFinish, FinishMoves, EndsAccepting, AcceptMoves};
 ghost use Rattle.dataflow_core.specs.Steps.{IsStep, Preserves};
+ghost use Rattle.engine.specs.Claimed.{OffersBehind};
 ghost use Rattle.output_readers.specs.Seeing.{IsOpening};
 ghost use Rattle.row_publishing.specs.Showing.{Begin, AreCommitted, Shows};
 ghost use Rattle.thread_runner.specs.Standing.{ClaimsOnce};
 
-use crate::batch::{Batch, DoneBatch};
-use claims::{Work, Worked};
+use crate::batch::{Batch, DoneBatch, Spelling};
+use claims::{Leavings, Work, Worked};
 use commit_sink::Transactions;
 use counted_finishes::{accept_counted, finish_counted};
 use dataflow_core::{Core, CoreFault, Done, Rules};
 use operators::Operator;
 use output_readers::{OutputFault, OutputReader, OutputWriter, Told};
 use row_publishing::show_committed;
-use run_schedule::{Place, RunFault, Schedule, Step, Turns};
+use run_schedule::{HandedOut, Place, RunFault, Schedule, Step, Turns};
 use snapshot_store::SnapshotStore;
 use source_log::Partitions;
 use std::alloc::Global;
@@ -28,6 +29,9 @@ use std::sync::ledger::{Blank, Book, Ledger, Share};
 
 /// So many entries of the work on a task's part are done in one turn.
 const ENTRIES_A_TURN: u32 = 256;
+
+/// A copy of at most so many entries is spelled with no lock held, while its task waits.
+const MOST_HANDED_OUT: u32 = 64 * ENTRIES_A_TURN;
 
 /// So many turns are taken in one hold of the lock, at most.
 const TURNS_A_HOLD: u64 = 64;
@@ -45,6 +49,8 @@ pub(crate) enum Next<O: Operator> {
     Publish,
     /// This task's job, with no lock held.
     Run(Batch<O>),
+    /// This task's copy is spelled, with no lock held.
+    Spell(Spelling<O>),
 }
 
 /// The core with all that belongs to it.
@@ -415,6 +421,20 @@ impl<
         (next, before, left)
     }
 
+    /// Exchanges what results that were taken have left for these leavings, which were let go.
+    pub(crate) fn swap_leavings(&mut self, leavings: &mut Leavings<O>)
+        ensures { self.new ≡ self.old }
+    {
+        self.core.swap_leavings(leavings);
+    }
+
+    /// A worker has spelled a copy.
+    pub(crate) fn handed_in(&mut self, copy: HandedOut)
+        ensures { self.new ≡ self.old }
+    {
+        self.turns.handed_in(copy);
+    }
+
     /// What came of a task's job of so many records.
     pub(crate) fn finished(&mut self, task: u32, outcome: Result<(), CoreFault>, records: u64)
         ensures { self.new ≡ self.old }
@@ -477,7 +497,7 @@ fn take_turn<O: Operator, S: SnapshotStore, X: Transactions, P: Partitions<Recor
         Step::Look => Next::Again,
         Step::Work(place) => claim(alloc, core, turns, worker, place),
         Step::Read(task) => read(core, turns, task),
-        Step::Persist(task) => persist(core, turns, task),
+        Step::Persist(task) => persist(core, turns, worker, task),
         step => {
             turns.made(step, make(core, step));
             if ends_commits(core, step) {
@@ -531,26 +551,21 @@ fn claim<O: Operator, S: SnapshotStore, X: Transactions, P: Partitions<Record = 
 }
 
 /// The work on the records behind the first of a sink's input, so that it is on so many with the
-/// first. Of an operator's there is none.
+/// first, or none where memory is refused. Of an operator's there is none.
 fn work_ahead<O: Operator, S: SnapshotStore, X: Transactions, P: Partitions<Record = O::Record>>(
     alloc: Global,
     core: &Core<O, S, X, P>,
     place: Place,
     most: u32,
-) -> Vec<Work<O>> {
-    let mut ahead = Vec::new(alloc);
-    for index in 1..most as usize {
-        let Ok(work) = core.offer_ahead(place.task, place.input, index) else {
-            break;
-        };
-        if ahead.is_empty() {
-            let _ = ahead.reserve(most as usize);
-        }
-        if ahead.push(work).is_err() {
-            break;
-        }
+) -> Vec<Work<O>>
+    ensures { (result.items ≡ [])
+        ⊎ OffersBehind core.now.engine place.task place.input (most - 1) (Ok result) }
+{
+    let behind = most.saturating_sub(1) as usize;
+    match core.offer_behind(place.task, place.input, behind) {
+        Ok(works) => works,
+        Err(_) => Vec::new(alloc),
     }
-    ahead
 }
 
 /// A source sends its next records: as many as the turns say, at most.
@@ -584,18 +599,42 @@ fn read_some<O: Operator, S: SnapshotStore, X: Transactions, P: Partitions<Recor
     (most, Ok(()))
 }
 
-/// Goes on with the work on a task's part, or puts it in the store.
+/// Hands out a task's copy, goes on with the work on its part, or puts that in the store.
 fn persist<O: Operator, S: SnapshotStore, X: Transactions, P: Partitions<Record = O::Record>>(
     core: &mut Core<O, S, X, P>,
     turns: &mut Turns,
+    worker: u32,
     task: u32,
 ) -> Next<O>
     ensures once { ClaimsOnce core.old core.new }
     ensures step { Preserves ⟦<O as Rules>⟧.all core.old.engine core.new.engine }
 {
-    let outcome = core.persist_some(task, ENTRIES_A_TURN);
-    turns.persisted(task, outcome);
-    Next::Again
+    match hand_out(core, turns, worker, task) {
+        Some(spelling) => Next::Spell(spelling),
+        None => {
+            let outcome = core.persist_some(task, ENTRIES_A_TURN);
+            turns.persisted(task, outcome);
+            Next::Again
+        }
+    }
+}
+
+/// Hands out a task's copy, where it may be spelled with no lock held, and is worth that.
+fn hand_out<O: Operator, S: SnapshotStore, X: Transactions, P: Partitions<Record = O::Record>>(
+    core: &mut Core<O, S, X, P>,
+    turns: &mut Turns,
+    worker: u32,
+    task: u32,
+) -> Option<Spelling<O>>
+    ensures { core.new ≡ core.old }
+{
+    if !turns.may_hand_out(task) {
+        return None;
+    }
+    let work = core.hand_out(task, MOST_HANDED_OUT)?;
+    let pieces = work.entries() as u64 / ENTRIES_A_TURN as u64;
+    let copy = turns.handed_out(worker, task, pieces);
+    Some(Spelling { copy, work })
 }
 
 /// Makes a step that is no record's, and no call for a task's part.

@@ -16,7 +16,7 @@ operate-requires g c = λ lifetimes lives.
 pub returns-in-Ok-clause-ends : goal.returns-in-Ok-clause-ends
 returns-in-Ok-clause-ends g c = λ ledger.
     let on = c.in-Some.ensures.some.1 in
-    takes_outcomes (rules_of g.O.Operator g.O.Key.Ord g.O.Record.Codec g.O.Key.Codec g.O.State.Codec) c.args.graph.now c.args.operators.now c.args.task c.args.input c.args.attempt.now c.in-Some.channel _ ledger c.args.operand
+    takes_outcomes (rules_of g.O.Operator g.O.Key.Ord g.O.Record.Codec g.O.Key.Codec g.O.State.Codec) c.args.graph.now c.args.operators.now c.args.task c.args.input c.args.attempt.now c.in-Some.channel _ ledger c.args.operand.now
     (record {
       number = on.number;
       entries = c.in-Some.ensures.some.0;
@@ -56,8 +56,8 @@ returns-then-has_states-clause-ends g c = λ ledger.
       refl,
     )
 
-pub returns-clause-ends : goal.returns-clause-ends
-returns-clause-ends g c = λ ledger.
+pub returns-else-has_states-clause-ends : goal.returns-else-has_states-clause-ends
+returns-else-has_states-clause-ends g c = λ ledger.
     let err = c.in-Err-Memory.ensures.err in (
       λ due. false≢true (sym c.if-has_states.false ∙ (c.has_states.ensures due.1.entries (ap (λ h. slice_get h.tasks c.args.task) err ∙ due.1.was)).1 due.1.same_states),
       err,

@@ -1,4 +1,5 @@
-use Rattle.std.proofs.Common.{◌+◌, arith}
+use Rattle.std.proofs.Common.{◌+◌, [], sym, refl, arith, append-nil}
+use Rattle.commit_sink.specs.Ledger.{committed_rows}
 use Rattle.engine_model.proofs.Calls.Commits.{keeps_commit}
 use Rattle.engine.proofs.Serving.{reaches}
 use Rattle.engine_plain.proofs.PlainCommits.{plain_commit}
@@ -47,3 +48,13 @@ returns-clause-counted g c =
     rw (← c.self.view_is, c.leave.ensures.answer)
     (commit_counts s.graph c.args.sink c.in-Some.attempt new.attempt (P.fault_count s.log + S.fault_count s.store + X.fault_count s.transactions) (P.fault_count s.log + S.fault_count s.store + X.fault_count new.transactions) (X.state s.transactions) (X.state new.transactions) c.commit-outcome.result c.commit-outcome.ensures.ends
     (λ is. omega (arith, c.commit-outcome.ensures.counted is)) (λ other. omega (arith, c.commit-outcome.ensures.told other)))
+
+pub returns-in_default-clause-begins : goal.returns-in_default-clause-begins
+returns-in_default-clause-begins g c =
+    rw (← c.self.view_is)
+    (λ task subtask at. ([], sym (append-nil (committed_rows (g.X.Transactions.state c.self.inside.transactions) subtask))))
+
+pub returns-clause-ends : goal.returns-clause-ends
+returns-clause-ends g c =
+    rw (← c.self.view_is, c.in-Some.is, c.leave.ensures.left, c.leave.ensures.answer)
+    (c.commit-outcome.new.attempt, c.commit-outcome.ensures.ends, refl)

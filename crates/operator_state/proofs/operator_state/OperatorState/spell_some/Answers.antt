@@ -11,7 +11,7 @@ invariant_of-self-then-self-eq0 g c =
     let front = spelled_on g.K.Ord.cmp g.met.K.Ord.total g.K.Codec.HasSpelling g.K.Codec.spelling g.K.Codec.reading g.met.K.Codec.code g.S.Codec.HasSpelling g.S.Codec.spelling g.S.Codec.reading g.met.S.Codec.code c.self.inside.states.frozen c.self.inside.has_copied c.self.inside.last c.in_ok-self-inside.field-0 c.self.inside.left c.min-count.result (take c.self.inside.end c.self.inside.bytes.items) c.begin.new.out.items c.write_next.new.out.items c.self.invariant.1 some le c.take_room.new.out.items _ (c.take_room.ensures ∙ c.truncate.ensures.items) c.as_ref.ensures.value c.in_ok-begin.ensures.begun done.appended done.spelled done.others in
     let all : take c.len-self-inside.result c.write_next.new.out.items ≡ c.write_next.new.out.items = take_all c.len-self-inside.result c.write_next.new.out.items (omega (arith, c.len-self-inside.ensures)) in
     let held = on_thawed g.K.Ord.cmp g.met.K.Ord.total g.K.Codec.HasSpelling g.K.Codec.spelling g.K.Codec.reading g.met.K.Codec.code g.S.Codec.HasSpelling g.S.Codec.spelling g.S.Codec.reading g.met.S.Codec.code c.self.inside.states.frozen c.self.inside.has_copied c.self.inside.last c.in_ok-self-inside.field-0 c.self.inside.left c.min-count.result (take c.self.inside.end c.self.inside.bytes.items) c.begin.new.out.items c.write_next.new.out.items c.self.invariant.1 some le front (take c.len-self-inside.result c.write_next.new.out.items) all c.thaw.new.self.frozen (ap (λ m. m.frozen) c.thaw.ensures) c.if-self-eq0.true in
-    (omega (arith, c.len-self-inside.ensures), held.1)
+    ((omega (arith, c.len-self-inside.ensures), tt), held.1)
 
 pub invariant_of-self-else-self-eq0 : goal.invariant_of-self-else-self-eq0
 invariant_of-self-else-self-eq0 g c =
@@ -21,7 +21,7 @@ invariant_of-self-else-self-eq0 g c =
     let front = spelled_on g.K.Ord.cmp g.met.K.Ord.total g.K.Codec.HasSpelling g.K.Codec.spelling g.K.Codec.reading g.met.K.Codec.code g.S.Codec.HasSpelling g.S.Codec.spelling g.S.Codec.reading g.met.S.Codec.code c.self.inside.states.frozen c.self.inside.has_copied c.self.inside.last c.in_ok-self-inside.field-0 c.self.inside.left c.min-count.result (take c.self.inside.end c.self.inside.bytes.items) c.begin.new.out.items c.write_next.new.out.items c.self.invariant.1 some le c.take_room.new.out.items _ (c.take_room.ensures ∙ c.truncate.ensures.items) c.as_ref.ensures.value c.in_ok-begin.ensures.begun done.appended done.spelled done.others in
     let all : take c.len-self-inside.result c.write_next.new.out.items ≡ c.write_next.new.out.items = take_all c.len-self-inside.result c.write_next.new.out.items (omega (arith, c.len-self-inside.ensures)) in
     let held = on_frozen g.K.Ord.cmp g.met.K.Ord.total g.K.Codec.HasSpelling g.K.Codec.spelling g.K.Codec.reading g.met.K.Codec.code g.S.Codec.HasSpelling g.S.Codec.spelling g.S.Codec.reading g.met.S.Codec.code c.self.inside.states.frozen c.self.inside.has_copied c.self.inside.last c.in_ok-self-inside.field-0 c.self.inside.left c.min-count.result (take c.self.inside.end c.self.inside.bytes.items) c.begin.new.out.items c.write_next.new.out.items c.self.invariant.1 some le front (take c.len-self-inside.result c.write_next.new.out.items) all (omega (arith, c.if-self-eq0.false)) in
-    (omega (arith, c.len-self-inside.ensures), held.1)
+    ((omega (arith, c.len-self-inside.ensures), c.self.invariant.0.1), held.1)
 
 pub returns-then-self-eq0-clause-ok : goal.returns-then-self-eq0-clause-ok
 returns-then-self-eq0-clause-ok g c =

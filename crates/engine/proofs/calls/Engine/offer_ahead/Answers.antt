@@ -1,4 +1,0 @@
-use Rattle.engine.proofs.calls.Engine.offer_ahead.Goals as goal
-
-pub returns : goal.returns
-returns g c = rw (← c.self.view_is, c.in-Some.is) c.offer_ahead.ensures
