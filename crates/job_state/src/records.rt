@@ -83,7 +83,8 @@ impl<O: Operator> Attempt<O> {
     /// An operator takes the first records of an input, which is this channel, keeps the last state
     /// of each key, and sends what all of them send: as it would one after another. The records are
     /// logged where the task's gate logs the input. Nothing changes where memory is refused, or
-    /// where a key has another state than the one that is expected, if any are.
+    /// where a key has another state than the one that is expected, if any are. What is left of the
+    /// states is to be let go.
     pub fn operate_some(
         &mut self,
         graph: &Graph,
@@ -91,7 +92,7 @@ impl<O: Operator> Attempt<O> {
         input: u32,
         channel: u32,
         count: usize,
-        states: Vec<(O::Key, O::State)>,
+        states: &mut Vec<(O::Key, O::State)>,
         expected: Option<&[Option<O::State>]>,
         sent: Vec<(u32, O::Record)>,
     ) -> Result<(), SetFault>
@@ -104,20 +105,20 @@ impl<O: Operator> Attempt<O> {
         requires counted { count ≡ length turns }
         requires first { StandFirst channel (rows_of turns) self.old }
         // Each key stands once.
-        requires rising { IsStrictlySortedBy O.Key.cmp (keys_of states.items) }
-        requires states { AreLastStates O.meaning.same_key turns states.items }
+        requires rising { IsStrictlySortedBy O.Key.cmp (keys_of states.old.items) }
+        requires states { AreLastStates O.meaning.same_key turns states.old.items }
         requires sent { sent.items ≡ sent_by turns }
         ensures ok { OnOk result (OperatesEach O.meaning O.Key.cmp graph.now task input channel
             turns self.old self.new) }
         ensures expected { 0 < count → (entries : List (O.Key × O.State))
             → slice_get self.old.tasks task ≡ Some (Holding.Operator entries)
-            → OnOk result (HaveExpected O.Key.cmp entries (keys_of states.items)
+            → OnOk result (HaveExpected O.Key.cmp entries (keys_of states.old.items)
             (option_copied expected.entry)) }
         // What is told of the states is so.
         ensures changed { (entries : List (O.Key × O.State))
             → slice_get self.old.tasks task ≡ Some (Holding.Operator entries)
             → result ≡ Err SetFault.Changed → ¬ HaveExpected O.Key.cmp entries
-            (keys_of states.items) (option_copied expected.entry) }
+            (keys_of states.old.items) (option_copied expected.entry) }
         ensures err { OnErr result (self.new ≡ self.old) }
     {
         if count == 0 {
@@ -132,7 +133,7 @@ impl<O: Operator> Attempt<O> {
             task,
             sent,
         )?;
-        keep_all(&mut self.tasks, task, states, expected)?;
+        keep_all(self.alloc, &mut self.tasks, task, states, expected)?;
         pass_on_all(
             &mut self.channels,
             &mut self.logs,

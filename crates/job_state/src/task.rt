@@ -22,6 +22,7 @@ use operator_state::OperatorState;
 use operators::Operator;
 use std::alloc::Global;
 use std::marker::Model;
+use std::mem::replace;
 use task_part::Part;
 
 /// A source or a sink with its copy, or an operator's states, which keep their copy by themselves.
@@ -51,26 +52,29 @@ impl<R: Codec, K: Codec + Ord, S: Codec> Model for Task<R, K, S> {
 }
 
 /// Gives each of these keys, which rise, its state. It gives none where memory is refused, or where
-/// a key has another state than the one that is expected, if any are.
+/// a key has another state than the one that is expected, if any are. What is left in the list is
+/// to be let go.
 fn set_expected<K: Codec + Ord, S: Codec + Eq>(
+    alloc: Global,
     kept: &mut OperatorState<K, S>,
-    states: Vec<(K, S)>,
+    states: &mut Vec<(K, S)>,
     expected: Option<&[Option<S>]>,
 ) -> Result<(), SetFault>
     requires exact { EqualIsSame S.Eq.eq }
-    requires rising { IsStrictlySortedBy K.Ord.cmp (keys_of states.items) }
+    requires rising { IsStrictlySortedBy K.Ord.cmp (keys_of states.old.items) }
     ensures states { OnOk result ((q : K) → value_at K.Ord.cmp kept.new.entries q
-        ≡ option_or (value_at K.Ord.cmp states.items q) (value_at K.Ord.cmp kept.old.entries q)) }
+        ≡ option_or (value_at K.Ord.cmp states.old.items q)
+        (value_at K.Ord.cmp kept.old.entries q)) }
     ensures expected { OnOk result (HaveExpected K.Ord.cmp kept.old.entries
-        (keys_of states.items) (option_copied expected.entry)) }
+        (keys_of states.old.items) (option_copied expected.entry)) }
     ensures changed { result ≡ Err SetFault.Changed → ¬ HaveExpected K.Ord.cmp
-        kept.old.entries (keys_of states.items) (option_copied expected.entry) }
+        kept.old.entries (keys_of states.old.items) (option_copied expected.entry) }
     ensures copy { kept.new.copy ≡ kept.old.copy }
     ensures err { OnErr result (kept.new ≡ kept.old) }
 {
     match expected {
         Some(former) => kept.compare_and_set_all(states, former),
-        None => Ok(kept.set_all(states)?),
+        None => Ok(kept.set_all(replace(states, Vec::new(alloc)))?),
     }
 }
 
@@ -199,10 +203,12 @@ impl<R: Codec, K: Codec + Ord, S: Codec> Task<R, K, S> {
     }
 
     /// An operator keeps these states, whose keys rise. It keeps none of them where memory is
-    /// refused, or where a key has another state than the one that is expected, if any are.
+    /// refused, or where a key has another state than the one that is expected, if any are. What is
+    /// left in the list is to be let go.
     pub(crate) fn keep_all(
         &mut self,
-        states: Vec<(K, S)>,
+        alloc: Global,
+        states: &mut Vec<(K, S)>,
         expected: Option<&[Option<S>]>,
     ) -> Result<(), SetFault>
     where
@@ -210,20 +216,20 @@ impl<R: Codec, K: Codec + Ord, S: Codec> Task<R, K, S> {
         requires exact { EqualIsSame S.Eq.eq }
         requires holds { (entries : List (K × S)) × (self.old.holding
             ≡ Holding.Operator entries) }
-        requires rising { IsStrictlySortedBy K.Ord.cmp (keys_of states.items) }
-        ensures ok { OnOk result (KeepsAll K.Ord.cmp states.items self.old.holding
+        requires rising { IsStrictlySortedBy K.Ord.cmp (keys_of states.old.items) }
+        ensures ok { OnOk result (KeepsAll K.Ord.cmp states.old.items self.old.holding
             self.new.holding) }
         ensures expected { (entries : List (K × S)) → self.old.holding ≡ Holding.Operator entries
-            → OnOk result (HaveExpected K.Ord.cmp entries (keys_of states.items)
+            → OnOk result (HaveExpected K.Ord.cmp entries (keys_of states.old.items)
             (option_copied expected.entry)) }
         ensures changed { (entries : List (K × S)) → self.old.holding ≡ Holding.Operator entries
             → result ≡ Err SetFault.Changed → ¬ HaveExpected K.Ord.cmp entries
-            (keys_of states.items) (option_copied expected.entry) }
+            (keys_of states.old.items) (option_copied expected.entry) }
         ensures copy { self.new.copy ≡ self.old.copy }
         ensures err { OnErr result (self.new ≡ self.old) }
     {
         if let Kind::Operator(kept) = &mut self.kind {
-            set_expected(kept, states, expected)?;
+            set_expected(alloc, kept, states, expected)?;
         }
         Ok(())
     }

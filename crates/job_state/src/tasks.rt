@@ -141,32 +141,35 @@ pub(crate) fn keep<O: Operator>(
 }
 
 /// An operator keeps these states, whose keys rise. It keeps none of them where memory is refused,
-/// or where a key has another state than the one that is expected, if any are.
+/// or where a key has another state than the one that is expected, if any are. What is left in the
+/// list is to be let go.
 pub(crate) fn keep_all<R: Codec, K: Codec + Ord, S: Codec + Eq>(
+    alloc: Global,
     tasks: &mut [Task<R, K, S>],
     task: u32,
-    states: Vec<(K, S)>,
+    states: &mut Vec<(K, S)>,
     expected: Option<&[Option<S>]>,
 ) -> Result<(), SetFault>
     requires exact { EqualIsSame S.Eq.eq }
     requires there { task < length tasks.old }
     requires holds { (entries : List (K × S)) × (slice_get (holdings_of tasks.old) task
         ≡ Some (Holding.Operator entries)) }
-    requires rising { IsStrictlySortedBy K.Ord.cmp (keys_of states.items) }
+    requires rising { IsStrictlySortedBy K.Ord.cmp (keys_of states.old.items) }
     ensures ok { OnOk result ((before after : Holding K S)
         × (slice_get (holdings_of tasks.old) task ≡ Some before)
         × (holdings_of tasks.new ≡ slice_set (holdings_of tasks.old) task after)
-        × KeepsAll K.Ord.cmp states.items before after) }
+        × KeepsAll K.Ord.cmp states.old.items before after) }
     ensures expected { (entries : List (K × S)) → slice_get (holdings_of tasks.old) task
         ≡ Some (Holding.Operator entries) → OnOk result (HaveExpected K.Ord.cmp entries
-        (keys_of states.items) (option_copied expected.entry)) }
+        (keys_of states.old.items) (option_copied expected.entry)) }
     ensures changed { (entries : List (K × S)) → slice_get (holdings_of tasks.old) task
         ≡ Some (Holding.Operator entries) → result ≡ Err SetFault.Changed
-        → ¬ HaveExpected K.Ord.cmp entries (keys_of states.items) (option_copied expected.entry) }
+        → ¬ HaveExpected K.Ord.cmp entries (keys_of states.old.items)
+        (option_copied expected.entry) }
     ensures copies { copies_of tasks.new ≡ copies_of tasks.old }
     ensures err { OnErr result (holdings_of tasks.new ≡ holdings_of tasks.old) }
 {
-    tasks[task as usize].keep_all(states, expected)
+    tasks[task as usize].keep_all(alloc, states, expected)
 }
 
 /// A sink's oldest pre-committed transaction is forgotten.

@@ -164,11 +164,11 @@ fn former_of<S: Drop>(state: S, expected: &Option<S>) -> Option<S>
 /// no memory.
 fn exchange_back<K: Ord + Drop, S: Drop>(
     map: &mut BTreeMap<K, S>,
-    mut entries: Vec<(K, S)>,
+    entries: &mut Vec<(K, S)>,
     expected: &[Option<S>],
 )
     ensures { map.new.entries
-        ≡ undone K.cmp (notes_of entries.items expected.now) map.old.entries }
+        ≡ undone K.cmp (notes_of entries.old.items expected.now) map.old.entries }
 {
     while let Some((key, state)) = entries.pop() {
         if let Some(first) = expected_at(expected, entries.len()) {
@@ -178,23 +178,23 @@ fn exchange_back<K: Ord + Drop, S: Drop>(
 }
 
 /// Gives each of these keys, which rise, its state, or none of them where memory is refused or a
-/// state is not the expected one.
+/// state is not the expected one. What is left in the list is to be let go.
 fn exchange_all<K: Codec + Ord, S: Codec + Eq>(
     map: &mut BTreeMap<K, S>,
-    mut entries: Vec<(K, S)>,
+    entries: &mut Vec<(K, S)>,
     expected: &[Option<S>],
 ) -> Result<(), SetFault>
     requires exact { EqualIsSame S.Eq.eq }
-    requires rising { IsStrictlySortedBy K.Ord.cmp (keys_of entries.items) }
+    requires rising { IsStrictlySortedBy K.Ord.cmp (keys_of entries.old.items) }
     ensures ok { OnOk result (map.new.entries
-        ≡ put_over K.Ord.cmp map.old.entries entries.items) }
+        ≡ put_over K.Ord.cmp map.old.entries entries.old.items) }
     ensures expected { OnOk result (HaveStates K.Ord.cmp map.old.entries
-        (keys_of entries.items) expected.now) }
+        (keys_of entries.old.items) expected.now) }
     ensures changed { result ≡ Err SetFault.Changed
-        → ¬ HaveStates K.Ord.cmp map.old.entries (keys_of entries.items) expected.now }
+        → ¬ HaveStates K.Ord.cmp map.old.entries (keys_of entries.old.items) expected.now }
     ensures err { OnErr result (map.new.entries ≡ map.old.entries) }
 {
-    if let Err((count, fault)) = exchange_each(map, &mut entries, expected) {
+    if let Err((count, fault)) = exchange_each(map, entries, expected) {
         entries.truncate(count);
         exchange_back(map, entries, expected);
         return Err(fault);
@@ -203,20 +203,21 @@ fn exchange_all<K: Codec + Ord, S: Codec + Eq>(
 }
 
 /// Gives each of these keys, which rise, its state, or none of them where memory is refused or a
-/// state is not the expected one. The map itself is not copied where nobody reads it.
+/// state is not the expected one. What is left in the list is to be let go. The map itself is not
+/// copied where nobody reads it.
 pub(crate) fn exchange_all_in<K: Codec + Ord, S: Codec + Eq>(
     alloc: Global,
     map: &mut Lendable<Map<K, S>>,
-    entries: Vec<(K, S)>,
+    entries: &mut Vec<(K, S)>,
     expected: &[Option<S>],
 ) -> Result<(), SetFault>
     requires exact { EqualIsSame S.Eq.eq }
-    requires rising { IsStrictlySortedBy K.Ord.cmp (keys_of entries.items) }
-    ensures ok { OnOk result (map.new ≡ put_over K.Ord.cmp map.old entries.items) }
-    ensures expected { OnOk result (HaveStates K.Ord.cmp map.old (keys_of entries.items)
+    requires rising { IsStrictlySortedBy K.Ord.cmp (keys_of entries.old.items) }
+    ensures ok { OnOk result (map.new ≡ put_over K.Ord.cmp map.old entries.old.items) }
+    ensures expected { OnOk result (HaveStates K.Ord.cmp map.old (keys_of entries.old.items)
         expected.now) }
     ensures changed { result ≡ Err SetFault.Changed
-        → ¬ HaveStates K.Ord.cmp map.old (keys_of entries.items) expected.now }
+        → ¬ HaveStates K.Ord.cmp map.old (keys_of entries.old.items) expected.now }
     ensures err { OnErr result (map.new ≡ map.old) }
 {
     let is_many = entries.len() >= MANY;

@@ -21,6 +21,7 @@ use std::alloc::Global;
 use std::collections::BTreeMap;
 use std::collections::btree_map::Range;
 use std::marker::Model;
+use std::mem::replace;
 use std::ops::Bound;
 
 /// A map from key to state, and the map as it was when it was frozen.
@@ -370,31 +371,31 @@ impl<K: Codec + Ord, S: Codec> KeyedState<K, S> {
 
     /// Gives each of these keys, which rise, its state, where each has the one that is expected of
     /// it, `None` where it has none. Else, and where memory is refused, none is given. The frozen
-    /// map stays.
+    /// map stays. What is left in the list is to be let go.
     pub fn compare_and_set_all(
         &mut self,
-        entries: Vec<(K, S)>,
+        entries: &mut Vec<(K, S)>,
         expected: &[Option<S>],
     ) -> Result<(), SetFault>
     where
         S: Eq,
         // States that compare equal are one.
         requires exact { EqualIsSame S.Eq.eq }
-        requires rising { IsStrictlySortedBy K.Ord.cmp (keys_of entries.items) }
+        requires rising { IsStrictlySortedBy K.Ord.cmp (keys_of entries.old.items) }
         ensures entries { OnOk result
-            (self.new.entries ≡ put_over K.Ord.cmp self.old.entries entries.items) }
+            (self.new.entries ≡ put_over K.Ord.cmp self.old.entries entries.old.items) }
         ensures states { OnOk result ((q : K) → value_at K.Ord.cmp self.new.entries q
-            ≡ option_or (value_at K.Ord.cmp entries.items q)
+            ≡ option_or (value_at K.Ord.cmp entries.old.items q)
             (value_at K.Ord.cmp self.old.entries q)) }
         ensures expected { OnOk result (HaveStates K.Ord.cmp self.old.entries
-            (keys_of entries.items) expected.now) }
+            (keys_of entries.old.items) expected.now) }
         // What is told of the states is so.
         ensures changed { result ≡ Err SetFault.Changed → ¬ HaveStates K.Ord.cmp
-            self.old.entries (keys_of entries.items) expected.now }
+            self.old.entries (keys_of entries.old.items) expected.now }
         ensures frozen { self.new.frozen ≡ self.old.frozen }
         // Only a frozen map has more to merge after it.
         ensures unmerged { self.new.unmerged ≤ self.old.unmerged
-            + (if is_some self.old.frozen then length entries.items else 0) }
+            + (if is_some self.old.frozen then length entries.old.items else 0) }
         ensures none_merged { self.old.unmerged ≤ self.new.unmerged }
         ensures ordered { IsStrictlySortedBy K.Ord.cmp (keys_of self.new.entries) }
         ensures err { OnErr result (self.new ≡ self.old) }
@@ -402,13 +403,14 @@ impl<K: Codec + Ord, S: Codec> KeyedState<K, S> {
         if !self.is_frozen && self.overlay.is_empty() {
             return self.exchange_all_alone(entries, expected);
         }
-        if !self.has_states(&entries, expected) {
+        if !self.has_states(entries, expected) {
             return Err(SetFault::Changed);
         }
         // A key is new where none is expected.
         let Some(len) = self.len().checked_add(count_none(expected)) else {
             return Err(SetFault::Memory);
         };
+        let entries = replace(entries, Vec::new(self.alloc));
         self.set_all_beside(entries, len)?;
         Ok(())
     }
@@ -417,7 +419,7 @@ impl<K: Codec + Ord, S: Codec> KeyedState<K, S> {
     /// no other map is kept beside the one that is seen: each key is looked up once.
     fn exchange_all_alone(
         &mut self,
-        entries: Vec<(K, S)>,
+        entries: &mut Vec<(K, S)>,
         expected: &[Option<S>],
     ) -> Result<(), SetFault>
     where
@@ -425,13 +427,13 @@ impl<K: Codec + Ord, S: Codec> KeyedState<K, S> {
         requires none_frozen { self.old.frozen ≡ None }
         requires none_left { self.old.unmerged ≡ 0 }
         requires exact { EqualIsSame S.Eq.eq }
-        requires rising { IsStrictlySortedBy K.Ord.cmp (keys_of entries.items) }
+        requires rising { IsStrictlySortedBy K.Ord.cmp (keys_of entries.old.items) }
         ensures entries { OnOk result
-            (self.new.entries ≡ put_over K.Ord.cmp self.old.entries entries.items) }
+            (self.new.entries ≡ put_over K.Ord.cmp self.old.entries entries.old.items) }
         ensures expected { OnOk result (HaveStates K.Ord.cmp self.old.entries
-            (keys_of entries.items) expected.now) }
+            (keys_of entries.old.items) expected.now) }
         ensures changed { result ≡ Err SetFault.Changed → ¬ HaveStates K.Ord.cmp
-            self.old.entries (keys_of entries.items) expected.now }
+            self.old.entries (keys_of entries.old.items) expected.now }
         ensures stays { self.new ≡ record self.old { entries = self.new.entries } }
         ensures ordered { IsStrictlySortedBy K.Ord.cmp (keys_of self.new.entries) }
         ensures err { OnErr result (self.new ≡ self.old) }

@@ -312,28 +312,28 @@ impl<K: Codec + Ord, S: Codec> OperatorState<K, S> {
 
     /// Gives each of these keys, which rise, its state, where each has the one that is expected of
     /// it, `None` where it has none. Else, and where memory is refused, none is given. The copy
-    /// stays.
+    /// stays. What is left in the list is to be let go.
     pub fn compare_and_set_all(
         &mut self,
-        states: Vec<(K, S)>,
+        states: &mut Vec<(K, S)>,
         expected: &[Option<S>],
     ) -> Result<(), SetFault>
     where
         S: Eq,
         // States that compare equal are one.
         requires exact { EqualIsSame S.Eq.eq }
-        requires rising { IsStrictlySortedBy K.Ord.cmp (keys_of states.items) }
+        requires rising { IsStrictlySortedBy K.Ord.cmp (keys_of states.old.items) }
         ensures states { OnOk result ((q : K) → value_at K.Ord.cmp self.new.entries q
-            ≡ option_or (value_at K.Ord.cmp states.items q)
+            ≡ option_or (value_at K.Ord.cmp states.old.items q)
             (value_at K.Ord.cmp self.old.entries q)) }
         ensures expected { OnOk result (HaveStates K.Ord.cmp self.old.entries
-            (keys_of states.items) expected.now) }
+            (keys_of states.old.items) expected.now) }
         // What is told of the states is so.
         ensures changed { result ≡ Err SetFault.Changed → ¬ HaveStates K.Ord.cmp
-            self.old.entries (keys_of states.items) expected.now }
+            self.old.entries (keys_of states.old.items) expected.now }
         ensures copy { self.new.copy ≡ self.old.copy }
         ensures unspelled { self.new.unspelled ≡ self.old.unspelled }
-        ensures unmerged { self.new.unmerged ≤ self.old.unmerged + length states.items }
+        ensures unmerged { self.new.unmerged ≤ self.old.unmerged + length states.old.items }
         // Only a copy that is not spelled yet has more to merge after it.
         ensures all_spelled { self.old.unspelled ≡ 0 → self.new.unmerged ≡ self.old.unmerged }
         ensures none_merged { self.old.unmerged ≤ self.new.unmerged }

@@ -13,7 +13,7 @@ loop-key-preserved g c =
     let entry : g.row.K.Denot × g.row.S.Denot = (c.in-Some.key, c.in-Some.state) in
     let xs = c.args.expected.now in
     let popped = ap (λ (l : List (g.row.K.Denot × g.row.S.Denot)). notes_of l xs) c.in-Some.ensures.items in
-    let whole = undone cmp (notes_of c.args.entries.items xs) c.args.map.now.entries in
+    let whole = undone cmp (notes_of c.args.entries.now.items xs) c.args.map.now.entries in
     let count : c.len.result ≡ length rest = omega (arith, c.len.ensures) in
     elim c.match-expected_at.branch [
       | in-Some-expected_at w ↦

@@ -121,9 +121,9 @@ returns-clause-ok g c =
     let logs_it = c.is_logged-logged.ensures ∙ ap (λ gates. is_logged (gate_in gates c.args.task) c.args.input) c.deref.ensures.value in
     let law = equal_keys order meaning.same_key g.met.O.Operator.same_key in
     all_are_each meaning g.O.Key.Ord.cmp law c.args.graph.now c.args.task c.args.input channel g.turns c.args.self.now _ (omega (arith, counted, c.if-count-eq0.false)) given.0 stands_first
-    (operates_all_from meaning c.args.graph.now c.args.task g.O.Key.Ord.cmp c.args.input channel c.args.count g.turns c.args.states.items c.args.sent.items _ c.args.self.now _ kept.0 kept.1 _ _ c.self.view_is
+    (operates_all_from meaning c.args.graph.now c.args.task g.O.Key.Ord.cmp c.args.input channel c.args.count g.turns c.args.states.now.items c.args.sent.items _ c.args.self.now _ kept.0 kept.1 _ _ c.self.view_is
     (ap (λ l. slice_get (holdings_of l) c.args.task) (sym stands) ∙ kept.2) kept.4
-    (keeps_in_turn order meaning.same_key g.met.O.Operator.same_key g.turns c.args.states.items kept.4.entries kept.4.kept rising last kept.4.keeps)
+    (keeps_in_turn order meaning.same_key g.met.O.Operator.same_key g.turns c.args.states.now.items kept.4.entries kept.4.kept rising last kept.4.keeps)
     counted sends
     (puts_at _ _ (ap (λ l. without_first c.args.count channel l) stood) (ap (λ l. contents_items l) (sym passed)) (λ k. ap (put_into k) c.in_ok-deliveries.ensures.puts ∙ received_is_put meaning c.args.graph.now c.args.task c.args.sent.items k) c.pass_on_all.ensures.puts)
     (c.pass_on_all.ensures.came ∙ c.reserve_log.ensures.came)

@@ -13,7 +13,7 @@ use Rattle.keyed_state.proofs.keyed_map.KeyedState.compare_and_set_all.Goals as 
 
 pub returns-then-is_empty-clause-states : goal.returns-then-is_empty-clause-states
 returns-then-is_empty-clause-states g c =
-    states_put g.met.K.Ord.total c.exchange_all_alone.result c.args.self.now.entries c.args.entries.items c.exchange_all_alone.new.self.entries c.requires.rising c.exchange_all_alone.ensures.entries
+    states_put g.met.K.Ord.total c.exchange_all_alone.result c.args.self.now.entries c.args.entries.now.items c.exchange_all_alone.new.self.entries c.requires.rising c.exchange_all_alone.ensures.entries
 
 pub returns-then-is_empty-clause-expected : goal.returns-then-is_empty-clause-expected
 returns-then-is_empty-clause-expected g c = c.exchange_all_alone.ensures.expected
@@ -40,7 +40,8 @@ returns-in_err-set_all_beside-clause-changed g c = λ is same.
 pub set_all_beside-requires-clause-len : goal.set_all_beside-requires-clause-len
 set_all_beside-requires-clause-len g c =
     let seen = subst (λ es. HaveStates g.K.Ord.cmp c.args.self.now.entries (keys_of es) c.args.expected.now) c.deref.ensures.value (c.has_states.ensures.0 c.if-not-has_states.false) in
-    c.in-Some.ensures.1 ∙ ap₂ (λ a b. a + b) c.len.ensures.len (c.count_none.ensures ∙ none_expected g.K.Ord.cmp c.args.self.now.entries c.args.entries.items c.args.expected.now seen)
+    let counted = c.in-Some.ensures.1 ∙ ap₂ (λ a b. a + b) c.len.ensures.len (c.count_none.ensures ∙ none_expected g.K.Ord.cmp c.args.self.now.entries c.args.entries.now.items c.args.expected.now seen) in
+    rw c.replace-entries.ensures.value counted
 
 pub returns-clause-expected : goal.returns-clause-expected
 returns-clause-expected g c =
