@@ -45,7 +45,7 @@ fn has_uncompared<O: Operator>(
 }
 
 /// An operator's records are taken, which are due where the task has the states that the work was
-/// given, with what it made of them.
+/// given, with what it made of them. The states that the task had are kept, to be let go later.
 fn operate<O: Operator>(
     attempt: &mut Attempt<O>,
     graph: &Graph,
@@ -54,6 +54,7 @@ fn operate<O: Operator>(
     channel: u32,
     operand: &Operand<O, O::Key, O::State, O::Record>,
     outcomes: Outcomes<O::Key, O::State, O::Record>,
+    leavings: &mut Leavings<O>,
 ) -> Result<(), SetFault>
     ghost turns: { List (Turn O.Record O.Key O.State) }
     requires shape { (operators : List O) × (entries : List (O.Key × O.State))
@@ -77,16 +78,19 @@ fn operate<O: Operator>(
         return Err(SetFault::Changed);
     }
     let count = operand.rows.len();
-    attempt.operate_some(
+    let mut states = outcomes.states;
+    let end = attempt.operate_some(
         graph,
         task,
         input,
         channel,
         count,
-        outcomes.states,
+        &mut states,
         expected,
         outcomes.sent,
-    )
+    );
+    leavings.keep_states(states);
+    end
 }
 
 /// An operator's outcomes are taken. Its states are compared as they are kept, or where memory is
@@ -100,6 +104,7 @@ fn accept_outcomes<O: Operator>(
     input: u32,
     operand: &Operand<O, O::Key, O::State, O::Record>,
     outcomes: Outcomes<O::Key, O::State, O::Record>,
+    leavings: &mut Leavings<O>,
 ) -> Result<(), CoreFault>
     requires serves { (ledger : Ledger) × Serves ⟦<O as Rules>⟧.all
         graph.now operators.now ledger attempt.old }
@@ -112,7 +117,9 @@ fn accept_outcomes<O: Operator>(
     let Some(channel) = records_channel(attempt, graph, operators, task, input, operand) else {
         return Err(CoreFault::WrongResult);
     };
-    match operate(attempt, graph, task, input, channel, operand, outcomes) {
+    match operate(
+        attempt, graph, task, input, channel, operand, outcomes, leavings,
+    ) {
         Ok(()) => Ok(()),
         Err(SetFault::Changed) => Err(CoreFault::WrongResult),
         Err(SetFault::Memory) => {
@@ -220,7 +227,9 @@ pub fn accept<O: Operator, X: Transactions>(
     match worked.made {
         Made::Operator(load, outcomes) => {
             let operand = load.get();
-            let end = accept_outcomes(attempt, graph, operators, task, input, operand, outcomes);
+            let end = accept_outcomes(
+                attempt, graph, operators, task, input, operand, outcomes, leavings,
+            );
             leavings.keep(load);
             end
         }

@@ -7,11 +7,12 @@ use std::alloc::Global;
 /// So much is kept at most. What is left beyond that is let go at once.
 const MOST: usize = 64;
 
-/// What results that were taken leave: records that were worked, and states that were expected,
-/// which may own memory. Whoever holds it lets them go when he likes.
+/// What results that were taken leave: records that were worked, states that were expected, and
+/// states that tasks had before, which may own memory. Whoever holds it lets them go when he likes.
 #[derive(Drop)]
 pub struct Leavings<O: Operator> {
     loads: Vec<Load<O, O::Key, O::State, O::Record>>,
+    states: Vec<Vec<(O::Key, O::State)>>,
 }
 
 impl<O: Operator> Leavings<O> {
@@ -19,6 +20,7 @@ impl<O: Operator> Leavings<O> {
     pub fn new(alloc: Global) -> Self {
         Leavings {
             loads: Vec::new(alloc),
+            states: Vec::new(alloc),
         }
     }
 
@@ -29,8 +31,16 @@ impl<O: Operator> Leavings<O> {
         }
     }
 
+    /// Keeps the states that a task had, if there are some and there is room for them.
+    pub(crate) fn keep_states(&mut self, states: Vec<(O::Key, O::State)>) {
+        if self.states.len() < MOST && !states.is_empty() {
+            let _ = self.states.push(states);
+        }
+    }
+
     /// Lets all of it go, and keeps the room.
     pub fn let_go(&mut self) {
         self.loads.clear();
+        self.states.clear();
     }
 }

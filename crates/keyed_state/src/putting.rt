@@ -227,64 +227,8 @@ fn put_both_noting<K: Codec + Ord, S: Drop>(
     Ok(())
 }
 
-/// Gives this key its state, if there is one, or not where memory is refused: in the overlay where
-/// that has the key, else in the base.
-fn put_only_in_both<K: Codec + Ord, S: Drop>(
-    base: &mut BTreeMap<K, S>,
-    overlay: &mut BTreeMap<K, S>,
-    mut entries: Vec<(K, S)>,
-) -> Result<(), NoMemory>
-    requires base_rises { IsStrictlySortedBy K.Ord.cmp (keys_of base.old.entries) }
-    requires overlay_rises { IsStrictlySortedBy K.Ord.cmp (keys_of overlay.old.entries) }
-    requires only { length entries.items < 2 }
-    ensures ok { OnOk result (put_over K.Ord.cmp base.new.entries overlay.new.entries ≡ put_over
-        K.Ord.cmp (put_over K.Ord.cmp base.old.entries overlay.old.entries) entries.items) }
-    ensures base_rises { IsStrictlySortedBy K.Ord.cmp (keys_of base.new.entries) }
-    ensures overlay_rises { IsStrictlySortedBy K.Ord.cmp (keys_of overlay.new.entries) }
-    ensures overlay_grows_not { length overlay.new.entries ≡ length overlay.old.entries }
-    ensures base_stays { OnErr result (base.new.entries ≡ base.old.entries) }
-    ensures overlay_stays { OnErr result (overlay.new.entries ≡ overlay.old.entries) }
-{
-    if let Some((key, state)) = entries.pop() {
-        if overlay.contains_key(&key) {
-            overlay.insert(key, state)?;
-        } else {
-            base.insert(key, state)?;
-        }
-    }
-    Ok(())
-}
-
 /// Gives each of these keys its state, or none of them where memory is refused: in the overlay
-/// where that has the key, else in the base.
-fn put_all_in_both<K: Codec + Ord, S: Drop>(
-    alloc: Global,
-    base: &mut BTreeMap<K, S>,
-    overlay: &mut BTreeMap<K, S>,
-    entries: Vec<(K, S)>,
-) -> Result<(), NoMemory>
-    requires base_rises { IsStrictlySortedBy K.Ord.cmp (keys_of base.old.entries) }
-    requires overlay_rises { IsStrictlySortedBy K.Ord.cmp (keys_of overlay.old.entries) }
-    ensures ok { OnOk result (put_over K.Ord.cmp base.new.entries overlay.new.entries ≡ put_over
-        K.Ord.cmp (put_over K.Ord.cmp base.old.entries overlay.old.entries) entries.items) }
-    ensures base_rises { IsStrictlySortedBy K.Ord.cmp (keys_of base.new.entries) }
-    ensures overlay_rises { IsStrictlySortedBy K.Ord.cmp (keys_of overlay.new.entries) }
-    ensures overlay_grows_not { length overlay.new.entries ≡ length overlay.old.entries }
-    ensures base_stays { OnErr result (base.new.entries ≡ base.old.entries) }
-    ensures overlay_stays { OnErr result (overlay.new.entries ≡ overlay.old.entries) }
-{
-    let mut below = Vec::new(alloc);
-    let mut above = Vec::new(alloc);
-    let done = put_both_noting(base, overlay, &mut below, &mut above, entries);
-    if done.is_err() {
-        undo(base, below);
-        undo(overlay, above);
-    }
-    done
-}
-
-/// Gives each of these keys its state, or none of them where memory is refused: in the overlay
-/// where that has the key, else in the base, which is not copied where nobody reads it.
+/// where it has the key, else in the base.
 pub(crate) fn put_in_both<K: Codec + Ord, S: Codec>(
     alloc: Global,
     base: &mut Lendable<Map<K, S>>,
@@ -301,12 +245,14 @@ pub(crate) fn put_in_both<K: Codec + Ord, S: Codec>(
     ensures base_stays { OnErr result (base.new ≡ base.old) }
     ensures overlay_stays { OnErr result (overlay.new.entries ≡ overlay.old.entries) }
 {
+    let mut below = Vec::new(alloc);
+    let mut above = Vec::new(alloc);
     let mut tree = taken(alloc, base)?.into_btree_map();
-    let done = if entries.len() < 2 {
-        put_only_in_both(&mut tree, overlay, entries)
-    } else {
-        put_all_in_both(alloc, &mut tree, overlay, entries)
-    };
+    let done = put_both_noting(&mut tree, overlay, &mut below, &mut above, entries);
+    if done.is_err() {
+        undo(&mut tree, below);
+        undo(overlay, above);
+    }
     *base = Lendable::new(Map::from_btree_map(alloc, tree));
     done
 }
