@@ -6,6 +6,7 @@
 //! refused for is told as itself, and want of memory as such; the exit status is 0 or 1.
 #![tactic(auto)]
 
+mod committed;
 mod opening;
 mod options;
 mod printing;

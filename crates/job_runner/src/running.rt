@@ -3,6 +3,7 @@
 ghost use Rattle.std.specs.Prelude.{◌≡◌, ◌≤◌};
 ghost use Rattle.job_input.specs.Judged.{IsJudged};
 
+use crate::committed::{Committed, durable_of};
 use crate::opening::open;
 use crate::options::Options;
 use crate::printing::print_by;
@@ -28,7 +29,7 @@ use thread_runner::{NoPause, Pause, Report, RunFault, Schedule, Station, run_bat
 const RESTARTS: u64 = 8;
 
 /// Takes the job of this core to rest and prints what is committed, also where the run is refused,
-/// and hands the core back. A job that goes down is restarted so often.
+/// and hands over the partitions and the devices. A job that goes down is restarted so often.
 fn run_and_print<
     O: Operator + Send + Sync,
     S: SnapshotStore + Drop + Send + Sync,
@@ -48,7 +49,7 @@ fn run_and_print<
     restarts: u64,
     pause: &H,
     out: &mut W,
-) -> (Core<O, S, X, P>, Result<Report, RunRefusal<'static>>)
+) -> ((P, S, Committed<X>), Result<Report, RunRefusal<'static>>)
 where
     O::Record: Send + Sync,
     O::Key: Send + Sync,
@@ -77,8 +78,9 @@ where
         batch,
     );
     let core = station.into_inner().into_core();
-    let printed = print_by(rt, alloc, &core, workers, out);
-    (core, told(report, printed))
+    let durable = durable_of(core);
+    let printed = print_by(rt, alloc, &durable.2, workers, out);
+    (durable, told(report, printed))
 }
 
 /// What is told of a run and of what was printed: the run's refusal comes first.
@@ -126,8 +128,8 @@ where
     .1
 }
 
-/// Runs a job that was judged. What its core holds is not dropped: the program is at its end, and to
-/// give back the rows and records one by one takes a tenth of a run.
+/// Runs a job that was judged. Its partitions and devices are not dropped: the program is at its
+/// end, and to give back the rows and records one by one takes a tenth of a run.
 fn run_judged<L: Ledger + Send + Sync, R: Threads + Wait + Clock + Sync, W: Write>(
     rt: &R,
     alloc: Global,
@@ -143,10 +145,10 @@ fn run_judged<L: Ledger + Send + Sync, R: Threads + Wait + Clock + Sync, W: Writ
 {
     let JobInput { job, graph, log } = input;
     let (core, schedule) = open(alloc, &job, graph, log)?;
-    let (core, outcome) = run_and_print::<_, _, _, _, L, _, _, _>(
+    let (durable, outcome) = run_and_print::<_, _, _, _, L, _, _, _>(
         rt, alloc, core, schedule, blank, options, RESTARTS, &NoPause, out,
     );
-    forget(core);
+    forget(durable);
     outcome?;
     Ok(())
 }
