@@ -17,7 +17,7 @@ operate_some-requires g c =
     let p = c.args.operand.now in
     let graph = c.args.graph.now in
     let attempt = c.args.attempt.now in
-    let asked = c.requires.1.1.1.1.1 in
+    let asked = c.requires.1.1.1.1 in
     let shape = asked.0.2 in
     let due = asked.0.3 in
     let made = asked.1.1.0 in
@@ -34,27 +34,24 @@ operate_some-requires g c =
         (
           lives.1.1.0,
           (
-            lives.1.1.1.0,
+            lives.1.1.1,
             (
-              lives.1.1.1.1,
+              (asked.0.1, due.was),
               (
-                (asked.0.1, due.was),
+                within_gates graph attempt shape.gate_fits c.args.task c.args.input c.args.channel (role.Operator due.number) due.is_operator due.leads,
                 (
-                  within_gates graph attempt shape.gate_fits c.args.task c.args.input c.args.channel (role.Operator due.number) due.is_operator due.leads,
+                  channel_in graph c.args.task c.args.input c.args.channel attempt.logs due.leads shape.logs,
                   (
-                    channel_in graph c.args.task c.args.input c.args.channel attempt.logs due.leads shape.logs,
+                    shape.channels,
                     (
-                      shape.channels,
+                      counted,
                       (
-                        counted,
+                        subst (λ rs. StandFirst c.args.channel rs attempt) rows due.first.1,
                         (
-                          subst (λ rs. StandFirst c.args.channel rs attempt) rows due.first.1,
+                          made.rising,
                           (
-                            made.rising,
-                            (
-                              subst (λ ts. AreLastStates meaning.same_key ts c.args.outcomes.states.items) (sym is) made.last,
-                              made.sent ∙ sym (ap (λ (ts : List (Turn g.row.O-Record.Denot g.row.O-Key.Denot g.row.O-State.Denot)). sent_by ts) is),
-                            ),
+                            subst (λ ts. AreLastStates meaning.same_key ts c.args.outcomes.states.items) (sym is) made.last,
+                            made.sent ∙ sym (ap (λ (ts : List (Turn g.row.O-Record.Denot g.row.O-Key.Denot g.row.O-State.Denot)). sent_by ts) is),
                           ),
                         ),
                       ),
@@ -74,7 +71,7 @@ returns-then-not-has_uncompared-clause-changed g c = λ entries held is same.
 
 pub returns-clause-same : goal.returns-clause-same
 returns-clause-same g c = λ entries held.
-    let asked = c.requires.1.1.1.1.1 in
+    let asked = c.requires.1.1.1.1 in
     let named = subst (λ (es : List (g.row.O-Key.Denot × g.row.O-State.Denot)). IfSome c.under_entries-expected.result (λ b. (length b.now ≡ length es) × (zip (keys_of es) b.now ≡ c.args.operand.now.states))) c.deref.ensures.value (c.under_entries-expected.ensures g.met.O.Operator.key_is_exact) in
     let none = (c.has_uncompared.ensures entries held).0 c.if-not-has_uncompared.false in
     let told = told_where g.met.O.Key.Ord.total g.met.O.Operator.key_is_exact entries c.args.outcomes.states.items c.under_entries-expected.result c.args.operand.now.states asked.1.1.0.rising named none in
@@ -83,7 +80,7 @@ returns-clause-same g c = λ entries held.
 
 pub returns-clause-changed : goal.returns-clause-changed
 returns-clause-changed g c = λ entries held is same.
-    let asked = c.requires.1.1.1.1.1 in
+    let asked = c.requires.1.1.1.1 in
     let named = subst (λ (es : List (g.row.O-Key.Denot × g.row.O-State.Denot)). IfSome c.under_entries-expected.result (λ b. (length b.now ≡ length es) × (zip (keys_of es) b.now ≡ c.args.operand.now.states))) c.deref.ensures.value (c.under_entries-expected.ensures g.met.O.Operator.key_is_exact) in
     let none = (c.has_uncompared.ensures entries held).0 c.if-not-has_uncompared.false in
     let told = told_where g.met.O.Key.Ord.total g.met.O.Operator.key_is_exact entries c.args.outcomes.states.items c.under_entries-expected.result c.args.operand.now.states asked.1.1.0.rising named none in

@@ -20,7 +20,7 @@ use Rattle.job_state.proofs.attempt.Attempt.operate_some.Goals as goal
 pub returns-then-count-eq0-clause-ok : goal.returns-then-count-eq0-clause-ok
 returns-then-count-eq0-clause-ok g c =
     let order = g.met.O.Key.Ord.total in
-    let counted = c.requires.1.1.1.1.1.1.1.1.1.0 in
+    let counted = c.requires.1.1.1.1.1.1.1.1.0 in
     none_is_each g.O.Operator.meaning g.O.Key.Ord.cmp (equal_keys order g.O.Operator.meaning.same_key g.met.O.Operator.same_key) c.args.graph.now c.args.task c.args.input c.args.channel g.turns c.args.self.now c.args.self.now (sym counted ∙ c.if-count-eq0.true) refl
 
 pub returns-then-count-eq0-clause-expected : goal.returns-then-count-eq0-clause-expected
@@ -58,13 +58,13 @@ keep_all-requires-clause-exact g c = g.met.O.Operator.state_is_exact
 -- the task holds states
 pub keep_all-requires-clause-there : goal.keep_all-requires-clause-there
 keep_all-requires-clause-there g c =
-    let was = c.requires.1.1.1.1.1.0 in
+    let was = c.requires.1.1.1.1.0 in
     let holds = ap (λ l. slice_get (holdings_of l) c.args.task) c.deref_mut-2.ensures.value ∙ (ap (λ h. slice_get h.tasks c.args.task) c.self.view_is ∙ was.1) in
     holder_within c.deref_mut-2.result.now c.args.task _ holds
 
 pub keep_all-requires-clause-holds : goal.keep_all-requires-clause-holds
 keep_all-requires-clause-holds g c =
-    let was = c.requires.1.1.1.1.1.0 in
+    let was = c.requires.1.1.1.1.0 in
     let holds = ap (λ l. slice_get (holdings_of l) c.args.task) c.deref_mut-2.ensures.value ∙ (ap (λ h. slice_get h.tasks c.args.task) c.self.view_is ∙ was.1) in
     (was.0, holds)
 
@@ -100,7 +100,7 @@ pass_on_all-requires-clause-room g c =
 
 pub returns-clause-ok : goal.returns-clause-ok
 returns-clause-ok g c =
-    let given = c.requires.1.1.1.1.1.1.1 in
+    let given = c.requires.1.1.1.1.1.1 in
     let counted = given.1.1.0 in
     let stands_first = given.1.1.1.0 in
     let rising = given.1.1.1.1.0 in
