@@ -12,8 +12,8 @@ use Rattle.claims.proofs.Expected.{none_so, told_where}
 use Rattle.claims.proofs.Turns.{rows_of-turns, length-turns}
 use Rattle.claims.proofs.accepts.operate.Goals as goal
 
-pub operate_some-requires : goal.operate_some-requires
-operate_some-requires g c =
+pub operate_some-end-requires : goal.operate_some-end-requires
+operate_some-end-requires g c =
     let p = c.args.operand.now in
     let graph = c.args.graph.now in
     let attempt = c.args.attempt.now in
@@ -76,7 +76,7 @@ returns-clause-same g c = λ entries held.
     let none = (c.has_uncompared.ensures entries held).0 c.if-not-has_uncompared.false in
     let told = told_where g.met.O.Key.Ord.total g.met.O.Operator.key_is_exact entries c.args.outcomes.states.items c.under_entries-expected.result c.args.operand.now.states asked.1.1.0.rising named none in
     let some : 0 < c.len-count.result = omega (arith, asked.1.0, c.len-count.ensures, c.args.operand.now.rows.ok.0) in
-    on_ok c.operate_some.result told.0 (c.operate_some.ensures.expected some entries held)
+    on_ok c.operate_some-end.result told.0 (c.operate_some-end.ensures.expected some entries held)
 
 pub returns-clause-changed : goal.returns-clause-changed
 returns-clause-changed g c = λ entries held is same.
@@ -84,4 +84,4 @@ returns-clause-changed g c = λ entries held is same.
     let named = subst (λ (es : List (g.row.O-Key.Denot × g.row.O-State.Denot)). IfSome c.under_entries-expected.result (λ b. (length b.now ≡ length es) × (zip (keys_of es) b.now ≡ c.args.operand.now.states))) c.deref.ensures.value (c.under_entries-expected.ensures g.met.O.Operator.key_is_exact) in
     let none = (c.has_uncompared.ensures entries held).0 c.if-not-has_uncompared.false in
     let told = told_where g.met.O.Key.Ord.total g.met.O.Operator.key_is_exact entries c.args.outcomes.states.items c.under_entries-expected.result c.args.operand.now.states asked.1.1.0.rising named none in
-    c.operate_some.ensures.changed entries held is (told.1 same)
+    c.operate_some-end.ensures.changed entries held is (told.1 same)
