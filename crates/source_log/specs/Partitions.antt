@@ -31,6 +31,10 @@ append_all_refusal partitions p count =
 abbrev pub appended_all : {R : Type 0} → List (List R) → ℕ → List R → List (List R)
 appended_all partitions p rows = slice_set partitions p (records_at partitions p ++ rows)
 
+-- where the partitions of another log are put behind these
+abbrev pub join_refusal : {R : Type 0} → List (List R) → List (List R) → Option SourceFault
+join_refusal partitions more = if nat_lt (length partitions + length more) (2 ^ 32) then None else Some Full
+
 -- How a call ends, of which `refusal` says why it is refused and `after` what it leaves at Ok.
 -- A fault is counted, and leaves what was there or what Ok leaves. Every other refusal changes nothing.
 abbrev pub Ends : {R T : Type 0} → List (List R) × ℕ → List (List R) × ℕ → Option SourceFault → List (List R) → Result T SourceFault → Type 0

@@ -13,6 +13,9 @@ use std::alloc::Global;
 /// A partition has no more records.
 const MOST_RECORDS: usize = u32::MAX as usize;
 
+/// A log has no more partitions.
+const MOST_PARTITIONS: usize = u32::MAX as usize;
+
 /// Partitions of records, in memory.
 #[derive(Drop)]
 pub struct MemoryLog<R: Codec> {
@@ -21,9 +24,9 @@ pub struct MemoryLog<R: Codec> {
 }
 
 impl<R: Codec> MemoryLog<R> {
-    ghost use Rattle.std.specs.Prelude.{◌≡◌, ◌⊎◌, [], None, Some, length, replicate, All, IfOk, IfErr, OnOk, OnErr};
+    ghost use Rattle.std.specs.Prelude.{◌≡◌, ◌⊎◌, ◌++◌, [], None, Some, length, replicate, All, IfOk, IfErr, OnOk, OnErr};
     ghost use Rattle.abs_codec.specs.Spelling.{Fits};
-    ghost use Rattle.source_log.specs.Partitions.{append_all_refusal, appended_all};
+    ghost use Rattle.source_log.specs.Partitions.{append_all_refusal, appended_all, join_refusal};
 
     /// Partitions with no records.
     pub fn new(alloc: Global, count: u32) -> Result<MemoryLog<R>, NoMemory>
@@ -59,6 +62,32 @@ impl<R: Codec> MemoryLog<R> {
             return Err(SourceFault::Full);
         }
         self.rows.push_all(partition as usize, rows)
+    }
+
+    /// Puts the partitions of another log behind those of this one, all of them or none: `S3` where
+    /// there would be 2^32 or more. No record
+    /// is copied or moved.
+    pub fn append_partitions(&mut self, other: MemoryLog<R>) -> Result<(), SourceFault>
+        ensures ok { OnOk result (⟦<MemoryLog<R> as Partitions>⟧.records self.new
+            ≡ ⟦<MemoryLog<R> as Partitions>⟧.records self.old
+            ++ ⟦<MemoryLog<R> as Partitions>⟧.records other) }
+        ensures err { OnErr result (⟦<MemoryLog<R> as Partitions>⟧.records self.new
+            ≡ ⟦<MemoryLog<R> as Partitions>⟧.records self.old) }
+        ensures taken { IfOk result (λ _. join_refusal
+            (⟦<MemoryLog<R> as Partitions>⟧.records self.old)
+            (⟦<MemoryLog<R> as Partitions>⟧.records other) ≡ None) }
+        // Where they might be taken, memory is refused.
+        ensures refused { IfErr result (λ f. (join_refusal
+            (⟦<MemoryLog<R> as Partitions>⟧.records self.old)
+            (⟦<MemoryLog<R> as Partitions>⟧.records other) ≡ Some f) ⊎ ((join_refusal
+            (⟦<MemoryLog<R> as Partitions>⟧.records self.old)
+            (⟦<MemoryLog<R> as Partitions>⟧.records other) ≡ None)
+            × (f ≡ SourceFault.Memory))) }
+    {
+        if other.rows.count() > MOST_PARTITIONS - self.rows.count() {
+            return Err(SourceFault::Full);
+        }
+        self.rows.append(other.rows)
     }
 }
 

@@ -76,6 +76,19 @@ fn push_rows<R: Drop>(
     }
 }
 
+/// Puts more partitions behind these, all of them or none.
+fn append_lists<R: Drop>(partitions: &mut Lists<R>, mut more: Lists<R>) -> Result<(), SourceFault>
+    ensures ok { OnOk result (lists_of partitions.new.items
+        ≡ lists_of partitions.old.items ++ lists_of more.items) }
+    ensures err { OnErr result (lists_of partitions.new.items ≡ lists_of partitions.old.items) }
+    ensures memory { IfErr result (λ f. f ≡ SourceFault.Memory) }
+{
+    match partitions.append(&mut more) {
+        Ok(()) => Ok(()),
+        Err(_) => Err(SourceFault::Memory),
+    }
+}
+
 impl<R: Codec> Rows<R> {
     ghost use Rattle.std.specs.Prelude.{◌≡◌, ◌<◌, ◌≤◌, [], ◌∷◌, ◌++◌, Some, length, replicate, slice_get, slice_set, All, OnOk, OnErr, IfOk, IfErr, IfSome, IfNone};
     ghost use Rattle.abs_codec.specs.Spelling.{Fits};
@@ -138,6 +151,7 @@ impl<R: Codec> Rows<R> {
     {
         push_row(&mut self.partitions, partition, row)
     }
+
     /// Puts records last in a partition, all of them or none.
     pub(crate) fn push_all(&mut self, partition: usize, rows: Vec<R>) -> Result<(), SourceFault>
         requires partition { partition < length self.old }
@@ -148,5 +162,13 @@ impl<R: Codec> Rows<R> {
         ensures memory { IfErr result (λ f. f ≡ SourceFault.Memory) }
     {
         push_rows(&mut self.partitions, partition, rows)
+    }
+    /// Puts more partitions behind these, all of them or none.
+    pub(crate) fn append(&mut self, more: Rows<R>) -> Result<(), SourceFault>
+        ensures ok { OnOk result (self.new ≡ self.old ++ more) }
+        ensures err { OnErr result (self.new ≡ self.old) }
+        ensures memory { IfErr result (λ f. f ≡ SourceFault.Memory) }
+    {
+        append_lists(&mut self.partitions, more.partitions)
     }
 }
