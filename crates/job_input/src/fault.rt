@@ -10,6 +10,7 @@ use job_spec::JobFault;
 use line_parts::PartFault;
 use script_file::ItemFault;
 use source_log::SourceFault;
+use std::alloc::AllocError;
 use thiserror::Error;
 
 /// Why a line of an input is not taken.
@@ -108,6 +109,28 @@ impl From<NoMemory> for InputFault<'_> {
 
     fn from(_e: NoMemory) -> Self {
         InputFault::Memory
+    }
+}
+
+impl From<AllocError> for InputFault<'_> {
+    ghost from_gives = { λ _ e. e ≡ whole.Memory };
+
+    fn from(_e: AllocError) -> Self {
+        InputFault::Memory
+    }
+}
+
+impl From<SourceFault> for InputFault<'_> {
+    ghost use Rattle.source_log.specs.declared.partitions.SourceFault.TheVariants as SourceFault;
+
+    ghost from_gives = { λ fault e. (fault ≡ SourceFault.Memory → e ≡ whole.Memory)
+        × (fault ≢ SourceFault.Memory → e ≡ whole.Source fault) };
+
+    fn from(fault: SourceFault) -> Self {
+        match fault {
+            SourceFault::Memory => InputFault::Memory,
+            other => InputFault::Source(other),
+        }
     }
 }
 

@@ -1,6 +1,8 @@
 //! A job with its inputs.
 
-ghost use Rattle.std.specs.Prelude.{◌≡◌, ◌≤◌, count_by, length, IfOk};
+ghost use Rattle.std.specs.Prelude.{◌≡◌, ◌+◌, ◌≤◌, count_by, length, IfOk, OnOk};
+ghost use Rattle.std.specs.Thread.{IsSync};
+ghost use Rattle.std.proofs.Props.{props};
 ghost use Rattle.job_graph.specs.Expanded.{is_source};
 ghost use Rattle.job_graph.specs.Expansion.{Expands};
 ghost use Rattle.job_input.specs.Judged.{IsRead, IsJudged};
@@ -9,13 +11,14 @@ ghost use Rattle.job_input.specs.Lines.{PutsRows};
 use crate::fault::{InputFault, fault_at};
 use crate::input::{Input, line_fault};
 use crate::rounds::read_rows_by;
+use abs_codec::NoMemory;
 use job_graph::Graph;
 use job_spec::JobSpec;
 use operators::Row;
 use source_log::{MemoryLog, Partitions};
 use std::alloc::Global;
 use std::io::Read;
-use std::thread::Threads;
+use std::thread::{Threads, map_vec};
 
 /// A job whose graph has an input for each source task, and the log of their rows.
 #[derive(Drop)]
@@ -34,34 +37,82 @@ fn expanded<'a>(alloc: Global, bytes: &[u8]) -> Result<(JobSpec, Graph), InputFa
     Ok((job, graph))
 }
 
-/// Puts the rows of an input last in the partition of its number. So many threads read it.
-#[tactic(auto, using(crate::proofs::Putting::puts_none))]
+/// An input with its number, from 0.
+type Numbered<'a, F> = (u32, Input<'a, F>);
+
+/// The rows of an input, which are the one partition of a log.
+#[derive(Drop)]
+struct InputRows {
+    log: MemoryLog<Row>,
+    ghost one: { length log.rows ≡ 1 } by { Prim.hlevel props },
+}
+
+/// The inputs with their numbers.
+fn numbered<'a, F: Drop>(
+    alloc: Global,
+    inputs: Vec<Input<'a, F>>,
+) -> Result<Vec<Numbered<'a, F>>, NoMemory>
+    ensures { IfOk result (λ pairs. length pairs.items ≡ length inputs.entry.items) }
+{
+    let mut pairs = Vec::with_capacity(alloc, inputs.len())?;
+    let mut number: u32 = 0;
+    for input in inputs {
+        pairs.push_reserved((number, input));
+        number = number.wrapping_add(1);
+    }
+    Ok(pairs)
+}
+
+/// Reads an input's rows, by so many threads.
+#[tactic(auto, using(crate::proofs::Putting::as_many))]
 fn read_input<'a, R: Threads + Sync, F: Read + Drop>(
     rt: &R,
     alloc: Global,
-    log: &mut MemoryLog<Row>,
-    number: u32,
-    input: Input<'a, F>,
+    pair: Numbered<'a, F>,
     threads: usize,
-) -> Result<(), InputFault<'a>>
-    ensures { PutsRows number (⟦<MemoryLog<Row> as Partitions>⟧.records log.old)
-        (⟦<MemoryLog<Row> as Partitions>⟧.records log.new) }
-{
+) -> Result<InputRows, InputFault<'a>> {
+    let (number, input) = pair;
     let name = input.name;
     let mut file = match input.into_buffered(alloc) {
         Ok(file) => file,
         Err(error) => return Err(fault_at(line_fault(&error), name, number, 0)),
     };
-    match read_rows_by(rt, alloc, log, number, &mut file, threads) {
-        Ok(()) => Ok(()),
+    let mut log = MemoryLog::new(alloc, 1)?;
+    match read_rows_by(rt, alloc, &mut log, 0, &mut file, threads) {
+        Ok(()) => Ok(InputRows { log }),
         Err((at, fault)) => Err(fault_at(fault, name, number, at)),
     }
 }
 
-/// A log of the rows of these inputs, of which there have to be so many. So many threads read
-/// each.
-#[tactic(auto, using(crate::proofs::Putting::as_many))]
-fn read_inputs<'a, R: Threads + Sync, F: Read + Drop>(
+/// Reads the rows of each of these inputs side by side, each by so many threads.
+fn read_group<'a, R: Threads + Sync, F: Read + Drop + Send>(
+    rt: &R,
+    inputs: Vec<Numbered<'a, F>>,
+    alloc: Global,
+    threads: usize,
+) -> Result<Vec<Result<InputRows, InputFault<'a>>>, InputFault<'a>>
+    ensures { IfOk result (λ group. length group.items ≡ length inputs.entry.items) }
+{
+    let group = map_vec(rt, inputs, &|pair| read_input(rt, alloc, pair, threads))?;
+    Ok(group)
+}
+
+/// Puts the partitions of these inputs behind those of a log, in their order, up to the first fault.
+fn append_group<'a>(
+    log: &mut MemoryLog<Row>,
+    group: Vec<Result<InputRows, InputFault<'a>>>,
+) -> Result<(), InputFault<'a>>
+    ensures { OnOk result (length log.new.rows ≡ length log.old.rows + length group.entry.items) }
+{
+    for input in group {
+        log.append_partitions(input?.log)?;
+    }
+    Ok(())
+}
+
+/// A log of the rows of these inputs, of which there have to be so many. So many threads read:
+/// as many inputs at a time, side by side, and if there are fewer, several read each.
+fn read_inputs<'a, R: Threads + Sync, F: Read + Drop + Send>(
     rt: &R,
     alloc: Global,
     want: u32,
@@ -74,17 +125,22 @@ fn read_inputs<'a, R: Threads + Sync, F: Read + Drop>(
     if got != want as usize {
         return Err(InputFault::Inputs { want, got });
     }
-    let mut log = MemoryLog::new(alloc, want)?;
-    for (number, input) in (0..want).zip(inputs) {
-        read_input(rt, alloc, &mut log, number, input, threads)?;
+    let mut log = MemoryLog::new(alloc, 0)?;
+    let mut group = numbered(alloc, inputs)?;
+    while !group.is_empty() {
+        let size = threads.clamp(1, group.len());
+        let rest = group.split_off(size)?;
+        append_group(&mut log, read_group(rt, group, alloc, threads / size)?)?;
+        group = rest;
     }
     Ok(log)
 }
 
 /// Reads a job and the rows of its inputs, one for each source task in task order, or answers the
-/// first fault: of the job, of the number of inputs, of the inputs in order. An input is read by so
-/// many threads as there are workers, this one included, and by three where there are two.
-pub fn judge<'a, R: Threads + Sync, J: Read + Drop, F: Read + Drop>(
+/// first fault: of the job, of the number of inputs, of the inputs in order. As many inputs as
+/// there are workers are read side by side, this thread included. Where there are fewer, each is
+/// read by its share of so many threads, and by three where that is two.
+pub fn judge<'a, R: Threads + Sync, J: Read + Drop, F: Read + Drop + Send>(
     rt: &R,
     alloc: Global,
     job: Input<'a, J>,

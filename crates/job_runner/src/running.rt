@@ -160,7 +160,7 @@ pub fn run_job<
     'a,
     R: Threads + Wait + Clock + Sync,
     J: Read + Drop,
-    F: Read + Drop,
+    F: Read + Drop + Send,
     W: Write,
     E: Write,
 >(
