@@ -30,6 +30,10 @@ const PIECES_AT_ONCE: u64 = 64;
 /// A copy is late where it has a piece or more for so many records between two checkpoints.
 const RECORDS_A_PIECE: u64 = 12;
 
+/// The barriers of a checkpoint that would be late wait for so many records for each piece of the
+/// last one that was written elsewhere.
+const RECORDS_WAITED_A_PIECE: u64 = 384;
+
 /// The checkpoint that is made.
 #[derive(Drop)]
 pub(crate) struct Round {
@@ -44,6 +48,11 @@ pub(crate) struct Round {
     steps_left: u64,
     /// How many pieces of copies were written behind which more is left.
     pieces: u64,
+    /// How many of these were written elsewhere.
+    pieces_elsewhere: u64,
+    /// The first barrier waits until so many records are worked after the trigger. No copy is there
+    /// meanwhile, so that waiting costs nothing.
+    records_waited: u64,
     /// How many parts are in the store.
     persisted: u32,
     /// The next sink to commit.
@@ -67,6 +76,8 @@ impl Round {
             steps: 1,
             steps_left: 0,
             pieces: 0,
+            pieces_elsewhere: 0,
+            records_waited: 0,
             persisted: 0,
             sink: 0,
             tasks,
@@ -94,6 +105,7 @@ impl Round {
         self.to_persist.clear();
         self.steps_left = 0;
         self.pieces = 0;
+        self.pieces_elsewhere = 0;
         self.persisted = 0;
         for &task in sources {
             let _ = self.to_inject.push_back(task);
@@ -144,6 +156,7 @@ impl Round {
     pub(crate) fn handed_out(&mut self, pieces: u64) {
         self.steps_left = 0;
         self.pieces = self.pieces.saturating_add(pieces);
+        self.pieces_elsewhere = self.pieces_elsewhere.saturating_add(pieces);
         let _ = self.to_persist.pop_front();
     }
 
@@ -158,6 +171,11 @@ impl Round {
         if self.is_late() || self.pieces >= PIECES_AT_ONCE {
             self.steps_left = self.steps;
         }
+    }
+
+    /// Whether barriers wait for more records, of which so many were worked since the trigger.
+    pub(crate) fn awaits_records(&self, worked: u64) -> bool {
+        worked < self.records_waited && !self.to_inject.is_empty()
     }
 
     /// Whether a record has its turn before what is needed next. It has had one where it is asked.
@@ -180,6 +198,12 @@ impl Round {
     pub(crate) fn completed(&mut self, every: u64) {
         let is_late = every > 0 && self.pieces.saturating_mul(RECORDS_A_PIECE) >= every;
         self.steps = if is_late { MOST_STEPS } else { 1 };
+        self.records_waited = if is_late {
+            self.pieces_elsewhere
+                .saturating_mul(RECORDS_WAITED_A_PIECE)
+        } else {
+            0
+        };
         self.stage = Stage::Complete;
         self.sink = 0;
         self.end_if_committed();

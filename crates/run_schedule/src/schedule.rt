@@ -229,10 +229,11 @@ impl Schedule {
         }
     }
 
-    /// The step for what the checkpoint needs. Where a part takes many, steps of records come
-    /// between two of them, if they are to be had.
+    /// The step for what the checkpoint needs. Where it would be late, its barriers wait for records,
+    /// and where a part takes many steps, steps of records come between two of them, if they are to
+    /// be had.
     fn next_need(&mut self, need: Need, worker: u32) -> Step {
-        if self.round.gives_way() {
+        if self.round.awaits_records(self.finished) || self.round.gives_way() {
             if let Some(step) = self.record_step(worker) {
                 return step;
             }
@@ -542,11 +543,10 @@ impl Schedule {
         self.round.has_more();
     }
 
-    /// Whether the next copy may be written elsewhere: where copies are not late, and the task
-    /// holds no claim.
+    /// Whether the next copy may be written elsewhere: where the task holds no claim.
     pub(crate) fn may_hand_out(&self, task: u32) -> bool {
         let node = self.nodes.get(task as usize);
-        !self.round.is_late() && node.is_some_and(|node| !node.is_busy)
+        node.is_some_and(|node| !node.is_busy)
     }
 
     /// A worker writes the next copy, a task's, which has so many pieces. The task works no record
