@@ -31,8 +31,8 @@ const PIECES_AT_ONCE: u64 = 64;
 const RECORDS_A_PIECE: u64 = 12;
 
 /// The barriers of a checkpoint that would be late wait for so many records for each piece of the
-/// last one that was written elsewhere.
-const RECORDS_WAITED_A_PIECE: u64 = 384;
+/// last one that was written elsewhere: as many as a piece has keys.
+const RECORDS_WAITED_A_PIECE: u64 = 256;
 
 /// The checkpoint that is made.
 #[derive(Drop)]

@@ -233,10 +233,14 @@ impl Schedule {
     /// and where a part takes many steps, steps of records come between two of them, if they are to
     /// be had.
     fn next_need(&mut self, need: Need, worker: u32) -> Step {
-        if self.round.awaits_records(self.finished) || self.round.gives_way() {
+        let awaits_records = self.round.awaits_records(self.finished);
+        if awaits_records || self.round.gives_way() {
             if let Some(step) = self.record_step(worker) {
                 return step;
             }
+        }
+        if awaits_records && self.claims > 0 {
+            return Step::Idle;
         }
         step_for(need)
     }
