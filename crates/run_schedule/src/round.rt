@@ -199,8 +199,7 @@ impl Round {
         let is_late = every > 0 && self.pieces.saturating_mul(RECORDS_A_PIECE) >= every;
         self.steps = if is_late { MOST_STEPS } else { 1 };
         self.records_waited = if is_late {
-            self.pieces_elsewhere
-                .saturating_mul(RECORDS_WAITED_A_PIECE)
+            self.pieces_elsewhere.saturating_mul(RECORDS_WAITED_A_PIECE)
         } else {
             0
         };
