@@ -6,7 +6,6 @@ ghost use Rattle.std.proofs.Props.{props};
 ghost use Rattle.job_graph.specs.Expanded.{is_source};
 ghost use Rattle.job_graph.specs.Expansion.{Expands};
 ghost use Rattle.job_input.specs.Judged.{IsRead, IsJudged};
-ghost use Rattle.job_input.specs.Lines.{PutsRows};
 
 use crate::fault::{InputFault, fault_at};
 use crate::input::{Input, line_fault};

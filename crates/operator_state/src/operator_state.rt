@@ -84,13 +84,15 @@ fn begin<K>(last: &Option<K>, left: usize, out: &mut Vec<u8>) -> Result<(), NoMe
     write_count(left, out).map_err(|_| NoMemory)
 }
 
-/// Takes the room for so many entries more, each as long as those that are written are on average.
+/// Takes the room for so many entries more, each as long as those that are written are on average,
+/// and for an eighth more: later entries are often longer, and a full vector is copied to grow.
 /// Where memory is refused, it is asked for again as they are written.
 fn take_room(written: usize, more: usize, out: &mut Vec<u8>)
     ensures { out.new.items ≡ out.old.items }
 {
     let each = out.len().checked_div(written).unwrap_or(0);
-    let _ = out.reserve(each.saturating_mul(more));
+    let room = each.saturating_mul(more);
+    let _ = out.reserve(room.saturating_add(room / 8));
 }
 
 /// Writes a key and its state.

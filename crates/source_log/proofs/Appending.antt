@@ -1,7 +1,7 @@
 -- A write to one partition, as the lists of records see it.
-use Rattle.std.proofs.Common.{◌≡◌, ◌<◌, ◌+◌, ◌^◌, ℕ, zero, suc, List, [], ◌∷◌, ◌++◌, length, get_or, replicate, slice_get, slice_set, Some, Result, Ok, Err, Vec, All, refl, subst, lit<, sym, ap, ◌∙◌}
+use Rattle.std.proofs.Common.{◌≡◌, ◌<◌, ◌^◌, ℕ, zero, suc, List, [], ◌∷◌, ◌++◌, length, get_or, replicate, slice_get, slice_set, Some, Result, Ok, Err, Vec, All, refl, subst, lit<, sym, ap, ◌∙◌}
 use Rattle.std.specs.Prelude.{OnOk, OnErr}
-use Rattle.std.proofs.lemmas.List.{map-set, get_or-map, length-replicate, length-append}
+use Rattle.std.proofs.lemmas.List.{map-set, get_or-map, length-replicate}
 use Rattle.std.proofs.lemmas.List.Elements.{All-head, All-tail}
 use Rattle.std.proofs.lemmas.Option.{unwrap_or-slice_get}
 use Rattle.std.proofs.Math.Seq.{map-set_same}
@@ -87,15 +87,3 @@ module _ {R : Type 0} (RecordFits : R → Type 0) where
       → OnOk result (new ≡ old ++ more) → OnErr result (new ≡ old) → AllFit RecordFits new
   fit_joined_kept old more new fit fits (Ok u) is same = rw is (fit_joined old more fit fits)
   fit_joined_kept old more new fit fits (Err f) is same = rw same fit
-
--- partitions that are short, behind others, where there are not too many
-pub short_joined : {R : Type 0} (xs ys : List (List R)) → AreShort xs → AreShort ys → length xs + length ys < 2 ^ 32 → AreShort (xs ++ ys)
-short_joined {R = R} xs ys short more few = record {
-  count = subst (λ n. n < 2 ^ 32) (sym (length-append xs ys)) few;
-  rows = rows xs short.rows;
-}
-  where
-    rows : (zs : List (List R)) → ((p : ℕ) → length (records_at zs p) < 2 ^ 32) → (p : ℕ) → length (records_at (zs ++ ys) p) < 2 ^ 32
-    rows [] all p = more.rows p
-    rows (z ∷ zs) all zero = all zero
-    rows (z ∷ zs) all (suc p) = rows zs (λ q. all (suc q)) p
