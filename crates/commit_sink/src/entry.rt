@@ -29,13 +29,16 @@ impl Model for Entry {
 }
 
 impl Entry {
-    pub(crate) fn new(alloc: Global, subtask: u32) -> Entry
+    /// A subtask's transaction with no records, and with room for so many if there is memory.
+    pub(crate) fn with_room(alloc: Global, subtask: u32, room: usize) -> Entry
         ensures { result ≡ record { subtask = subtask; progress = Progress.Open; records = [] } }
     {
+        let mut records = Vec::new(alloc);
+        let _ = records.reserve(room);
         Entry {
             subtask,
             progress: Progress::Open,
-            records: Vec::new(alloc),
+            records,
         }
     }
 

@@ -110,6 +110,13 @@ fn subtask_of(transactions: &Vec<Entry>, place: usize) -> usize
     transactions[place].subtask() as usize
 }
 
+/// How many records the subtask's last transaction has that is neither committed nor aborted.
+fn last_row_count(transactions: &Vec<Entry>, shares: &Vec<Share>, subtask: usize) -> Option<usize> {
+    let transaction = shares.get(subtask)?.unsettled.last()?;
+    let place = transaction.checked_sub(1)? as usize;
+    Some(transactions.get(place)?.records().len())
+}
+
 fn row_count(transactions: &Vec<Entry>, place: usize) -> u64
     requires { place < length transactions.now.items }
     ensures { (t : Transaction) → slice_get transactions.now.items place ≡ Some t
@@ -357,6 +364,8 @@ impl Transactions for MemoryTransactions {
     fn begin(&mut self, subtask: u32) -> Result<u64, TransactionFault> {
         self.transactions.reserve(1)?;
         let transaction = self.transactions.len() as u64 + 1;
+        // The next checkpoint comes after about as many records as the last one.
+        let room = last_row_count(&self.transactions, &self.shares, subtask as usize);
         promise_places(
             self.alloc,
             &mut self.committed,
@@ -364,8 +373,8 @@ impl Transactions for MemoryTransactions {
             subtask as usize,
             transaction,
         )?;
-        self.transactions
-            .push_reserved(Entry::new(self.alloc, subtask));
+        let entry = Entry::with_room(self.alloc, subtask, room.unwrap_or(0));
+        self.transactions.push_reserved(entry);
         Ok(transaction)
     }
 
