@@ -1,4 +1,5 @@
 mod Digits
+mod Partitioned
 mod PlainLines
 mod Putting
 mod Texts

@@ -1,5 +1,8 @@
 //! A file that was named.
 
+ghost use Rattle.std.specs.Prelude.{◌≡◌, IfOk, IsOkAnd};
+ghost use Rattle.std.specs.Io.Buffered.{reader_remaining};
+
 use crate::fault::{InputFault, LineFault, fault_at};
 use std::alloc::Global;
 use std::io;
@@ -44,8 +47,11 @@ impl<'a, R: Read + Drop> Input<'a, R> {
         }
     }
 
-    /// The file behind a buffer.
-    pub(crate) fn into_buffered(self, alloc: Global) -> io::Result<BufReader<R>> {
+    /// The file behind a buffer, with all its bytes still to be read.
+    pub(crate) fn into_buffered(self, alloc: Global) -> io::Result<BufReader<R>>
+        ensures { IfOk result (λ reader. IsOkAnd self.entry.file
+            (λ file. reader_remaining R.remaining reader ≡ R.remaining file)) }
+    {
         let Input { file, .. } = self;
         BufReader::with_capacity(alloc, BUFFER, file?)
     }

@@ -1,11 +1,13 @@
 //! A job with its inputs.
 
-ghost use Rattle.std.specs.Prelude.{◌≡◌, ◌+◌, ◌≤◌, count_by, length, IfOk, OnOk};
+ghost use Rattle.std.specs.Prelude.{◌≡◌, ◌≤◌, ◌++◌, [], ◌∷◌, List, count_by, length, map, IfOk, OnOk, IsOkAnd};
+ghost use Rattle.std.specs.List.{AllZip};
 ghost use Rattle.std.specs.Thread.{IsSync};
 ghost use Rattle.std.proofs.Props.{props};
 ghost use Rattle.job_graph.specs.Expanded.{is_source};
 ghost use Rattle.job_graph.specs.Expansion.{Expands};
-ghost use Rattle.job_input.specs.Judged.{IsRead, IsJudged};
+ghost use Rattle.job_input.specs.Judged.{GivesRows, IsRead, IsJudged};
+ghost use Rattle.operators.specs.declared.row.Row.{Row};
 
 use crate::fault::{InputFault, fault_at};
 use crate::input::{Input, line_fault};
@@ -51,7 +53,7 @@ fn numbered<'a, F: Drop>(
     alloc: Global,
     inputs: Vec<Input<'a, F>>,
 ) -> Result<Vec<Numbered<'a, F>>, NoMemory>
-    ensures { IfOk result (λ pairs. length pairs.items ≡ length inputs.entry.items) }
+    ensures { IfOk result (λ pairs. map (λ pair. pair.1) pairs.items ≡ inputs.entry.items) }
 {
     let mut pairs = Vec::with_capacity(alloc, inputs.len())?;
     let mut number: u32 = 0;
@@ -69,7 +71,10 @@ fn read_input<'a, R: Threads + Sync, F: Read + Drop>(
     alloc: Global,
     pair: Numbered<'a, F>,
     threads: usize,
-) -> Result<InputRows, InputFault<'a>> {
+) -> Result<InputRows, InputFault<'a>>
+    ensures { IfOk result (λ one. AllZip (GivesRows F.remaining)
+        (pair.entry.1 ∷ []) one.log.rows) }
+{
     let (number, input) = pair;
     let name = input.name;
     let mut file = match input.into_buffered(alloc) {
@@ -90,7 +95,9 @@ fn read_group<'a, R: Threads + Sync, F: Read + Drop + Send>(
     alloc: Global,
     threads: usize,
 ) -> Result<Vec<Result<InputRows, InputFault<'a>>>, InputFault<'a>>
-    ensures { IfOk result (λ group. length group.items ≡ length inputs.entry.items) }
+    ensures { IfOk result (λ group. AllZip (λ pair r. IfOk r (λ one.
+        AllZip (GivesRows F.remaining) (pair.1 ∷ []) one.log.rows))
+        inputs.entry.items group.items) }
 {
     let group = map_vec(rt, inputs, &|pair| read_input(rt, alloc, pair, threads))?;
     Ok(group)
@@ -101,7 +108,9 @@ fn append_group<'a>(
     log: &mut MemoryLog<Row>,
     group: Vec<Result<InputRows, InputFault<'a>>>,
 ) -> Result<(), InputFault<'a>>
-    ensures { OnOk result (length log.new.rows ≡ length log.old.rows + length group.entry.items) }
+    ensures { OnOk result ((more : List (List Row)) × (log.new.rows ≡ log.old.rows ++ more)
+        × AllZip (λ r rows. IsOkAnd r (λ one. one.log.rows ≡ rows ∷ []))
+        group.entry.items more) }
 {
     for input in group {
         log.append_partitions(input?.log)?;
@@ -118,7 +127,10 @@ fn read_inputs<'a, R: Threads + Sync, F: Read + Drop + Send>(
     inputs: Vec<Input<'a, F>>,
     threads: usize,
 ) -> Result<MemoryLog<Row>, InputFault<'a>>
-    ensures { IfOk result (λ log. length (⟦<MemoryLog<Row> as Partitions>⟧.records log) ≡ want) }
+    ensures want { IfOk result (λ log.
+        length (⟦<MemoryLog<Row> as Partitions>⟧.records log) ≡ want) }
+    ensures rows { IfOk result (λ log. AllZip (GivesRows F.remaining) inputs.entry.items
+        (⟦<MemoryLog<Row> as Partitions>⟧.records log)) }
 {
     let got = inputs.len();
     if got != want as usize {
@@ -146,7 +158,10 @@ pub fn judge<'a, R: Threads + Sync, J: Read + Drop, F: Read + Drop + Send>(
     inputs: Vec<Input<'a, F>>,
     workers: u64,
 ) -> Result<JobInput, InputFault<'a>>
-    ensures { IfOk result (λ j. IsJudged j.job j.graph
+    ensures judged { IfOk result (λ j. IsJudged j.job j.graph
+        (⟦<MemoryLog<Row> as Partitions>⟧.records j.log)) }
+    // Each input's partition, at its place, has the rows of the lines of its file.
+    ensures rows { IfOk result (λ j. AllZip (GivesRows F.remaining) inputs.entry.items
         (⟦<MemoryLog<Row> as Partitions>⟧.records j.log)) }
 {
     let bytes = job.into_bytes(alloc)?;

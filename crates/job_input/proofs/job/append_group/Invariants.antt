@@ -1,7 +1,9 @@
-use Rattle.std.proofs.Common.{◌≡◌, ◌+◌, length}
-use Rattle.std.specs.Vec.Iter.{into_iter_items}
+use Rattle.std.proofs.Common.{◌≡◌, ◌++◌, List, [], ◌∷◌, IsOkAnd}
+use Rattle.std.specs.List.{AllZip}
+use Rattle.operators.specs.declared.row.Row.{Row}
 use Rattle.job_input.proofs.job.append_group.Given as goal
 
 -- a partition for each that was taken
 abbrev pub invariant-loop-input : goal.invariant-loop-input
-invariant-loop-input l = length l.log.rows + length (into_iter_items l.input-iterator) ≡ length l.fn.log.rows + length l.fn.group.items
+invariant-loop-input l =
+    (more : List (List Row)) × (l.log.rows ≡ l.fn.log.rows ++ more) × AllZip (λ r rows. IsOkAnd r (λ one. one.log.rows ≡ rows ∷ [])) l.yielded more
