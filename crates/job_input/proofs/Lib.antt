@@ -4,3 +4,4 @@ mod PlainLines
 mod Putting
 mod Texts
 mod Runs
+mod WholeJob

@@ -1,6 +1,6 @@
 //! A file that was named.
 
-ghost use Rattle.std.specs.Prelude.{◌≡◌, IfOk, IsOkAnd};
+ghost use Rattle.std.specs.Prelude.{◌≡◌, ◌+◌, take, IfOk, IfSome, IsOkAnd};
 ghost use Rattle.std.specs.Io.Buffered.{reader_remaining};
 
 use crate::fault::{InputFault, LineFault, fault_at};
@@ -31,7 +31,10 @@ pub(crate) fn line_fault(error: &io::Error) -> LineFault {
 }
 
 /// The file's bytes, up to one more than a job may have.
-fn job_bytes<R: Read + Drop>(alloc: Global, file: io::Result<R>) -> io::Result<Vec<u8>> {
+fn job_bytes<R: Read + Drop>(alloc: Global, file: io::Result<R>) -> io::Result<Vec<u8>>
+    ensures { IfOk result (λ bytes. IsOkAnd file (λ reader. IfSome (R.remaining reader)
+        (λ all. bytes.items ≡ take (MAX_JOB_BYTES + 1) all))) }
+{
     let mut bytes = Vec::new(alloc);
     file?.take(MAX_JOB_BYTES + 1).read_to_end(&mut bytes)?;
     Ok(bytes)
@@ -39,7 +42,10 @@ fn job_bytes<R: Read + Drop>(alloc: Global, file: io::Result<R>) -> io::Result<V
 
 impl<'a, R: Read + Drop> Input<'a, R> {
     /// The bytes of a job file, up to one more than it may have.
-    pub(crate) fn into_bytes(self, alloc: Global) -> Result<Vec<u8>, InputFault<'a>> {
+    pub(crate) fn into_bytes(self, alloc: Global) -> Result<Vec<u8>, InputFault<'a>>
+        ensures { IfOk result (λ bytes. IsOkAnd self.entry.file (λ file. IfSome (R.remaining file)
+            (λ all. bytes.items ≡ take (MAX_JOB_BYTES + 1) all))) }
+    {
         let Input { name, file } = self;
         match job_bytes(alloc, file) {
             Ok(bytes) => Ok(bytes),

@@ -1,6 +1,6 @@
 //! A job with its inputs.
 
-ghost use Rattle.std.specs.Prelude.{◌≡◌, ◌≤◌, ◌++◌, [], ◌∷◌, List, count_by, length, map, IfOk, OnOk, IsOkAnd};
+ghost use Rattle.std.specs.Prelude.{◌≡◌, ◌≤◌, ◌++◌, [], ◌∷◌, List, count_by, length, map, IfOk, IfSome, OnOk, IsOkAnd};
 ghost use Rattle.std.specs.List.{AllZip};
 ghost use Rattle.std.specs.Thread.{IsSync};
 ghost use Rattle.std.proofs.Props.{props};
@@ -160,6 +160,9 @@ pub fn judge<'a, R: Threads + Sync, J: Read + Drop, F: Read + Drop + Send>(
 ) -> Result<JobInput, InputFault<'a>>
     ensures judged { IfOk result (λ j. IsJudged j.job j.graph
         (⟦<MemoryLog<Row> as Partitions>⟧.records j.log)) }
+    // The job's file was opened, and where its bytes are known they say this job.
+    ensures job { IfOk result (λ j. IsOkAnd job.entry.file (λ file. IfSome (J.remaining file)
+        (λ bytes. IsRead bytes j.job j.graph))) }
     // Each input's partition, at its place, has the rows of the lines of its file.
     ensures rows { IfOk result (λ j. AllZip (GivesRows F.remaining) inputs.entry.items
         (⟦<MemoryLog<Row> as Partitions>⟧.records j.log)) }

@@ -3,8 +3,8 @@
 //! the bytes up to the first end of one, and a text's rows are those of its lines, each the row of
 //! the line's JSON (where the reader's bytes are known, as those in memory are); they are put last
 //! in the input's own partition, and no other partition changes; there is a partition for each
-//! source task of the graph that the job expands to, with the rows of the input at its place, and
-//! each input's file was opened.
+//! source task of the graph that the job expands to, with the rows of the input at its place; the
+//! job is the one that its file's bytes say, and each file was opened.
 //!
 //! Inputs are read line by line through one buffer that is used again, or by several threads in
 //! rounds of one mebibyte, so that memory is bounded whatever the lines are. The rows of a round
