@@ -5,6 +5,7 @@ ghost use Rattle.snapshot_store.specs.Store.{Ends, put_refusal, with_part};
 ghost use Rattle.snapshot_store.specs.declared.store.StoreFault.TheVariants as StoreFault;
 ghost use Rattle.checkpoint_devices.specs.Ends.{older_discarded, EndsPut};
 
+use bytes::Bytes;
 use snapshot_store::{SnapshotStore, StoreFault};
 
 /// Why a part was not put.
@@ -34,19 +35,19 @@ pub fn discard_older<S: SnapshotStore>(
     }
 }
 
-/// Puts the part of a task, which only memory or the device can refuse.
+/// Puts the part of a task, whose bytes are not copied. Only memory or the device can refuse it.
 pub fn put_part<S: SnapshotStore>(
     store: &mut S,
     checkpoint: u64,
     task: u32,
-    bytes: &[u8],
+    bytes: Bytes,
 ) -> Result<(), PutFault>
     requires { put_refusal (S.state store.old) checkpoint task ≡ None }
     ensures { EndsPut (S.state store.old, S.fault_count store.old)
         (S.state store.new, S.fault_count store.new)
-        (with_part (S.state store.old) checkpoint task bytes.now) result }
+        (with_part (S.state store.old) checkpoint task bytes) result }
 {
-    match store.put(checkpoint, task, bytes) {
+    match store.put_shared(checkpoint, task, bytes) {
         Ok(()) => Ok(()),
         Err(StoreFault::Memory) => Err(PutFault::Memory),
         Err(_) => Err(PutFault::Device),

@@ -1,6 +1,6 @@
 //! A task's copy is made, and spelled.
 
-ghost use Rattle.std.specs.Prelude.{◌≡◌, List, [], Some, OnOk, OnErr};
+ghost use Rattle.std.specs.Prelude.{◌≡◌, List, [], Some, OnOk, OnErr, IfOk};
 ghost use Rattle.task_part.specs.declared.part.Part.{Part};
 ghost use Rattle.task_part.specs.declared.part.Part.TheVariants as Part;
 ghost use Rattle.task_part.specs.Spelling.{logs_now, part_spelling, PartIsSpelled};
@@ -9,7 +9,9 @@ ghost use Rattle.job_state.specs.Held.{with_logs};
 
 use crate::task::{Kind, Task};
 use abs_codec::{Codec, NoMemory};
+use bytes::Bytes;
 use operator_state::{CopyWork, OperatorState};
+use std::alloc::Global;
 use task_part::{Part, write_with_logs};
 
 /// The spelling of the part that a copy is with these logs, in place of what the vector held. What
@@ -128,14 +130,16 @@ impl<R: Codec, K: Codec + Ord, S: Codec> Task<R, K, S> {
         }
     }
 
-    /// The part, as far as it is spelled.
-    pub(crate) fn part(&self) -> &[u8]
-        ensures { result.now ≡ self.now.part }
+    /// The part, as far as it is spelled, which others may keep. That of a source or a sink is
+    /// short, and is copied.
+    pub(crate) fn share_part(&mut self, alloc: Global) -> Result<Bytes, NoMemory>
+        ensures part { IfOk result (λ bytes. bytes ≡ self.old.part) }
+        ensures same { self.new ≡ self.old }
     {
-        match &self.kind {
-            Kind::Source(_, _) => &self.bytes,
-            Kind::Operator(states) => states.part(),
-            Kind::Sink(_, _) => &self.bytes,
+        match &mut self.kind {
+            Kind::Source(_, _) => Ok(Bytes::copy_from_slice(alloc, &self.bytes)?),
+            Kind::Operator(states) => states.share_part(),
+            Kind::Sink(_, _) => Ok(Bytes::copy_from_slice(alloc, &self.bytes)?),
         }
     }
 }

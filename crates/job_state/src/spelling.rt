@@ -1,17 +1,16 @@
 //! Parts are spelled, with the logs of their tasks.
 
 ghost use Rattle.std.specs.Prelude.{◌≡◌, is_some, map, Some, IsTrue, IfOk};
-ghost use Rattle.std.specs.Borrow.{sem};
-ghost use Rattle.std.specs.Io.BufRead.{Rests};
 ghost use Rattle.task_part.specs.declared.part.Part.{Part};
 ghost use Rattle.task_part.specs.Spelling.{logs_now, part_spelling, PartIsSpelled};
 ghost use Rattle.job_state.specs.Held.{marked_inputs};
 ghost use Rattle.job_state.specs.Inside.{logged_in};
 
 use crate::attempt::Attempt;
-use crate::tasks::{hand_out, part, spell_all, spell_part, spell_some};
+use crate::tasks::{hand_out, share_part, spell_all, spell_part, spell_some};
 use abs_codec::NoMemory;
 use backedge_log::Logs;
+use bytes::Bytes;
 use job_graph::Graph;
 use operator_state::CopyWork;
 use operators::Operator;
@@ -49,7 +48,6 @@ fn marked_logs<'a, R: Drop>(
 
 impl<O: Operator> Attempt<O> {
     ghost use Rattle.job_state.specs.Held.{copy_at, logs_of, with_logs};
-    ghost use Rattle.job_state.specs.contracts.attempt.Attempt.{the_row};
 
     /// Hands out the work on an operator's copy, to be done by anyone while nothing is held, where
     /// it has at most so many entries, enough to be worth that, and none of them is spelled.
@@ -77,24 +75,19 @@ impl<O: Operator> Attempt<O> {
     }
 
     /// The spelling of the part that a task's copy is with the task's logs. What is left of the
-    /// copy is spelled first.
-    pub fn part(&mut self, graph: &Graph, task: u32) -> Result<&[u8], NoMemory>
+    /// copy is spelled first. Others may keep these bytes.
+    pub fn part(&mut self, graph: &Graph, task: u32) -> Result<Bytes, NoMemory>
         requires { IsTrue (is_some (copy_at self.old task)) }
         ensures spelled { IfOk result (λ bytes. (p : Part O.Record O.Key O.State)
             → copy_at self.old task ≡ Some p
             → PartIsSpelled O.Record.HasSpelling O.Key.cmp O.Key.HasSpelling O.State.HasSpelling
             (with_logs (logs_of graph.now self.old task) p)
-            × (bytes.now ≡ part_spelling O.Record.spelling O.Key.spelling O.State.spelling
+            × (bytes ≡ part_spelling O.Record.spelling O.Key.spelling O.State.spelling
             (with_logs (logs_of graph.now self.old task) p))) }
-        ensures* stays { sem 𝓛 (Rests (the_row O.row O.Record.row O.Key.row O.State.row
-            (record { meaning = O.meaning; Suits = O.Suits }) (record { eq = O.eq })
-            O.Record.Codec (record { eq = O.Record.eq }) O.Key.Codec
-            (record { cmp = O.Key.cmp }) (record {}) (record { eq = O.Key.eq })
-            (record { partial_cmp = O.Key.partial_cmp }) O.State.Codec
-            (record { eq = O.State.eq })) self.entry (λ new. new ≡ self.old)) }
+        ensures same { self.new ≡ self.old }
     {
         let logs = marked_logs(self.alloc, &self.logs, graph, task)?;
         spell_part(&mut self.tasks, task, &logs)?;
-        Ok(part(&self.tasks, task))
+        share_part(&mut self.tasks, task, self.alloc)
     }
 }

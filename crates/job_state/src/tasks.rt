@@ -20,6 +20,7 @@ use crate::holding::Holding;
 use crate::task;
 use crate::task::Task;
 use abs_codec::{Codec, Items, NoMemory};
+use bytes::Bytes;
 use commit_sink::Sink;
 use keyed_state::SetFault;
 use operator_state::CopyWork;
@@ -257,10 +258,15 @@ pub(crate) fn spell_part<R: Codec, K: Codec + Ord, S: Codec>(
     tasks[task as usize].spell_part(logs)
 }
 
-/// A task's part, as far as it is spelled.
-pub(crate) fn part<R: Codec, K: Codec + Ord, S: Codec>(tasks: &[Task<R, K, S>], task: u32) -> &[u8]
-    requires { task < length tasks.now }
-    ensures { result.now ≡ part_in tasks.now task }
+/// A task's part, as far as it is spelled, which others may keep.
+pub(crate) fn share_part<R: Codec, K: Codec + Ord, S: Codec>(
+    tasks: &mut [Task<R, K, S>],
+    task: u32,
+    alloc: Global,
+) -> Result<Bytes, NoMemory>
+    requires { task < length tasks.old }
+    ensures part { IfOk result (λ bytes. bytes ≡ part_in tasks.old task) }
+    ensures same { tasks.new ≡ tasks.old }
 {
-    tasks[task as usize].part()
+    tasks[task as usize].share_part(alloc)
 }

@@ -1,3 +1,4 @@
 pub mod Handed
+pub mod Held
 pub mod Operating
 pub mod Spelled

@@ -9,7 +9,7 @@
 //! and `take_spelled` takes what came of it: a rule over the line between the two says that it
 //! spells this copy. What was written since is merged by `merge_some`. `spell_logs` puts the logs
 //! behind the entries, so that a part is held once, and a later call puts others there. `part`
-//! gives the bytes.
+//! gives the bytes, and `share_part` an owner more of them, as a snapshot store is.
 //!
 //! With n entries:
 //!
@@ -21,12 +21,15 @@
 //!   copy holds it until then, and takes the time and memory of spelling all n. `take_spelled` takes
 //!   constant time and no memory;
 //! - `spell_logs` takes the time and memory of the spelling of the logs;
+//! - `share_part` takes constant time, and the memory of a counter. Where the bytes have another
+//!   owner still, what is written next is written over a copy of what stays;
 //! - `get`, `set`, `set_all` and `merge_some` are those of `KeyedState`, and all else takes
 //!   constant time and no memory.
 #![tactic(auto)]
 
 mod handed;
 mod operator_state;
+mod part_bytes;
 
 pub use handed::CopyWork;
 pub use operator_state::OperatorState;

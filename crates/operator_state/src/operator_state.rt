@@ -14,10 +14,12 @@ ghost use Rattle.keyed_state.specs.KeyedMap.{entries_above, frozen_entries};
 ghost use Rattle.keyed_state.specs.declared.comparing.SetFault.TheVariants as SetFault;
 ghost use Rattle.operator_state.specs.Spelled.{Begins, IsFront};
 ghost use Rattle.task_part.specs.declared.part.Part.TheVariants as Part;
-ghost use Rattle.task_part.specs.Spelling.{logs_now, part_spelling, PartIsSpelled};
+ghost use Rattle.task_part.specs.Spelling.{logs_now, logs_spelling, part_spelling, LogsAreSpelled, PartIsSpelled};
 
 use crate::handed::{CopyWork, Sheet, Side};
+use crate::part_bytes::PartBytes;
 use abs_codec::{Codec, Map, NoMemory};
+use bytes::Bytes;
 use keyed_state::{KeyedState, LentStates, SetFault};
 use std::alloc::Global;
 use std::marker::Model;
@@ -41,7 +43,7 @@ pub struct OperatorState<K: Codec + Ord, S: Codec> {
     /// How many entries of the copy are left to be spelled.
     left: usize,
     /// The part up to the entry that was spelled last, and what was written behind it.
-    bytes: Vec<u8>,
+    bytes: PartBytes,
     /// How many bytes the part has up to that entry.
     end: usize,
     /// The task's side of the line to who spells the frozen map, if that was handed out.
@@ -58,17 +60,17 @@ impl<K: Codec + Ord, S: Codec> Model for OperatorState<K, S> {
     ghost view = { λ o. record {
       entries = o.states.entries;
       copy = if o.has_copied then Some (copied K.Ord.cmp K.reading S.reading o.states.frozen
-          (take o.end o.bytes.items)) else None;
+          (take o.end o.bytes)) else None;
       unspelled = o.left;
       unmerged = o.states.unmerged;
-      part = o.bytes.items;
+      part = o.bytes;
     } };
 
-    ghost invariant = { λ o. ((o.end ≤ length o.bytes.items)
+    ghost invariant = { λ o. ((o.end ≤ length o.bytes)
         × IfSome o.handed (λ side. o.states.frozen ≡ Some side))
         × IsHeld K.Ord.cmp K.HasSpelling K.spelling S.HasSpelling S.spelling o.states.frozen
-        (copied K.Ord.cmp K.reading S.reading o.states.frozen (take o.end o.bytes.items))
-        o.has_copied o.last o.left (take o.end o.bytes.items) };
+        (copied K.Ord.cmp K.reading S.reading o.states.frozen (take o.end o.bytes))
+        o.has_copied o.last o.left (take o.end o.bytes) };
 }
 
 /// Writes the head of the part where nothing is spelled yet: the tag, and how many entries there
@@ -186,6 +188,46 @@ fn write_next<K: Codec + Ord, S: Codec>(
     }
 }
 
+/// Writes the next entries of the frozen map, of which so many are left, behind those up to the last
+/// one, and copies the key of the last of them. The head comes first where nothing is written.
+fn spell_next<K: Codec + Ord, S: Codec>(
+    states: &KeyedState<K, S>,
+    last: &Option<K>,
+    left: usize,
+    count: usize,
+    out: &mut Vec<u8>,
+) -> Result<Option<K>, NoMemory>
+    requires { count ≤ length (entries_above K.Ord.cmp last.now
+        (frozen_entries states.now)) }
+    ensures appended { OnOk result ((begun : List ℕ) × Begins last.now left out.old.items begun
+        × (out.new.items ≡ begun ++ flat_map (pair_spelling K.spelling S.spelling) (take count
+        (entries_above K.Ord.cmp last.now (frozen_entries states.now))))) }
+    ensures spelled { OnOk result (All (PairIsSpelled K.HasSpelling S.HasSpelling)
+        (take count (entries_above K.Ord.cmp last.now (frozen_entries states.now)))) }
+    ensures others { IfOk result (λ next. entries_above K.Ord.cmp next (frozen_entries states.now)
+        ≡ drop count (entries_above K.Ord.cmp last.now (frozen_entries states.now))) }
+    ensures keeps { (more : List ℕ) × (out.new.items ≡ out.old.items ++ more) }
+{
+    take_room(states.len().saturating_sub(left), left, out);
+    begin(last, left, out)?;
+    write_next(states, last.as_ref(), count, out)
+}
+
+/// Writes these logs behind the entries. The head comes first where there are none.
+fn spell_behind<K, R: Codec>(
+    last: &Option<K>,
+    logs: &[(u32, &[R])],
+    out: &mut Vec<u8>,
+) -> Result<(), NoMemory>
+    ensures spelled { OnOk result (LogsAreSpelled R.HasSpelling (logs_now logs.now)) }
+    ensures appended { OnOk result ((begun : List ℕ) × Begins last.now 0 out.old.items begun
+        × (out.new.items ≡ begun ++ logs_spelling R.spelling (logs_now logs.now))) }
+    ensures keeps { (more : List ℕ) × (out.new.items ≡ out.old.items ++ more) }
+{
+    begin(last, 0, out)?;
+    write_logs(logs, out).map_err(|_| NoMemory)
+}
+
 impl<K: Codec + Ord, S: Codec> OperatorState<K, S> {
     /// These states, and no copy. It takes no memory.
     pub fn from_map(alloc: Global, map: Map<K, S>) -> Self
@@ -203,7 +245,7 @@ impl<K: Codec + Ord, S: Codec> OperatorState<K, S> {
             has_copied: false,
             last: None,
             left: 0,
-            bytes: Vec::new(alloc),
+            bytes: PartBytes::new(alloc),
             end: 0,
             handed: None,
         }
@@ -225,7 +267,7 @@ impl<K: Codec + Ord, S: Codec> OperatorState<K, S> {
             has_copied: false,
             last: None,
             left: 0,
-            bytes: Vec::new(alloc),
+            bytes: PartBytes::new(alloc),
             end: 0,
             handed: None,
         }
@@ -244,23 +286,25 @@ impl<K: Codec + Ord, S: Codec> OperatorState<K, S> {
         whole.spell_some(FEW)?;
         let unspelled = whole.unspelled();
         whole.spell_some(unspelled)?;
-        Ok(whole.into_front())
+        whole.into_front()
     }
 
     /// The front of the part, and the key of the last entry that is spelled.
-    fn into_front(self) -> (Option<K>, Vec<u8>)
+    fn into_front(self) -> Result<(Option<K>, Vec<u8>), NoMemory>
         requires { self.unspelled ≡ 0 }
-        ensures { (copy : List (K × S)) → self.copy ≡ Some copy → IsFront K.Ord.cmp K.HasSpelling
-            K.spelling S.HasSpelling S.spelling result.0 copy 0 result.1.items }
+        ensures { IfOk result (λ front. (copy : List (K × S)) → self.copy ≡ Some copy
+            → IsFront K.Ord.cmp K.HasSpelling K.spelling S.HasSpelling S.spelling
+            front.0 copy 0 front.1.items) }
     {
         let OperatorState {
+            alloc,
             last,
             mut bytes,
             end,
             ..
         } = self;
-        bytes.truncate(end);
-        (last, bytes)
+        let front = bytes.take_front(alloc, end)?;
+        Ok((last, front))
     }
 
     /// The state at a key, among those that are seen.
@@ -390,7 +434,7 @@ impl<K: Codec + Ord, S: Codec> OperatorState<K, S> {
         self.has_copied = false;
         self.last = None;
         self.left = 0;
-        self.bytes = Vec::new(self.alloc);
+        self.bytes = PartBytes::new(self.alloc);
         self.end = 0;
     }
 
@@ -422,13 +466,13 @@ impl<K: Codec + Ord, S: Codec> OperatorState<K, S> {
         if count == 0 {
             return Ok(());
         }
-        self.bytes.truncate(self.end);
-        let written = self.states.len().saturating_sub(self.left);
-        take_room(written, self.left, &mut self.bytes);
-        begin(&self.last, self.left, &mut self.bytes)?;
-        self.last = write_next(&self.states, self.last.as_ref(), count, &mut self.bytes)?;
+        let mut bytes = self.bytes.take_front(self.alloc, self.end)?;
+        let spelled = spell_next(&self.states, &self.last, self.left, count, &mut bytes);
+        let end = bytes.len();
+        self.bytes = PartBytes::from_vec(bytes);
+        self.last = spelled?;
         self.left -= count;
-        self.end = self.bytes.len();
+        self.end = end;
         if self.left == 0 {
             self.handed = None;
             self.states.thaw();
@@ -466,7 +510,7 @@ impl<K: Codec + Ord, S: Codec> OperatorState<K, S> {
             return false;
         };
         self.end = bytes.len();
-        self.bytes = bytes;
+        self.bytes = PartBytes::from_vec(bytes);
         self.last = last;
         self.left = 0;
         self.states.thaw();
@@ -499,15 +543,24 @@ impl<K: Codec + Ord, S: Codec> OperatorState<K, S> {
             (Part.Operator copy (logs_now logs.now)))) }
         ensures stays { self.new ≡ record self.old { part = self.new.part } }
     {
-        self.bytes.truncate(self.end);
-        begin(&self.last, 0, &mut self.bytes)?;
-        write_logs(logs, &mut self.bytes).map_err(|_| NoMemory)
+        let mut bytes = self.bytes.take_front(self.alloc, self.end)?;
+        let spelled = spell_behind(&self.last, logs, &mut bytes);
+        self.bytes = PartBytes::from_vec(bytes);
+        spelled
     }
 
     /// The part, as far as it is spelled.
     pub fn part(&self) -> &[u8]
         ensures { result.now ≡ self.now.part }
     {
-        &self.bytes
+        self.bytes.as_slice()
+    }
+
+    /// The part, as far as it is spelled, which others may hold from now on.
+    pub fn share_part(&mut self) -> Result<Bytes, NoMemory>
+        ensures part { IfOk result (λ bytes. bytes ≡ self.old.part) }
+        ensures same { self.new ≡ self.old }
+    {
+        self.bytes.share(self.alloc)
     }
 }

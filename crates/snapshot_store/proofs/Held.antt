@@ -1,6 +1,6 @@
 -- What the parts of a store in memory are, as a map and as a list.
-use Rattle.std.proofs.Common.{◌≡◌, ◌<◌, ℕ, zero, suc, Bool, true, false, cond, List, [], ◌∷◌, length, get_or, Option, None, Some, Result, Ok, Err, IfOk, IfErr, refl, sym, ap, subst, ◌∙◌, arith}
-use Rattle.std.specs.Prelude.{filter, is_some, nat_lt, not, slice_get, slice_set}
+use Rattle.std.proofs.Common.{◌≡◌, ℕ, Bool, true, false, cond, List, [], ◌∷◌, length, get_or, Option, None, Some, Result, Ok, Err, IfOk, IfErr, refl, sym, ap, subst, ◌∙◌, arith}
+use Rattle.std.specs.Prelude.{filter, is_some, slice_get}
 use Rattle.std.specs.Option.{option_map}
 use Rattle.std.specs.Result.{is_ok}
 use Rattle.std.specs.List.{insert, list_any}
@@ -14,7 +14,6 @@ use Rattle.std.specs.declared.cmp.Ordering.TheVariants.{Less, Equal, Greater}
 use Rattle.std.specs.FinMap as fin
 use Rattle.std.specs.FinMap.Entries.{by_order}
 use Rattle.std.specs.FinSet as set
-use Rattle.std.proofs.lemmas.Bool.{lt-ltb}
 use Rattle.std.proofs.lemmas.Cmp.{tied_itself}
 use Rattle.std.proofs.lemmas.List.Kept.{IsStrictlySortedBy-filter}
 use Rattle.std.proofs.lemmas.Map.Entries.{lookup_from_place, lookup-filter-keys}
@@ -145,17 +144,6 @@ parts_of-filter es p = fin.same_map key_cmp_total key_same (parts_of (filter (λ
     ∙ lookup-filter-keys (is_at (key_cmp q)) p (p q) (λ k t. ap p (sym (key_same q k (is_equal (key_cmp q k) t)))) es
     ∙ ap (λ o. cond (p q) o None) (sym (get-parts_of es q))
     ∙ sym (fin.get-retain_keys (parts_of es) p q (λ x t. ap p (sym (key_same q x t)))))
-
-filter-set : {X : Type 0} (p : X → Bool) (xs : List X) (i : ℕ) (y d : X) → p (get_or xs i d) ≡ false → p y ≡ false → filter p (slice_set xs i y) ≡ filter p xs
-filter-set p [] i y d old new = refl
-filter-set p (x ∷ xs) zero y d old new = ap (λ b. cond b (y ∷ filter p xs) (filter p xs)) new ∙ sym (ap (λ b. cond b (x ∷ filter p xs) (filter p xs)) old)
-filter-set p (x ∷ xs) (suc i) y d old new = ap (λ ys. cond (p x) (x ∷ ys) ys) (filter-set p xs i y d old new)
-
--- to write other bytes into a part of a number below leaves the parts that are not below
-pub others-set : (es : Entries) (i n : ℕ) (v : List ℕ) (d : (ℕ × ℕ) × List ℕ) → (get_or es i d).0.0 < n → filter (λ (e : (ℕ × ℕ) × List ℕ). not (nat_lt e.0.0 n)) (slice_set es i ((get_or es i d).0, v)) ≡ filter (λ (e : (ℕ × ℕ) × List ℕ). not (nat_lt e.0.0 n)) es
-others-set es i n v d below =
-    let dropped = ap not (lt-ltb (get_or es i d).0.0 n below) in
-    filter-set (λ (e : (ℕ × ℕ) × List ℕ). not (nat_lt e.0.0 n)) es i ((get_or es i d).0, v) d dropped dropped
 
 keys-filter : (p : ℕ × ℕ → Bool) (es : Entries) → keys_of (filter (λ (e : (ℕ × ℕ) × List ℕ). p e.0) es) ≡ filter p (keys_of es)
 keys-filter p [] = refl

@@ -1,14 +1,17 @@
 -- What a store in memory keeps, call by call.
 use Rattle.std.proofs.Common.{◌≡◌, ◌≤◌, ◌<◌, ◌≢◌, ℕ, zero, suc, Bool, true, false, cond, List, [], Option, None, Some, Result, Ok, Err, refl, sym, ap, subst, ◌∙◌, arith, lit≤, ⊎_elim}
-use Rattle.std.specs.Prelude.{IsSome, OnOk, OnErr, ◌&&◌, ◌||◌, filter, is_some, not, nat_lt}
+use Rattle.std.specs.Prelude.{IsSome, OnOk, OnErr, ◌&&◌, ◌||◌, filter, if◌then◌else◌, is_some, not, nat_lt}
 use Rattle.std.specs.List.{list_any}
 use Rattle.std.specs.Ordering.{nat_cmp, eq_by_cmp}
 use Rattle.std.specs.Cmp.{nat_cmp_total}
 use Rattle.std.specs.FinMap as fin
 use Rattle.std.specs.FinSet as set
 use Rattle.std.proofs.Math.Bool.{and-false}
+use Rattle.std.proofs.lemmas.Bool.{ltb-true}
 use Rattle.std.proofs.lemmas.Bool.Decides.{eqb_tells}
-use Rattle.snapshot_store.specs.Store.{all_below, blank, key_cmp}
+use Rattle.snapshot_store.specs.declared.store.StoreFault.{StoreFault}
+use Rattle.snapshot_store.specs.declared.store.StoreFault.TheVariants.{NoSuchNumber}
+use Rattle.snapshot_store.specs.Store.{Stored, all_below, blank, is_complete, is_reserved, key_cmp, put_refusal}
 use Rattle.snapshot_store.specs.StoreLaws.{key_cmp_total}
 use Rattle.snapshot_store.specs.Lists.{WasGiven}
 use Rattle.snapshot_store.specs.Memory.{IsKept, IsNoted, Noted, Parts, complete_of, memory_state}
@@ -30,6 +33,18 @@ first_true false b e = e
 second_true : (a b : Bool) → (a && b) ≡ true → b ≡ true
 second_true true b e = e
 second_true false b e = absurd (cc e)
+
+admitted : (b : Bool) (refusal : Option StoreFault) → (if b then refusal else Some NoSuchNumber) ≡ None → b ≡ true
+admitted true refusal e = refl
+admitted false refusal e = absurd (cc e)
+
+-- a part that may be put is of a number that was given out, and of a task
+pub may_put : (s : Stored) (n t : ℕ) → put_refusal s n t ≡ None → WasGiven s.next n × (t < s.tasks)
+may_put s n t may =
+    let all = admitted (is_reserved s n && (not (is_complete s n) && nat_lt t s.tasks)) _ may in
+    let given = first_true (is_reserved s n) (not (is_complete s n) && nat_lt t s.tasks) all in
+    let of_task = second_true (not (is_complete s n)) (nat_lt t s.tasks) (second_true (is_reserved s n) (not (is_complete s n) && nat_lt t s.tasks) all) in
+    ((ltb-true 0 n (first_true (nat_lt 0 n) (nat_lt n s.next) given), ltb-true n s.next (second_true (nat_lt 0 n) (nat_lt n s.next) given)), ltb-true t s.tasks of_task)
 
 first_of_all : (p : ℕ → Bool) (n : ℕ) → 1 ≤ n → all_below p n ≡ true → p 0 ≡ true
 first_of_all p zero some all = absurd (omega arith)

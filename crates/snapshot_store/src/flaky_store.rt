@@ -4,6 +4,7 @@ ghost use Rattle.std.specs.Prelude.{◌≡◌, ◌+◌, None, Some, replicate, s
 ghost use Rattle.snapshot_store.specs.Calls.{call_number};
 
 use crate::store::{SnapshotStore, StoreFault};
+use bytes::Bytes;
 use fault_plan::{Plan, When};
 
 /// How many kinds of call may fail.
@@ -129,6 +130,17 @@ impl<S: FaultlessStore> SnapshotStore for FlakyStore<S> {
                 Err(StoreFault::Fault)
             }
             None => self.store.put(number, task, bytes),
+        }
+    }
+
+    fn put_shared(&mut self, number: u64, task: u32, bytes: Bytes) -> Result<(), StoreFault> {
+        match self.plan.due(StoreCall::Put.number()) {
+            Some(When::Before) => Err(StoreFault::Fault),
+            Some(When::After) => {
+                let _ = self.store.put_shared(number, task, bytes);
+                Err(StoreFault::Fault)
+            }
+            None => self.store.put_shared(number, task, bytes),
         }
     }
 

@@ -5,7 +5,7 @@
 //!
 //! Numbers come from the store, start at 1 and are never given out again. A number counts once it
 //! is complete, which asks for the part of every task. A call that fails has done nothing or all of
-//! its work. In memory the room of dropped parts is kept for the next part of the same task.
+//! its work. In memory a part is held as shared bytes: those that are put as such are not copied.
 #![tactic(auto)]
 
 mod flaky_store;

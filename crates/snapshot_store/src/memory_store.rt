@@ -12,7 +12,8 @@ use crate::flaky_store::FaultlessStore;
 use crate::numbers::Numbers;
 use crate::parts::Parts;
 use crate::store::{SnapshotStore, StoreFault};
-use std::alloc::Global;
+use bytes::Bytes;
+use std::alloc::{AllocError, Global};
 
 /// No number is given out from here on.
 const NUMBERS_END: u64 = 1 << 63;
@@ -52,8 +53,9 @@ fn can_complete(numbers: &Numbers, parts: &Parts, number: u64, tasks: u32) -> bo
 }
 
 impl MemoryStore {
-    ghost use Rattle.std.specs.Prelude.{◌≡◌, ◌≤◌};
-    ghost use Rattle.snapshot_store.specs.Store.{blank};
+    ghost use Rattle.std.specs.Prelude.{◌≡◌, ◌<◌, ◌≤◌, Err, IsOk, None, OnOk, OnErr};
+    ghost use Rattle.snapshot_store.specs.Store.{Ends, blank, put_refusal, with_part};
+    ghost use Rattle.snapshot_store.specs.declared.store.StoreFault.TheVariants as StoreFault;
 
     /// A store for at least one task that has given out no number.
     pub fn new(alloc: Global, tasks: u32) -> Self
@@ -67,6 +69,44 @@ impl MemoryStore {
             parts: Parts::new(alloc),
             numbers: Numbers::new(alloc),
         }
+    }
+
+    /// Why a part of so many bytes may not be put, if it may not.
+    fn check_part(&self, number: u64, task: u32, len: usize) -> Result<(), StoreFault>
+        ensures ends { Ends (⟦<MemoryStore as SnapshotStore>⟧.state self.now, 0)
+            (⟦<MemoryStore as SnapshotStore>⟧.state self.now, 0)
+            (put_refusal (⟦<MemoryStore as SnapshotStore>⟧.state self.now) number task)
+            (⟦<MemoryStore as SnapshotStore>⟧.state self.now) result }
+        ensures fits { IsOk result → len ≤ LONGEST_PART }
+        ensures too_long { result ≡ Err StoreFault.Memory → LONGEST_PART < len }
+    {
+        if number == 0
+            || number >= self.next
+            || self.numbers.is_complete(number)
+            || task >= self.tasks
+        {
+            return Err(StoreFault::NoSuchNumber);
+        }
+        if self.parts.has(number, task) {
+            return Err(StoreFault::AlreadyPut);
+        }
+        if len > LONGEST_PART {
+            return Err(StoreFault::Memory);
+        }
+        Ok(())
+    }
+
+    /// Keeps a part that may be put. Its bytes are not copied.
+    fn keep_part(&mut self, number: u64, task: u32, part: Bytes) -> Result<(), AllocError>
+        requires { put_refusal (⟦<MemoryStore as SnapshotStore>⟧.state self.old) number task
+            ≡ None }
+        ensures ok { OnOk result (⟦<MemoryStore as SnapshotStore>⟧.state self.new
+            ≡ with_part (⟦<MemoryStore as SnapshotStore>⟧.state self.old) number task part) }
+        ensures err { OnErr result (⟦<MemoryStore as SnapshotStore>⟧.state self.new
+            ≡ ⟦<MemoryStore as SnapshotStore>⟧.state self.old) }
+    {
+        self.numbers.note(number)?;
+        self.parts.put(number, task, part)
     }
 }
 
@@ -99,22 +139,15 @@ impl SnapshotStore for MemoryStore {
     }
 
     fn put(&mut self, number: u64, task: u32, bytes: &[u8]) -> Result<(), StoreFault> {
-        if number == 0
-            || number >= self.next
-            || self.numbers.is_complete(number)
-            || task >= self.tasks
-        {
-            return Err(StoreFault::NoSuchNumber);
-        }
-        if self.parts.has(number, task) {
-            return Err(StoreFault::AlreadyPut);
-        }
-        if bytes.len() > LONGEST_PART {
-            return Err(StoreFault::Memory);
-        }
-        let part = self.parts.part_of(self.alloc, task, bytes)?;
-        self.numbers.note(number)?;
-        self.parts.put(number, task, part)?;
+        self.check_part(number, task, bytes.len())?;
+        let part = Bytes::copy_from_slice(self.alloc, bytes)?;
+        self.keep_part(number, task, part)?;
+        Ok(())
+    }
+
+    fn put_shared(&mut self, number: u64, task: u32, bytes: Bytes) -> Result<(), StoreFault> {
+        self.check_part(number, task, bytes.len())?;
+        self.keep_part(number, task, bytes)?;
         Ok(())
     }
 
@@ -144,7 +177,7 @@ impl SnapshotStore for MemoryStore {
     }
 
     fn discard_below(&mut self, number: u64) -> Result<(), StoreFault> {
-        self.parts.drop_below(self.alloc, number);
+        self.parts.drop_below(number);
         self.numbers.forget_below(number);
         Ok(())
     }

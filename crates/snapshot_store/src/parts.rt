@@ -1,6 +1,6 @@
 //! The parts of a store in memory.
 
-ghost use Rattle.std.specs.Prelude.{◌≡◌, IfOk, IfErr, OnOk, OnErr, None, Some, filter, is_some, length, nat_lt, not, slice_get};
+ghost use Rattle.std.specs.Prelude.{◌≡◌, IfOk, IfErr, OnOk, OnErr, None, Some, is_some, length, nat_lt, not, slice_get};
 ghost use Rattle.std.specs.FinMap as fin;
 ghost use Rattle.std.specs.List.Sorted.{IsSearchInRange, IsStrictlySortedBy};
 ghost use Rattle.std.specs.Map.{keys_of};
@@ -9,15 +9,13 @@ ghost use Rattle.snapshot_store.specs.Store.{key_cmp};
 ghost use Rattle.snapshot_store.specs.Placed.{Fits};
 ghost use Rattle.snapshot_store.specs.Memory.{parts_of};
 
-use abs_codec::{Bytes, NoMemory};
+use abs_codec::NoMemory;
+use bytes::Bytes;
 use std::alloc::{AllocError, Global};
 use std::collections::BTreeMap;
 use std::marker::Model;
-use std::mem;
 
 type Entry = ((u64, u32), Bytes);
-
-type Spares = BTreeMap<u32, Vec<u8>>;
 
 /// Parts by number and task.
 #[derive(Drop)]
@@ -25,8 +23,6 @@ pub(crate) struct Parts {
     /// By rising keys. To put a part takes time linear in those above it, which are of the same
     /// number where numbers rise.
     entries: Vec<Entry>,
-    /// The room of parts that were dropped, by task, for the next part of the same task.
-    spares: Spares,
 }
 
 impl Model for Parts {
@@ -56,33 +52,11 @@ fn place_of(entries: &[Entry], number: u64, task: u32) -> Result<usize, usize>
     entries.binary_search_by_key(&(number, task), |entry| entry.0)
 }
 
-/// Keeps the room of the parts of the numbers below, and leaves these empty. A later room of a task
-/// replaces the one before, and one for which there is no memory is given back.
-fn keep_room_below(alloc: Global, entries: &mut [Entry], spares: &mut Spares, number: u64)
-    ensures { filter (λ e. not (nat_lt e.0.0 number)) entries.new
-        ≡ filter (λ e. not (nat_lt e.0.0 number)) entries.old }
+/// The bytes of a part, to be shared. They are not copied.
+fn shared(part: abs_codec::Bytes) -> Result<Bytes, NoMemory>
+    ensures { IfOk result (λ bytes. bytes ≡ part) }
 {
-    for place in 0..entries.len() {
-        let entry = &mut entries[place];
-        if entry.0.0 < number {
-            let part = mem::replace(&mut entry.1, Bytes::new(alloc));
-            let _ = spares.insert(entry.0.1, part.into_vec());
-        }
-    }
-}
-
-/// A part that holds these bytes, in this room unless that is over four times as large.
-fn part_in(alloc: Global, mut room: Vec<u8>, bytes: &[u8]) -> Result<Bytes, AllocError>
-    ensures { IfOk result (λ part. part ≡ bytes.now) }
-{
-    if room.capacity() / 4 > bytes.len() {
-        return Bytes::from_slice(alloc, bytes);
-    }
-    room.truncate(bytes.len());
-    let (over, more) = bytes.split_at(room.len());
-    room.copy_from_slice(over);
-    room.extend_from_slice(more)?;
-    Ok(Bytes::from_vec(room))
+    Ok(Bytes::from_vec(part.into_vec())?)
 }
 
 impl Parts {
@@ -92,26 +66,22 @@ impl Parts {
     {
         Parts {
             entries: Vec::new(alloc),
-            spares: BTreeMap::new(alloc),
         }
     }
 
-    /// These parts, which are not copied.
+    /// These parts, whose bytes are not copied.
     pub(crate) fn from_map(
         alloc: Global,
-        map: BTreeMap<(u64, u32), Bytes>,
+        map: BTreeMap<(u64, u32), abs_codec::Bytes>,
     ) -> Result<Parts, NoMemory>
         ensures parts { IfOk result (λ parts. parts ≡ parts_of map.entries) }
         ensures rising { OnOk result (IsStrictlySortedBy key_cmp (keys_of map.entries)) }
     {
         let mut entries = Vec::with_capacity(alloc, map.len())?;
-        for entry in map {
-            entries.push(entry)?;
+        for (key, part) in map {
+            entries.push((key, shared(part)?))?;
         }
-        Ok(Parts {
-            entries,
-            spares: BTreeMap::new(alloc),
-        })
+        Ok(Parts { entries })
     }
 
     pub(crate) fn has(&self, number: u64, task: u32) -> bool
@@ -138,22 +108,6 @@ impl Parts {
         Some((entry.0.0, entry.0.1, entry.1.as_slice()))
     }
 
-    /// A part that holds these bytes, in the room of a dropped part of the task where there is one.
-    pub(crate) fn part_of(
-        &mut self,
-        alloc: Global,
-        task: u32,
-        bytes: &[u8],
-    ) -> Result<Bytes, AllocError>
-        ensures part { IfOk result (λ part. part ≡ bytes.now) }
-        ensures same { self.new ≡ self.old }
-    {
-        match self.spares.remove(&task) {
-            Some(room) => part_in(alloc, room, bytes),
-            None => Bytes::from_slice(alloc, bytes),
-        }
-    }
-
     /// Keeps a part that is not there yet.
     pub(crate) fn put(&mut self, number: u64, task: u32, part: Bytes) -> Result<(), AllocError>
         requires { fin.get self.old (number, task) ≡ None }
@@ -166,11 +120,10 @@ impl Parts {
         Ok(())
     }
 
-    /// Drops the parts of the numbers below. Their room is kept for the next parts of their tasks.
-    pub(crate) fn drop_below(&mut self, alloc: Global, number: u64)
+    /// Drops the parts of the numbers below.
+    pub(crate) fn drop_below(&mut self, number: u64)
         ensures { self.new ≡ fin.retain_keys self.old (λ k. not (nat_lt k.0 number)) }
     {
-        keep_room_below(alloc, &mut self.entries, &mut self.spares, number);
         self.entries.retain(|entry| entry.0.0 >= number);
     }
 }

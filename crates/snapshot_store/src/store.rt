@@ -4,6 +4,7 @@ ghost use Rattle.std.specs.Prelude.{◌≡◌, ◌≢◌, ◌↔◌, ℕ, None, 
 ghost use Rattle.snapshot_store.specs.declared.store.StoreFault.TheVariants.{Memory};
 ghost use Rattle.snapshot_store.specs.Store.{Stored, Ends, IsLatest, IsNumbered, blank, completed, complete_refusal, discarded_below, get_refusal, part_of, put_refusal, reserved, reserve_refusal, with_part};
 
+use bytes::Bytes;
 use std::alloc::AllocError;
 use thiserror::Error;
 
@@ -70,6 +71,15 @@ pub trait SnapshotStore {
             (state self.new, fault_count self.new)
             (put_refusal (state self.old) number task)
             (with_part (state self.old) number task bytes.now) result }
+        ensures told { result ≢ Err StoreFault.Fault
+            → fault_count self.new ≡ fault_count self.old };
+
+    /// Keeps the part of a task, whose bytes are not copied.
+    fn put_shared(&mut self, number: u64, task: u32, bytes: Bytes) -> Result<(), StoreFault>
+        ensures ends { Ends (state self.old, fault_count self.old)
+            (state self.new, fault_count self.new)
+            (put_refusal (state self.old) number task)
+            (with_part (state self.old) number task bytes) result }
         ensures told { result ≢ Err StoreFault.Fault
             → fault_count self.new ≡ fault_count self.old };
 
