@@ -1,6 +1,6 @@
 #!/usr/bin/env bash
 # tests/bench_checkpoints.sh [CHECKPOINTS]: of an operator that counts 1,000, 100,000 and 1,000,000 keys, the nanoseconds of the call that takes its
-# barrier, those of a whole checkpoint a key, and the microseconds of the longest call for its part, each the least of so many checkpoints (9). Ends with
+# barrier, those of a whole checkpoint a key, and the microseconds of the longest call of a checkpoint, each the least of so many checkpoints (9). Ends with
 # status 1 where the first is more than 3 times as long for one number of keys as for another, or the second 2 times.
 set -euo pipefail
 cd "$(dirname "$0")/../crates/checkpoint_bench"

@@ -1,9 +1,10 @@
 //! What a checkpoint of a large state costs. The words are how many keys an operator counts, one
-//! row each, and how many checkpoints are taken then, one after the other, by the calls that a
+//! row each, and how many checkpoints are measured then, one after the other, by the calls that a
 //! worker makes. Standard output says how long the operator's part is, and is the same each time;
 //! standard error has three numbers of nanoseconds: of the call that takes the operator's barrier,
-//! of a whole checkpoint, and of the longest call of a checkpoint, each the least of all
-//! checkpoints. `tests/bench_checkpoints.sh` compares them for 1,000 keys and for many more.
+//! of a whole checkpoint, and of the longest call of a checkpoint, each the least of those that are
+//! measured. Two are taken before them, since from the third on the store drops an older part each
+//! time. `tests/bench_checkpoints.sh` compares them for 1,000 keys and for many more.
 #![tactic(auto)]
 
 use abs_codec::{Codec, Text};
@@ -121,6 +122,7 @@ fn take<
 >(rt: &R, core: &mut Core<O, S, X, P>, memory: &mut [u8]) -> Option<Cost> {
     let start = Instant::now(rt).ok()?;
     core.trigger().ok()?;
+    let trigger = since(rt, start)?;
     core.inject(0).ok()?;
     core.persist(0).ok()?;
     let begun = since(rt, start)?;
@@ -128,17 +130,20 @@ fn take<
     let before = Instant::now(rt).ok()?;
     core.take_barrier(1, 0).ok()?;
     let barrier = since(rt, before)?;
-    let longest = persist(rt, core)?;
+    let part = persist(rt, core)?;
+    let last = Instant::now(rt).ok()?;
     core.complete().ok()?;
+    let complete = since(rt, last)?;
     let whole = begun.saturating_add(since(rt, before)?);
     Some(Cost {
         barrier,
         whole,
-        longest,
+        longest: trigger.max(barrier).max(part).max(complete),
     })
 }
 
-/// The rows of so many keys are counted; then so many checkpoints are taken.
+/// The rows of so many keys are counted; then two checkpoints are taken, and so many that are
+/// measured.
 fn work<
     O: Operator,
     S: SnapshotStore,
@@ -149,6 +154,8 @@ fn work<
     core.restart().ok()?;
     count(core, keys)?;
     let mut memory: Vec<u8> = vec![in alloc; 0; COOL].ok()?;
+    take(rt, core, &mut memory)?;
+    take(rt, core, &mut memory)?;
     let mut least = take(rt, core, &mut memory)?;
     for _ in 1..checkpoints {
         least = take(rt, core, &mut memory)?.least(least);
