@@ -2,7 +2,7 @@
 # make test    the gate: every proof from nothing, every edit that must be refused, every test; then the program that was proved, on all scripts of tests/
 # make wrong   tries the finer edits, those of crates/NAME/wrong/; of some crates alone by make wrong CRATES="alignment channels"
 # make build   proves the program and all that it stands on, and leaves it as bin/absflow
-# make bench   prints the seconds of long scripts and of 1,000,000 rows through a count, through bin/absflow; and what publishing to readers and a large checkpoint cost
+# make bench   prints the seconds of long scripts and of 1,000,000 rows through a count, through bin/absflow, and the ratios that need no other program, with their goals; and what publishing to readers and a large checkpoint cost. It takes what make test or make build has proved and built, or else proves first
 .PHONY: demo test wrong build bench
 
 demo:
@@ -23,8 +23,10 @@ build:
 bench: bin/absflow
 	sh examples/bench.sh
 	tests/bench.sh
+	python3 tests/bench_ratios.py
 	tests/bench_readers.sh
 	tests/bench_checkpoints.sh
 
 bin/absflow:
-	$(MAKE) build
+	mkdir -p bin
+	cp crates/absflow/out/absflow bin/absflow || $(MAKE) build

@@ -8,8 +8,10 @@ checkpoints=${1:-9}
 work=$(mktemp -d)
 trap 'rm -rf "$work"' EXIT
 
-# Proves and builds the program.
-rt run -- 100 2 > "$work/log" 2>&1 || { cat "$work/log"; exit 1; }
+# Proves and builds the program, where it is not there or a source is newer.
+if [ ! -x out/checkpoint_bench ] || [ -n "$(find ../*/src ../*/specs -newer out/checkpoint_bench -print -quit)" ]; then
+    rt run -- 100 2 > "$work/log" 2>&1 || { cat "$work/log"; exit 1; }
+fi
 
 for keys in 1000 100000 1000000; do
     read -r barrier whole longest <<< "$(out/checkpoint_bench "$keys" "$checkpoints" 2>&1 > /dev/null)"

@@ -8,8 +8,10 @@ rounds=${1:-9}
 work=$(mktemp -d)
 trap 'rm -rf "$work"' EXIT
 
-# Proves and builds the program.
-rt run -- 10 100 > "$work/log" 2>&1 || { cat "$work/log"; exit 1; }
+# Proves and builds the program, where it is not there or a source is newer.
+if [ ! -x out/reader_bench ] || [ -n "$(find ../*/src ../*/specs -newer out/reader_bench -print -quit)" ]; then
+    rt run -- 10 100 > "$work/log" 2>&1 || { cat "$work/log"; exit 1; }
+fi
 
 # measure WRITERS PUBLISHES: the microseconds of one round are put last in the file of this number of publishes.
 measure() { out/reader_bench "$1" "$2" 2>> "$work/$2" > /dev/null; }
