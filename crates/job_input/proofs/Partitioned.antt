@@ -1,5 +1,6 @@
 -- A partition for each input, with the rows of its file's lines.
 use Rattle.std.proofs.Common.{◌≡◌, ◌∙◌, ◌<◌, ℕ, zero, suc, Result, Ok, Err, IfOk, IsOkAnd, List, [], ◌∷◌, ◌++◌, map, length, get_or, take, drop, refl, sym, ap, subst, arith, append_assoc, append-nil, take-append-drop}
+use Rattle.std.proofs.lemmas.List.{map-append}
 use Rattle.std.proofs.lemmas.Slice.Zip.{all_zipped_more}
 use Rattle.std.specs.List.{AllZip}
 use Rattle.operators.specs.declared.row.Row.{Row}
@@ -50,10 +51,6 @@ group_given (p ∷ pairs) (Ok one ∷ group) (rows ∷ more) H log_of read put =
     let given = subst (AllZip H (p.1 ∷ [])) put.0 read.0 in
     (given.0, group_given pairs group more H log_of read.1 put.1)
 
-map_both : {A B : Type 0} (f : A → B) (xs ys : List A) → map f (xs ++ ys) ≡ map f xs ++ map f ys
-map_both f [] ys = refl
-map_both f (x ∷ xs) ys = ap (λ l. f x ∷ l) (map_both f xs ys)
-
 -- the inputs so far, and those of the group that was split off
 pub more_given : {I : Type 0} (H : I → List Row → Type 0) (inputs front : List I) (group taken rest : List (ℕ × I)) (size : ℕ) (old new more : List (List Row)) → inputs ≡ front ++ map (λ pair. pair.1) group → AllZip H front old
     → taken ≡ take size group → rest ≡ drop size group → new ≡ old ++ more → AllZip H (map (λ pair. pair.1) taken) more
@@ -61,7 +58,7 @@ pub more_given : {I : Type 0} (H : I → List Row → Type 0) (inputs front : Li
 more_given {I = I} H inputs front group taken rest size old new more all given took left put these =
     let second : ℕ × I → I = λ pair. pair.1 in
     let whole : map second taken ++ map second rest ≡ map second group =
-    ap (λ l. map second l ++ map second rest) took ∙ ap (λ l. map second (take size group) ++ map second l) left ∙ sym (map_both second (take size group) (drop size group)) ∙ ap (map second) (take-append-drop size group) in (
+    ap (λ l. map second l ++ map second rest) took ∙ ap (λ l. map second (take size group) ++ map second l) left ∙ sym (map-append second (take size group) (drop size group)) ∙ ap (map second) (take-append-drop size group) in (
       front ++ map second taken,
       all ∙ ap (λ l. front ++ l) (sym whole) ∙ sym (append_assoc front (map second taken) (map second rest)),
       subst (AllZip H (front ++ map second taken)) (sym put) (both_each H front (map second taken) old more given these),
