@@ -18,14 +18,14 @@ fn are_plain(bytes: &[u8]) -> bool
     bytes.iter().all(|byte| *byte >= b' ' && *byte < 127 && *byte != b'"' && *byte != b'\\')
 }
 
-/// The key and the value of the row that the record spells, where the key needs no escapes.
-fn plain_parts(alloc: Global, record: &[u8]) -> Option<(&[u8], i64)>
-    ensures { IfSome result (λ row. IsPlainRecord record.now row.0.now row.1) }
+/// The key and the value of the row that a record spells, where the key needs no escapes.
+fn plain_parts(alloc: Global, spelled: &[u8]) -> Option<(&[u8], i64)>
+    ensures { IfSome result (λ row. IsPlainRecord spelled.now row.0.now row.1) }
 {
-    let Ok((len, start)) = u32::decode(alloc, record, 0) else {
+    let Ok((len, start)) = u32::decode(alloc, spelled, 0) else {
         return None;
     };
-    let (key, value) = record[start..].split_at_checked(len as usize)?;
+    let (key, value) = spelled[start..].split_at_checked(len as usize)?;
     let Ok(v) = decode_all::<i64>(alloc, value) else {
         return None;
     };
@@ -57,25 +57,25 @@ fn append_escaped(alloc: Global, text: &mut Vec<u8>, row: &Row) -> Result<(), Al
 }
 
 /// Puts the line of the row that the record spells last in the text, or a part of it at `Err`.
-fn append_line(alloc: Global, text: &mut Vec<u8>, record: &[u8]) -> Result<(), CodecFault>
-    ensures { OnOk result (PrintsRecord record.now text.old.items text.new.items) }
+fn append_line(alloc: Global, text: &mut Vec<u8>, spelled: &[u8]) -> Result<(), CodecFault>
+    ensures { OnOk result (PrintsRecord spelled.now text.old.items text.new.items) }
 {
-    if let Some((key, v)) = plain_parts(alloc, record) {
+    if let Some((key, v)) = plain_parts(alloc, spelled) {
         append_plain(text, key, v)?;
         return Ok(());
     }
-    let row: Row = decode_all(alloc, record)?;
+    let row: Row = decode_all(alloc, spelled)?;
     append_escaped(alloc, text, &row)?;
     Ok(())
 }
 
 /// Puts the line of the row that the record spells last in the text. No part of it is left there
 /// at `Err`.
-pub fn append_record(alloc: Global, text: &mut Vec<u8>, record: &[u8]) -> Result<(), CodecFault>
-    ensures { OnOk result (PrintsRecord record.now text.old.items text.new.items) }
+pub fn append_record(alloc: Global, text: &mut Vec<u8>, spelled: &[u8]) -> Result<(), CodecFault>
+    ensures { OnOk result (PrintsRecord spelled.now text.old.items text.new.items) }
 {
     let len = text.len();
-    let put = append_line(alloc, text, record);
+    let put = append_line(alloc, text, spelled);
     if put.is_err() {
         text.truncate(len);
     }

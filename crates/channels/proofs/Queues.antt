@@ -1,6 +1,7 @@
 -- The records and the barriers of a channel, as one list.
 use Rattle.std.proofs.Common.{zero, suc, ◌≡◌, ◌<◌, ◌≤◌, ◌+◌, ◌-◌, ℕ, List, [], ◌∷◌, ◌++◌, length, map, take, drop, Option, Some, None, slice_get, slice_set, get_or, refl, subst, sym, ap, ◌∙◌, arith, append_assoc}
-use Rattle.std.proofs.lemmas.List.{map-append, length-map, length-append, length-take, length-take-le, length-drop, take_all, drop_all, take-append-le, drop-append-le}
+use Rattle.std.proofs.lemmas.List.{map-append, length-map, length-append, length-take, length-take-le, length-drop, take_all, drop_all, drop-take, drop-map, take-append-le, drop-append-le}
+use lib.Seq.{drop-drop}
 use Rattle.std.proofs.lemmas.List.Sums.{sum_by-cons}
 use Rattle.std.proofs.lemmas.Option.{slice_get_read}
 use Rattle.std.specs.Borrow.{Bor}
@@ -25,6 +26,14 @@ gaps_nearer b (first ∷ barriers) some is more =
     let was = gaps-cons first barriers in
     let gap : b.gap ≡ first.gap = ap (λ (a : SpacedBarrier). a.gap) is in
     omega (arith, gaps-cons (record b { gap = b.gap - 1 }) barriers)
+
+-- the first barrier has so many records fewer before it
+pub gaps_skipped : (count : ℕ) (b : SpacedBarrier) (barriers : List SpacedBarrier) → 0 < length barriers → b ≡ get_or barriers 0 b → count ≤ b.gap → gaps (slice_set barriers 0 (record b { gap = b.gap - count })) + count ≡ gaps barriers
+gaps_skipped count b [] some is more = absurd (omega arith)
+gaps_skipped count b (first ∷ barriers) some is more =
+    let was = gaps-cons first barriers in
+    let gap : b.gap ≡ first.gap = ap (λ (a : SpacedBarrier). a.gap) is in
+    omega (arith, gaps-cons (record b { gap = b.gap - count }) barriers)
 
 module _ {R : Type 0} where
   pub length-interleaved : (barriers : List SpacedBarrier) (records : List R) → gaps barriers ≤ length records → length (interleaved barriers records) ≡ length records + length barriers
@@ -163,6 +172,31 @@ module _ {R : Type 0} where
   pub last_rest : (barriers : List SpacedBarrier) (records : List R) (row : R) (rest : List R) → records ≡ row ∷ rest → length barriers ≡ 0 → interleaved barriers rest ≡ drop 1 (interleaved barriers records)
   last_rest barriers records row rest is none =
       sym (ap (λ (l : List R). drop 1 (interleaved barriers l)) is ∙ ap (λ (l : List (Item R)). drop 1 l) (last_popped barriers row rest none))
+
+  -- the first records are gone, and the first barrier is nearer by so many
+  skipped : (count gap checkpoint : ℕ) (barriers : List SpacedBarrier) (records : List R) → count ≤ gap → gap ≤ length records →
+      map Record (take (gap - count) (drop count records)) ++ Barrier checkpoint ∷ interleaved barriers (drop (gap - count) (drop count records)) ≡ drop count (map Record (take gap records) ++ Barrier checkpoint ∷ interleaved barriers (drop gap records))
+  skipped count gap checkpoint barriers records few within =
+      let all : count + (gap - count) ≡ gap = omega (arith, few) in
+      let long : count ≤ length (map {B = Item R} Record (take gap records)) = omega (arith, few, within, length-map (take gap records) (λ r. Record r), length-take-le gap records within) in
+      let before : take (gap - count) (drop count records) ≡ drop count (take gap records) = sym (drop-take count (gap - count) records) ∙ ap (λ n. drop count (take n records)) all in
+      let behind : drop (gap - count) (drop count records) ≡ drop gap records = drop-drop (gap - count) count records ∙ ap (λ n. drop n records) all in
+      ap (λ l. map Record l ++ Barrier checkpoint ∷ interleaved barriers (drop (gap - count) (drop count records))) before
+      ∙ ap (λ l. map Record (drop count (take gap records)) ++ Barrier checkpoint ∷ interleaved barriers l) behind
+      ∙ ap (λ l. l ++ Barrier checkpoint ∷ interleaved barriers (drop gap records)) (sym (drop-map (λ r. Record r) count (take gap records)))
+      ∙ sym (drop-append-le count (map Record (take gap records)) (Barrier checkpoint ∷ interleaved barriers (drop gap records)) long)
+
+  pub records_skipped : (count : ℕ) (b : SpacedBarrier) (barriers : List SpacedBarrier) (records : List R) → 0 < length barriers → b ≡ get_or barriers 0 b → count ≤ b.gap → b.gap ≤ length records →
+      interleaved (slice_set barriers 0 (record b { gap = b.gap - count })) (drop count records) ≡ drop count (interleaved barriers records)
+  records_skipped count b [] records some is few within = absurd (omega arith)
+  records_skipped count b (first ∷ barriers) records some is few within =
+      subst (λ (a : SpacedBarrier). interleaved (slice_set (first ∷ barriers) 0 (record a { gap = a.gap - count })) (drop count records) ≡ drop count (interleaved (first ∷ barriers) records)) (sym is)
+      (skipped count first.gap first.checkpoint barriers records (subst (λ (a : SpacedBarrier). count ≤ a.gap) is few) (subst (λ (a : SpacedBarrier). a.gap ≤ length records) is within))
+
+  -- there is no barrier
+  pub last_skipped : (count : ℕ) (barriers : List SpacedBarrier) (records : List R) → length barriers ≡ 0 → interleaved barriers (drop count records) ≡ drop count (interleaved barriers records)
+  last_skipped count [] records none = sym (drop-map (λ r. Record r) count records)
+  last_skipped count (b ∷ barriers) records none = absurd (omega arith)
 
   -- a record that is lent
   pub lent : (records : List R) (index : ℕ) (row : Option (Bor R)) → IsSome row → IfSome row (λ r. r.now ≡ get_or records index r.now) → index < length records → option_copied row ≡ slice_get records index

@@ -1,7 +1,8 @@
 //! A list of items, pushed at the end and popped at the front.
 
-ghost use Rattle.std.specs.Prelude.{◌≡◌, ◌<◌, ◌≤◌, ◌-◌, ◌↔◌, [], ◌∷◌, ◌++◌, length, drop, slice_get, option_map, IsTrue, OnOk, OnErr};
+ghost use Rattle.std.specs.Prelude.{◌≡◌, ◌<◌, ◌≤◌, ◌+◌, ◌-◌, ◌↔◌, [], ◌∷◌, ◌++◌, length, drop, slice_get, option_map, IsTrue, OnOk, OnErr};
 ghost use Rattle.std.specs.Option.{option_copied};
+ghost use Rattle.std.specs.VecDeque.{deque_len, deque_capacity};
 ghost use Rattle.channels.specs.Items.{item_copied, leading_records};
 
 use crate::item::Item;
@@ -164,5 +165,33 @@ impl<R: Drop> Channel<R> {
             None => self.behind -= 1,
         }
         Some(Item::Record(record))
+    }
+
+    /// Takes away so many of the records that stand before the first barrier. Their room is left.
+    pub fn skip(&mut self, count: usize)
+        requires { count ≤ length (leading_records self.old.items) }
+        ensures rest { self.new ≡ record self.old {
+          items = drop count self.old.items;
+          room = self.new.room;
+        } }
+        ensures room { self.old.room ≤ self.new.room }
+    {
+        drop_first(&mut self.records, count);
+        match self.barriers.front_mut() {
+            Some(barrier) => barrier.gap -= count,
+            None => self.behind -= count,
+        }
+    }
+}
+
+/// Takes away so many records of a queue, from its front.
+fn drop_first<R: Drop>(records: &mut VecDeque<R>, count: usize)
+    requires { count ≤ deque_len records.old }
+    ensures items { records.new.items ≡ drop count records.old.items }
+    ensures len { deque_len records.new + count ≡ deque_len records.old }
+    ensures capacity { deque_capacity records.new ≡ deque_capacity records.old }
+{
+    for _ in 0..count {
+        let _ = records.pop_front();
     }
 }

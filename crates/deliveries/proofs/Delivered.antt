@@ -59,3 +59,8 @@ module _ {R K S O : Type 0} (meaning : Meaning R K S O) (graph : Expanded) (task
   pub sole_delivery : (target : Option ℕ) → deliveries_of_one meaning graph task (port, row) ≡ map (λ n. (n, Record row)) (option_to_list target) → IfSome target (λ number. deliveries_of_one meaning graph task (port, row) ++ [] ≡ (number, Record row) ∷ [])
   sole_delivery None is = tt
   sole_delivery (Some number) is = append-nil (deliveries_of_one meaning graph task (port, row)) ∙ is
+
+  -- the channel that a record goes into, if there is one
+  pub goes_into : (target : Option ℕ) → deliveries_of_one meaning graph task (port, row) ≡ map (λ n. (n, Record row)) (option_to_list target) → deliveries_of_one meaning graph task (port, row) ≡ delivered_last row target
+  goes_into None is = is
+  goes_into (Some number) is = is

@@ -2,6 +2,8 @@
 //! that takes it, in the order in which it was sent, and a barrier into each output of the task.
 #![tactic(auto)]
 
+mod by_run;
 mod puts;
 
+pub use by_run::{only_run, run_target};
 pub use puts::{barriers, deliver, deliver_row, sole_target};

@@ -25,7 +25,7 @@ fn takes_all(graph: &Graph, number: u32) -> bool
 
 /// Of a run of the task's channels, the one that takes this record, if one does. Its lane is
 /// reckoned only where it matters.
-fn target<O: Operator>(
+pub(crate) fn target<O: Operator>(
     graph: &Graph,
     numbers: &[u32],
     place: usize,
@@ -49,7 +49,7 @@ fn target<O: Operator>(
 
 /// The channels that a task sends on from a port, where they are one run: each record goes into
 /// one of them at most.
-fn sole_run(graph: &Graph, task: u32, port: u32) -> Option<&[u32]>
+pub(crate) fn sole_run(graph: &Graph, task: u32, port: u32) -> Option<&[u32]>
     ensures are { IfSome result (λ numbers. numbers.now ≡ outlets_of graph.now task port) }
     ensures run { IfSome result (λ numbers. IsRun graph.now.channels numbers.now 0
         (length numbers.now)) }
@@ -106,51 +106,8 @@ fn deliver_one<O: Operator>(
     Ok(())
 }
 
-/// Adds that a record goes into each channel that takes it from the task's port. The channels of
-/// the first port, which are one run, are given.
-fn deliver_next<O: Operator>(
-    graph: &Graph,
-    task: u32,
-    first: &[u32],
-    port: u32,
-    row: O::Record,
-    puts: &mut Vec<(u32, Item<O::Record>)>,
-) -> Result<(), NoMemory>
-    requires are { first.now ≡ outlets_of graph.now task 0 }
-    requires run { IsRun graph.now.channels first.now 0 (length first.now) }
-    ensures { OnOk result (puts.new.items ≡ puts.old.items
-        ++ deliveries_of_one O.meaning graph.now task (port, row)) }
-{
-    if port != 0 {
-        return deliver_one::<O>(graph, task, port, row, puts);
-    }
-    if let Some(number) = target::<O>(graph, first, 0, first.len(), &row) {
-        puts.push((number, Item::Record(row)))?;
-    }
-    Ok(())
-}
-
-/// Which channel each record goes into, where the channels of the task's first port are one run.
-fn deliver_by_run<O: Operator>(
-    alloc: Global,
-    graph: &Graph,
-    task: u32,
-    first: &[u32],
-    sent: Vec<(u32, O::Record)>,
-) -> Result<Vec<(u32, Item<O::Record>)>, NoMemory>
-    requires are { first.now ≡ outlets_of graph.now task 0 }
-    requires run { IsRun graph.now.channels first.now 0 (length first.now) }
-    ensures { IfOk result (λ puts. puts.items ≡ deliveries_of O.meaning graph.now task sent.items) }
-{
-    let mut puts = Vec::with_capacity(alloc, sent.len())?;
-    for (port, row) in sent {
-        deliver_next::<O>(graph, task, first, port, row, &mut puts)?;
-    }
-    Ok(puts)
-}
-
-/// Which channel each record goes into, whatever the channels of the task are.
-fn deliver_each<O: Operator>(
+/// Which channel each record goes into that a task sends, each record with its port.
+pub fn deliver<O: Operator>(
     alloc: Global,
     graph: &Graph,
     task: u32,
@@ -163,21 +120,6 @@ fn deliver_each<O: Operator>(
         deliver_one::<O>(graph, task, port, row, &mut puts)?;
     }
     Ok(puts)
-}
-
-/// Which channel each record goes into that a task sends, each record with its port.
-pub fn deliver<O: Operator>(
-    alloc: Global,
-    graph: &Graph,
-    task: u32,
-    sent: Vec<(u32, O::Record)>,
-) -> Result<Vec<(u32, Item<O::Record>)>, NoMemory>
-    ensures { IfOk result (λ puts. puts.items ≡ deliveries_of O.meaning graph.now task sent.items) }
-{
-    match sole_run(graph, task, 0) {
-        Some(first) => deliver_by_run::<O>(alloc, graph, task, first, sent),
-        None => deliver_each::<O>(alloc, graph, task, sent),
-    }
 }
 
 /// Which channel a record goes into that a task sends on its first port.

@@ -2,6 +2,7 @@ pub mod Places
 pub mod Kept
 pub mod Putting
 pub mod Received
+pub mod Departures
 pub mod Logging
 pub mod Opening
 pub mod Standings

@@ -7,6 +7,7 @@ use Rattle.std.proofs.lemmas.List.Elements.{filter-append}
 use Rattle.std.proofs.lemmas.Option.{slice_get-map}
 use Rattle.channels.specs.Channel.{Contents}
 use Rattle.channels.specs.declared.item.Item.{Item}
+use Rattle.job_state.specs.AtOnce.{without_first}
 use Rattle.job_state.specs.Sending.{items_at, put_into, contents_items, room_at, AreChannels, HasRoom, Puts, without_head}
 use Rattle.job_state.proofs.Places.{get_set_same, get_set_other, set_same}
 
@@ -32,7 +33,15 @@ module _ {R : Type 0} where
   head_taken channels n was new is taken =
       map-set (λ c. c.items) channels n new ∙ ap (λ x. slice_set (contents_items channels) n x) (taken ∙ ap (λ l. drop 1 l) (sym (items_here channels n was is)))
 
+  -- the first items of a channel were taken away
+  pub first_skipped : (count : ℕ) (channels : List (Contents R)) (n : ℕ) (was new : Contents R) → slice_get channels n ≡ Some was → new.items ≡ drop count was.items → contents_items (slice_set channels n new) ≡ without_first count n (contents_items channels)
+  first_skipped count channels n was new is skipped =
+      map-set (λ c. c.items) channels n new ∙ ap (λ x. slice_set (contents_items channels) n x) (skipped ∙ ap (λ l. drop count l) (sym (items_here channels n was is)))
+
   -- there is no such channel
+  pub none_skipped : (count : ℕ) (channels : List (Contents R)) (n : ℕ) → length channels ≤ n → contents_items channels ≡ without_first count n (contents_items channels)
+  none_skipped count channels n past = sym (set_past (contents_items channels) n _ (omega (arith, past, length-map channels (λ c. c.items))))
+
   pub none_taken : (channels : List (Contents R)) (n : ℕ) → length channels ≤ n → contents_items channels ≡ without_head n (contents_items channels)
   none_taken channels n past = sym (set_past (contents_items channels) n _ (omega (arith, past, length-map channels (λ c. c.items))))
 

@@ -4,7 +4,11 @@ use Rattle.std.specs.Option.{option_map_or}
 use Rattle.channels.specs.Channel.{Contents}
 use Rattle.channels.specs.declared.item.Item.{Item}
 use Rattle.channels.specs.declared.item.Item.TheVariants.{Barrier}
-use Rattle.dataflow_model.specs.Graph.{Channel}
+use Rattle.dataflow_model.specs.Graph.{Channel, Meaning}
+use Rattle.deliveries.specs.Deliveries.{deliveries_of}
+use Rattle.job_graph.specs.Expanded.{Expanded, outlets_of}
+use Rattle.job_graph.specs.Runs.{IsRun}
+use Rattle.job_state.specs.declared.ready.Ready.{Ready}
 
 module _ {R : Type 0} where
   -- what stands in a channel; nothing, if there is no such channel
@@ -42,3 +46,15 @@ module _ {R : Type 0} where
   abbrev pub barrier_into : ℕ → ℕ → Option Channel → List (Item R)
   barrier_into checkpoint task None = []
   barrier_into checkpoint task (Some channel) = if channel.sender == task then Barrier checkpoint ∷ [] else []
+
+module _ {R K S O : Type 0} (meaning : Meaning R K S O) (graph : Expanded) (task : ℕ) where
+  -- all of these are sent on the task's first port, whose channels are one run, and each of those has room for all
+  pub record IsRunReady (channels : List (Contents R)) (sent : List (ℕ × R)) : Type 0 where
+    pub first : All (λ s. s.0 ≡ 0) sent
+    pub run : IsRun graph.channels (outlets_of graph task 0) 0 (length (outlets_of graph task 0))
+    pub room : All (λ number. length sent ≤ room_at channels number) (outlets_of graph task 0)
+
+  -- what the task sends can be put into its channels without memory
+  abbrev pub IsReady : List (Contents R) → List (ℕ × R) → Ready R → Type 0
+  IsReady channels sent (Ready.Run rows) = (rows.items ≡ sent) × IsRunReady channels sent
+  IsReady channels sent (Ready.Each puts) = (puts.items ≡ deliveries_of meaning graph task sent) × HasRoom channels puts.items

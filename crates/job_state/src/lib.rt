@@ -14,6 +14,7 @@ mod gates;
 mod holding;
 mod logs;
 mod openings;
+mod ready;
 mod records;
 mod sending;
 mod spelling;

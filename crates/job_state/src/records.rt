@@ -8,7 +8,10 @@ ghost use Rattle.keyed_state.specs.declared.comparing.SetFault.TheVariants as Se
 use crate::attempt::Attempt;
 use crate::gates::is_logged;
 use crate::logs::{drop_last, log_copy, log_taken, reserve_log};
-use crate::sending::{first, pass_on, reserve_deliveries, send_record, take_head};
+use crate::ready::make_ready;
+use crate::sending::{
+    before_barrier, first, pass_on, reserve_deliveries, send_record, skip, take_head,
+};
 use crate::taking::pass_on_all;
 use crate::tasks::{advance, keep, keep_all};
 use abs_codec::NoMemory;
@@ -126,21 +129,17 @@ impl<O: Operator> Attempt<O> {
         }
         let logged = is_logged(&self.gates, task, input);
         reserve_log(&mut self.logs, channel, logged, count)?;
-        let deliveries = reserve_deliveries::<O>(
-            self.alloc,
-            &mut self.channels,
-            graph,
-            task,
-            sent,
-        )?;
+        let ready = make_ready::<O>(self.alloc, &mut self.channels, graph, task, sent)?;
         keep_all(self.alloc, &mut self.tasks, task, states, expected)?;
-        pass_on_all(
+        pass_on_all::<O>(
             &mut self.channels,
             &mut self.logs,
+            graph,
+            task,
             channel,
             logged,
             count,
-            deliveries,
+            ready,
         );
         Ok(())
     }
@@ -179,6 +178,10 @@ impl<O: Operator> Attempt<O> {
     pub fn take(&mut self, channel: u32)
         ensures { self.new ≡ record self.old { channels = without_head channel self.old.channels } }
     {
-        let _ = take_head(&mut self.channels, channel);
+        if before_barrier(&self.channels, channel) == 0 {
+            let _ = take_head(&mut self.channels, channel);
+        } else {
+            skip(&mut self.channels, channel, 1);
+        }
     }
 }

@@ -4,6 +4,7 @@ ghost use Rattle.std.specs.Prelude.{◌≡◌, ◌++◌, ◌∷◌, [], ◌<◌,
 ghost use Rattle.std.specs.Option.{option_copied};
 ghost use Rattle.channels.specs.Items.{item_copied, leading_records};
 ghost use Rattle.deliveries.specs.Deliveries.{deliveries_of, barriers_of};
+ghost use Rattle.job_state.specs.AtOnce.{without_first};
 ghost use Rattle.job_state.specs.Sending.{contents_items, items_at, put_into, room_at, HasRoom, AreChannels, Puts, barrier_into, without_head};
 ghost use Rattle.channels.specs.declared.item.Item.TheVariants.{Record};
 ghost use Rattle.dataflow_model.specs.Machine.{received};
@@ -157,6 +158,20 @@ pub(crate) fn take_head<R: Drop>(channels: &mut [Channel<R>], channel: u32) -> O
         channels[place].pop()
     } else {
         None
+    }
+}
+
+/// Takes away so many of the records that stand first in a channel, before a barrier. Their room is
+/// left.
+pub(crate) fn skip<R: Drop>(channels: &mut [Channel<R>], channel: u32, count: usize)
+    requires { count ≤ length (leading_records (items_at (contents_items channels.old) channel)) }
+    ensures rest { contents_items channels.new
+        ≡ without_first count channel (contents_items channels.old) }
+    ensures room { (number : ℕ) → room_at channels.old number ≤ room_at channels.new number }
+{
+    let place = channel as usize;
+    if place < channels.len() {
+        channels[place].skip(count);
     }
 }
 

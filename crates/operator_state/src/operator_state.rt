@@ -188,8 +188,8 @@ fn write_next<K: Codec + Ord, S: Codec>(
     }
 }
 
-/// Writes the next entries of the frozen map, of which so many are left, behind those up to the last
-/// one, and copies the key of the last of them. The head comes first where nothing is written.
+/// Writes the next entries of the frozen map, of which so many are left, behind those up to the
+/// last one, and copies the key of the last of them. The head comes first where nothing is written.
 fn spell_next<K: Codec + Ord, S: Codec>(
     states: &KeyedState<K, S>,
     last: &Option<K>,

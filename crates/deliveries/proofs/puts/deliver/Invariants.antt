@@ -1,6 +1,6 @@
 use Rattle.std.proofs.Common.{◌≡◌}
 use Rattle.deliveries.specs.Deliveries.{deliveries_of}
-use Rattle.deliveries.proofs.puts.deliver_by_run.Given as goal
+use Rattle.deliveries.proofs.puts.deliver.Given as goal
 
 -- what was met so far is delivered
 abbrev pub invariant-loop-port : goal.invariant-loop-port
