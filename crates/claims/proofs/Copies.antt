@@ -207,6 +207,13 @@ among_contained xs q (i, less, is) = (i, (less, sym is))
 pub contained_among : {K : Type 0} (xs : List K) (q : K) → IsAmong xs q → Contains xs q
 contained_among xs q (i, (less, is)) = (i, less, sym is)
 
+-- where there is one key at most, the keys rise
+pub few_rise : {K : Type 0} (cmp : K → K → Ordering) (keys : List K) → length keys < 2 → IsStrictlySortedBy cmp keys
+unfolding IsStrictlySortedBy
+few_rise cmp [] few = tt
+few_rise cmp (key ∷ []) few = (tt, tt)
+few_rise cmp (key ∷ other ∷ keys) few = absurd (omega (arith, few))
+
 -- the same keys in another order
 pub among_moved : {K : Type 0} (xs ys : List K) → IsPermutation xs ys → (q : K) → IsAmong ys q ↔ IsAmong xs q
 among_moved xs ys moved q = (

@@ -1,6 +1,6 @@
 //! Work, and what was made of it.
 
-ghost use Rattle.std.specs.Prelude.{◌≡◌, List, IfOk, OnOk};
+ghost use Rattle.std.specs.Prelude.{◌≡◌, ◌++◌, List, IfOk, OnOk};
 ghost use Rattle.claims.specs.declared.parts.Given.TheVariants as Given;
 ghost use Rattle.claims.specs.Carried.{HasItsState, IsOperand, IsOutcome, given_of, records_of};
 ghost use Rattle.claims.specs.Left.{AllGood, WorksRow, made_of, state_left};
@@ -89,6 +89,18 @@ fn outcome_of<O: Operator>(
     operand.operator.apply(alloc, state, row)
 }
 
+/// Puts records last in a list. Where it has none, and no room for them, their own vector is taken.
+fn put_last<R: Drop>(sent: &mut Vec<R>, mut more: Vec<R>) -> Result<(), NoMemory>
+    ensures { OnOk result (sent.new.items ≡ sent.old.items ++ more.items) }
+{
+    if sent.is_empty() && sent.capacity() < more.len() {
+        *sent = more;
+    } else {
+        sent.append(&mut more)?;
+    }
+    Ok(())
+}
+
 /// An operator works a record: its key's state is left, and what is sent is put last. The key's
 /// place may be the one that is guessed.
 fn work_row<O: Operator>(
@@ -114,8 +126,8 @@ fn work_row<O: Operator>(
 {
     let key = operand.operator.key(alloc, row)?;
     let place = place_of(left, &key, guess);
-    let mut outcome = outcome_of(alloc, operand, left, place, row)?;
-    sent.append(&mut outcome.sent)?;
+    let outcome = outcome_of(alloc, operand, left, place, row)?;
+    put_last(sent, outcome.sent)?;
     if let Some(place) = place {
         put_at(left, place, outcome.state);
     }
@@ -135,7 +147,13 @@ fn outcomes_of<O: Operator>(
         return Err(NoMemory);
     };
     let mut left = places_of(alloc, copies)?;
-    let mut sent = Vec::with_capacity(alloc, operand.rows.len())?;
+    // What one record sends is in a vector already.
+    let room = if operand.rows.len() == 1 {
+        0
+    } else {
+        operand.rows.len()
+    };
+    let mut sent = Vec::with_capacity(alloc, room)?;
     let mut guesses = copies.guesses().iter();
     for row in &operand.rows {
         let guess = guesses.next();

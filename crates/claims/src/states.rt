@@ -197,6 +197,9 @@ fn put_in_order<K: Ord + Drop>(alloc: Global, keys: Vec<K>) -> (Vec<K>, Vec<u32>
     ensures same { OrderIsExact K.cmp → (q : K)
         → IsAmong result.0.items q ↔ IsAmong keys.items q }
 {
+    if keys.len() < 2 {
+        return (keys, Vec::new(alloc));
+    }
     let (mut keys, guesses) = with_guesses(alloc, keys);
     sort_once(&mut keys);
     (keys, guesses)

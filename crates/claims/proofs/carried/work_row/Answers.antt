@@ -27,8 +27,8 @@ returns-clause-works g c =
     let key = c.in_ok-key.key in
     let made = c.in_ok-outcome in
     elim c.match-place.branch [
-      | in-Some w ↦ works_at g.O.Operator.meaning g.O.Key.Ord.cmp p left c.match-place.left c.args.row.now c.args.sent.now.items c.append.new.self.items made.outcome.sent.items made.outcome.state made.ensures.state made.ensures.sent c.in_ok-append.ensures.items g.met.O.Key.Ord.total g.met.O.Operator.same_key key w.in-Some.place c.in_ok-key.ensures w.in-Some.ensures.found w.put_at.new.places w.left-is w.put_at.ensures.left
-      | in_default w ↦ works_keyless g.O.Operator.meaning g.O.Key.Ord.cmp p (left_at left) c.args.row.now (left_at c.match-place.left) c.args.sent.now.items c.append.new.self.items made.outcome.sent.items made.outcome.state made.ensures.state made.ensures.sent c.in_ok-append.ensures.items (sym w.in_default.ensures.none ∙ c.in_ok-key.ensures) (ap left_at w.left-is)
+      | in-Some w ↦ works_at g.O.Operator.meaning g.O.Key.Ord.cmp p left c.match-place.left c.args.row.now c.args.sent.now.items c.put_last.new.sent.items made.outcome.sent.items made.outcome.state made.ensures.state made.ensures.sent c.in_ok-put_last.ensures g.met.O.Key.Ord.total g.met.O.Operator.same_key key w.in-Some.place c.in_ok-key.ensures w.in-Some.ensures.found w.put_at.new.places w.left-is w.put_at.ensures.left
+      | in_default w ↦ works_keyless g.O.Operator.meaning g.O.Key.Ord.cmp p (left_at left) c.args.row.now (left_at c.match-place.left) c.args.sent.now.items c.put_last.new.sent.items made.outcome.sent.items made.outcome.state made.ensures.state made.ensures.sent c.in_ok-put_last.ensures (sym w.in_default.ensures.none ∙ c.in_ok-key.ensures) (ap left_at w.left-is)
     ]
 
 pub returns-clause-good : goal.returns-clause-good
