@@ -19,14 +19,6 @@ gaps-cons b barriers = sum_by-cons (λ (a : SpacedBarrier). a.gap) b barriers
 pub gaps_popped : (b : SpacedBarrier) (rest barriers : List SpacedBarrier) → barriers ≡ b ∷ rest → b.gap ≡ 0 → gaps rest ≡ gaps barriers
 gaps_popped b rest barriers is none = rw is (let was = gaps-cons b rest in omega arith)
 
--- the first barrier has one record fewer before it
-pub gaps_nearer : (b : SpacedBarrier) (barriers : List SpacedBarrier) → 0 < length barriers → b ≡ get_or barriers 0 b → 0 < b.gap → gaps (slice_set barriers 0 (record b { gap = b.gap - 1 })) + 1 ≡ gaps barriers
-gaps_nearer b [] some is more = absurd (omega arith)
-gaps_nearer b (first ∷ barriers) some is more =
-    let was = gaps-cons first barriers in
-    let gap : b.gap ≡ first.gap = ap (λ (a : SpacedBarrier). a.gap) is in
-    omega (arith, gaps-cons (record b { gap = b.gap - 1 }) barriers)
-
 -- the first barrier has so many records fewer before it
 pub gaps_skipped : (count : ℕ) (b : SpacedBarrier) (barriers : List SpacedBarrier) → 0 < length barriers → b ≡ get_or barriers 0 b → count ≤ b.gap → gaps (slice_set barriers 0 (record b { gap = b.gap - count })) + count ≡ gaps barriers
 gaps_skipped count b [] some is more = absurd (omega arith)
@@ -139,39 +131,10 @@ module _ {R : Type 0} where
   nothing_first [] (row ∷ records) none lead = absurd (omega (arith, leading_length [] (row ∷ records) refl))
   nothing_first (b ∷ barriers) records none lead = absurd (omega arith)
 
-  nearer : (gap checkpoint : ℕ) (barriers : List SpacedBarrier) (row : R) (records : List R) → 0 < gap →
-      map Record (take gap (row ∷ records)) ++ Barrier checkpoint ∷ interleaved barriers (drop gap (row ∷ records)) ≡ Record row ∷ (map Record (take (gap - 1) records) ++ Barrier checkpoint ∷ interleaved barriers (drop (gap - 1) records))
-  nearer zero checkpoint barriers row records some = absurd (omega arith)
-  nearer (suc gap) checkpoint barriers row records some =
-      let e : suc gap - 1 ≡ gap = omega arith in rw e refl
-
-  -- the first record is taken, and the first barrier is nearer
-  pub record_popped : (b : SpacedBarrier) (barriers : List SpacedBarrier) (row : R) (records : List R) → 0 < length barriers → b ≡ get_or barriers 0 b → 0 < b.gap →
-      interleaved barriers (row ∷ records) ≡ Record row ∷ interleaved (slice_set barriers 0 (record b { gap = b.gap - 1 })) records
-  record_popped b [] row records some is more = absurd (omega arith)
-  record_popped b (first ∷ barriers) row records some is more =
-      subst (λ (a : SpacedBarrier). interleaved (first ∷ barriers) (row ∷ records) ≡ Record row ∷ interleaved (slice_set (first ∷ barriers) 0 (record a { gap = a.gap - 1 })) records) (sym is)
-      (nearer first.gap first.checkpoint barriers row records (subst (λ (a : SpacedBarrier). 0 < a.gap) is more))
-
-  pub last_popped : (barriers : List SpacedBarrier) (row : R) (records : List R) → length barriers ≡ 0 → interleaved barriers (row ∷ records) ≡ Record row ∷ interleaved barriers records
-  last_popped [] row records none = refl
-  last_popped (b ∷ barriers) row records none = absurd (omega arith)
-
   -- the first record, as it leads
   pub record_first : (barriers : List SpacedBarrier) (records : List R) (row : R) (rest : List R) → records ≡ row ∷ rest → 0 < length (leading_records (interleaved barriers records)) → Some (Record row) ≡ slice_get (interleaved barriers records) 0
   record_first barriers records row rest is some =
       first_is_record (interleaved barriers records) row (sym (ap (λ (l : List R). slice_get l 0) is) ∙ leading_get barriers records 0 some)
-
-  -- what is left behind the first record
-  pub record_rest : (b : SpacedBarrier) (barriers : List SpacedBarrier) (records : List R) (row : R) (rest : List R) → records ≡ row ∷ rest → 0 < length barriers → b ≡ get_or barriers 0 b → gaps barriers ≤ length records → 0 < length (leading_records (interleaved barriers records)) →
-      interleaved (slice_set barriers 0 (record b { gap = b.gap - 1 })) rest ≡ drop 1 (interleaved barriers records)
-  record_rest b barriers records row rest is some front within lead =
-      let gap = leading_gap b barriers records some front within in
-      sym (ap (λ (l : List R). drop 1 (interleaved barriers l)) is ∙ ap (λ (l : List (Item R)). drop 1 l) (record_popped b barriers row rest some front (omega arith)))
-
-  pub last_rest : (barriers : List SpacedBarrier) (records : List R) (row : R) (rest : List R) → records ≡ row ∷ rest → length barriers ≡ 0 → interleaved barriers rest ≡ drop 1 (interleaved barriers records)
-  last_rest barriers records row rest is none =
-      sym (ap (λ (l : List R). drop 1 (interleaved barriers l)) is ∙ ap (λ (l : List (Item R)). drop 1 l) (last_popped barriers row rest none))
 
   -- the first records are gone, and the first barrier is nearer by so many
   skipped : (count gap checkpoint : ℕ) (barriers : List SpacedBarrier) (records : List R) → count ≤ gap → gap ≤ length records →
@@ -186,17 +149,21 @@ module _ {R : Type 0} where
       ∙ ap (λ l. l ++ Barrier checkpoint ∷ interleaved barriers (drop gap records)) (sym (drop-map (λ r. Record r) count (take gap records)))
       ∙ sym (drop-append-le count (map Record (take gap records)) (Barrier checkpoint ∷ interleaved barriers (drop gap records)) long)
 
-  pub records_skipped : (count : ℕ) (b : SpacedBarrier) (barriers : List SpacedBarrier) (records : List R) → 0 < length barriers → b ≡ get_or barriers 0 b → count ≤ b.gap → b.gap ≤ length records →
-      interleaved (slice_set barriers 0 (record b { gap = b.gap - count })) (drop count records) ≡ drop count (interleaved barriers records)
-  records_skipped count b [] records some is few within = absurd (omega arith)
-  records_skipped count b (first ∷ barriers) records some is few within =
-      subst (λ (a : SpacedBarrier). interleaved (slice_set (first ∷ barriers) 0 (record a { gap = a.gap - count })) (drop count records) ≡ drop count (interleaved (first ∷ barriers) records)) (sym is)
-      (skipped count first.gap first.checkpoint barriers records (subst (λ (a : SpacedBarrier). count ≤ a.gap) is few) (subst (λ (a : SpacedBarrier). a.gap ≤ length records) is within))
+  pub records_skipped : (count : ℕ) (b : SpacedBarrier) (barriers : List SpacedBarrier) (records rest : List R) → rest ≡ drop count records → 0 < length barriers → b ≡ get_or barriers 0 b →
+      gaps barriers ≤ length records → count ≤ length (leading_records (interleaved barriers records)) →
+      interleaved (slice_set barriers 0 (record b { gap = b.gap - count })) rest ≡ drop count (interleaved barriers records)
+  records_skipped count b [] records rest left some is within few = absurd (omega arith)
+  records_skipped count b (first ∷ barriers) records rest left some is within few =
+      let more = gaps-cons first barriers in
+      let gap = leading_gap first (first ∷ barriers) records some refl within in
+      subst (λ (a : SpacedBarrier). interleaved (slice_set (first ∷ barriers) 0 (record a { gap = a.gap - count })) rest ≡ drop count (interleaved (first ∷ barriers) records)) (sym is)
+      (ap (λ l. interleaved (record first { gap = first.gap - count } ∷ barriers) l) left
+      ∙ skipped count first.gap first.checkpoint barriers records (omega (arith, few, gap)) (omega (arith, more)))
 
   -- there is no barrier
-  pub last_skipped : (count : ℕ) (barriers : List SpacedBarrier) (records : List R) → length barriers ≡ 0 → interleaved barriers (drop count records) ≡ drop count (interleaved barriers records)
-  last_skipped count [] records none = sym (drop-map (λ r. Record r) count records)
-  last_skipped count (b ∷ barriers) records none = absurd (omega arith)
+  pub last_skipped : (count : ℕ) (barriers : List SpacedBarrier) (records rest : List R) → rest ≡ drop count records → length barriers ≡ 0 → interleaved barriers rest ≡ drop count (interleaved barriers records)
+  last_skipped count [] records rest left none = ap (λ l. map Record l) left ∙ sym (drop-map (λ r. Record r) count records)
+  last_skipped count (b ∷ barriers) records rest left none = absurd (omega arith)
 
   -- a record that is lent
   pub lent : (records : List R) (index : ℕ) (row : Option (Bor R)) → IsSome row → IfSome row (λ r. r.now ≡ get_or records index r.now) → index < length records → option_copied row ≡ slice_get records index

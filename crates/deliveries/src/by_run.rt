@@ -1,6 +1,6 @@
 //! What a task sends on channels that are one run: each record goes into one of them at most.
 
-ghost use Rattle.std.specs.Prelude.{◌≡◌, All, IfSome, IsTrue, length};
+ghost use Rattle.std.specs.Prelude.{◌≡◌, ◌↔◌, All, IfSome, IsTrue, length};
 ghost use Rattle.deliveries.specs.Deliveries.{deliveries_of_one, delivered_last};
 ghost use Rattle.job_graph.specs.Expanded.{outlets_of};
 ghost use Rattle.job_graph.specs.Runs.{IsRun};
@@ -11,14 +11,9 @@ use operators::Operator;
 
 /// Whether each of these records is sent on the first port.
 fn are_first<R>(sent: &[(u32, R)]) -> bool
-    ensures { IsTrue result → All (λ s. s.0 ≡ 0) sent.now }
+    ensures { IsTrue result ↔ All (λ s. s.0 ≡ 0) sent.now }
 {
-    for each in sent {
-        if each.0 != 0 {
-            return false;
-        }
-    }
-    true
+    sent.iter().all(|each| each.0 == 0)
 }
 
 /// The channels of a task's first port, where they are one run and each of these records is sent on

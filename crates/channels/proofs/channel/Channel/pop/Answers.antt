@@ -1,7 +1,7 @@
 use Rattle.std.proofs.Common.{◌≡◌, ◌<◌, length, drop, slice_get, refl, sym, ap, arith}
 use Rattle.channels.specs.Items.{leading_records}
 use Rattle.channels.specs.Queues.{gaps}
-use Rattle.channels.proofs.Queues.{nothing_first, barrier_popped, gaps_popped, leading_within, record_first, record_rest, last_rest, contents}
+use Rattle.channels.proofs.Queues.{nothing_first, barrier_popped, gaps_popped, leading_within, record_first, records_skipped, last_skipped, contents}
 use Rattle.channels.proofs.channel.Channel.pop.Goals as goal
 use Rattle.channels.proofs.channel.Channel.pop.Goals.{in-Some, in-None}
 
@@ -55,13 +55,15 @@ pub returns-clause-rest : goal.returns-clause-rest
 returns-clause-rest g c =
     let seen : 0 < length (leading_records c.args.self.now.items) = omega arith in
     let leads = rw (← c.self.view_is) at seen in
+    let barriers = c.self.inside.barriers.items in
+    let records = c.self.inside.records.items in
+    let rest = c.pop_front-2.new.self.items in
+    let left : rest ≡ drop 1 records = sym (ap (λ l. drop 1 l) c.in_ok-record.ensures.items) in
     elim c.match-front_mut.branch [
       | in-Some w ↦
           rw (w.self-is, ← c.self.view_is)
-          (ap (λ l. contents l c.self.inside.room) (record_rest w.in-Some.barrier.now c.self.inside.barriers.items c.self.inside.records.items c.in_ok-record.record c.pop_front-2.new.self.items c.in_ok-record.ensures.items
-          (omega (arith, w.in-Some.ensures.variant.0 refl)) w.in-Some.ensures.value (omega arith) leads))
+          (ap (λ l. contents l c.self.inside.room) (records_skipped 1 w.in-Some.barrier.now barriers records rest left (omega (arith, w.in-Some.ensures.variant.0 refl)) w.in-Some.ensures.value (omega arith) (omega (arith, leads))))
       | in-None w ↦
           rw (w.self-is, ← c.self.view_is)
-          (ap (λ l. contents l c.self.inside.room) (last_rest c.self.inside.barriers.items c.self.inside.records.items c.in_ok-record.record c.pop_front-2.new.self.items c.in_ok-record.ensures.items
-          (omega (arith, w.in-None.ensures.item))))
+          (ap (λ l. contents l c.self.inside.room) (last_skipped 1 barriers records rest left (omega (arith, w.in-None.ensures.item))))
     ]

@@ -1,5 +1,4 @@
-use Rattle.std.proofs.Common.{◌<◌, ◌-◌, length, drop, slice_set, refl, ap, ◌∙◌, arith}
-use Rattle.channels.specs.Queues.{interleaved}
+use Rattle.std.proofs.Common.{◌<◌, length, refl, ap, arith}
 use Rattle.channels.proofs.Queues.{leading_gap, leading_within, gaps_skipped, records_skipped, last_skipped, contents}
 use Rattle.channels.proofs.channel.Channel.skip.Goals as goal
 
@@ -25,15 +24,11 @@ invariant_of-self g c =
 pub returns-in-Some-clause-rest : goal.returns-in-Some-clause-rest
 returns-in-Some-clause-rest g c =
     let few = rw (← c.self.view_is) at c.requires in
-    let some : 0 < length c.self.inside.barriers.items = omega (arith, c.in-Some.ensures.variant.0 refl) in
-    let gap = leading_gap c.in-Some.barrier.now c.self.inside.barriers.items c.self.inside.records.items some c.in-Some.ensures.value (omega arith) in
     rw (← c.self.view_is)
     (ap (λ l. contents l c.self.inside.room)
-    (ap (λ l. interleaved (slice_set c.self.inside.barriers.items 0 (record c.in-Some.barrier.now { gap = c.in-Some.barrier.now.gap - c.args.count })) l) c.drop_first.ensures.items
-    ∙ records_skipped c.args.count c.in-Some.barrier.now c.self.inside.barriers.items c.self.inside.records.items some c.in-Some.ensures.value (omega (arith, few, gap)) (omega (arith, gap, leading_within c.self.inside.barriers.items c.self.inside.records.items))))
+    (records_skipped c.args.count c.in-Some.barrier.now c.self.inside.barriers.items c.self.inside.records.items c.drop_first.new.records.items c.drop_first.ensures.items (omega (arith, c.in-Some.ensures.variant.0 refl)) c.in-Some.ensures.value (omega arith) few))
 
 pub returns-in-None-clause-rest : goal.returns-in-None-clause-rest
 returns-in-None-clause-rest g c =
     rw (← c.self.view_is)
-    (ap (λ l. contents l c.self.inside.room)
-    (ap (λ l. interleaved c.self.inside.barriers.items l) c.drop_first.ensures.items ∙ last_skipped c.args.count c.self.inside.barriers.items c.self.inside.records.items (omega (arith, c.in-None.ensures.item))))
+    (ap (λ l. contents l c.self.inside.room) (last_skipped c.args.count c.self.inside.barriers.items c.self.inside.records.items c.drop_first.new.records.items c.drop_first.ensures.items (omega (arith, c.in-None.ensures.item))))
