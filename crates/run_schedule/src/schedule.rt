@@ -197,8 +197,8 @@ impl Schedule {
         }
     }
 
-    /// How many of so many workers can be of use: a task works one claim at a time, so it is as many
-    /// as there are operators' tasks, or sinks, if these are more.
+    /// How many of so many workers can be of use: a task works one claim at a time, so it is as
+    /// many as there are operators' tasks, or sinks, if these are more.
     pub(crate) fn useful(&self, workers: usize) -> usize
         requires { 1 ≤ workers }
         ensures { (1 ≤ result) × (result ≤ workers) }
@@ -229,9 +229,9 @@ impl Schedule {
         }
     }
 
-    /// The step for what the checkpoint needs. Where it would be late, its barriers wait for records,
-    /// and where a part takes many steps, steps of records come between two of them, if they are to
-    /// be had.
+    /// The step for what the checkpoint needs. Where it would be late, its barriers wait for
+    /// records, and where a part takes many steps, steps of records come between two of them, if
+    /// they are to be had.
     fn next_need(&mut self, need: Need, worker: u32) -> Step {
         let awaits_records = self.round.awaits_records(self.finished);
         if awaits_records || self.round.gives_way() {
@@ -604,8 +604,8 @@ impl Schedule {
         self.round.is_pending()
     }
 
-    /// A worker holds a task's claim of so many records of its first input, which comes last now. It
-    /// is left out where the claim has all that it had, and no barrier may follow.
+    /// A worker holds a task's claim of so many records of its first input, which comes last now.
+    /// It is left out where the claim has all that it had, and no barrier may follow.
     pub(crate) fn claimed(&mut self, worker: u32, task: u32, records: u64) {
         self.claims = self.claims.saturating_add(1);
         if self.takes_all(task, records) {
