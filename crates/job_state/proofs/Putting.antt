@@ -28,11 +28,6 @@ module _ {R : Type 0} where
   items_kept channels n was new is same =
       map-set (λ c. c.items) channels n new ∙ ap (λ x. slice_set (contents_items channels) n x) same ∙ set_same (contents_items channels) n was.items (slice_get-map (λ c. c.items) channels n ∙ ap (option_map (λ c. c.items)) is)
 
-  -- the first item of a channel was taken
-  pub head_taken : (channels : List (Contents R)) (n : ℕ) (was new : Contents R) → slice_get channels n ≡ Some was → new.items ≡ drop 1 was.items → contents_items (slice_set channels n new) ≡ without_head n (contents_items channels)
-  head_taken channels n was new is taken =
-      map-set (λ c. c.items) channels n new ∙ ap (λ x. slice_set (contents_items channels) n x) (taken ∙ ap (λ l. drop 1 l) (sym (items_here channels n was is)))
-
   -- the first items of a channel were taken away
   pub first_skipped : (count : ℕ) (channels : List (Contents R)) (n : ℕ) (was new : Contents R) → slice_get channels n ≡ Some was → new.items ≡ drop count was.items → contents_items (slice_set channels n new) ≡ without_first count n (contents_items channels)
   first_skipped count channels n was new is skipped =
@@ -41,9 +36,6 @@ module _ {R : Type 0} where
   -- there is no such channel
   pub none_skipped : (count : ℕ) (channels : List (Contents R)) (n : ℕ) → length channels ≤ n → contents_items channels ≡ without_first count n (contents_items channels)
   none_skipped count channels n past = sym (set_past (contents_items channels) n _ (omega (arith, past, length-map channels (λ c. c.items))))
-
-  pub none_taken : (channels : List (Contents R)) (n : ℕ) → length channels ≤ n → contents_items channels ≡ without_head n (contents_items channels)
-  none_taken channels n past = sym (set_past (contents_items channels) n _ (omega (arith, past, length-map channels (λ c. c.items))))
 
   -- what was put, as it is seen
   pub puts_from : (middle after : List (Contents R)) (before : List (List (Item R))) (puts : List (ℕ × Item R)) (items : ℕ → List (Item R)) → contents_items middle ≡ before → length after ≡ length middle →

@@ -47,14 +47,14 @@ module _ {R : Type 0} where
   barrier_into checkpoint task None = []
   barrier_into checkpoint task (Some channel) = if channel.sender == task then Barrier checkpoint ∷ [] else []
 
-module _ {R K S O : Type 0} (meaning : Meaning R K S O) (graph : Expanded) (task : ℕ) where
+module _ {R : Type 0} (graph : Expanded) (task : ℕ) where
   -- all of these are sent on the task's first port, whose channels are one run, and each of those has room for all
   pub record IsRunReady (channels : List (Contents R)) (sent : List (ℕ × R)) : Type 0 where
     pub first : All (λ s. s.0 ≡ 0) sent
     pub run : IsRun graph.channels (outlets_of graph task 0) 0 (length (outlets_of graph task 0))
     pub room : All (λ number. length sent ≤ room_at channels number) (outlets_of graph task 0)
 
-  -- what the task sends can be put into its channels without memory
-  abbrev pub IsReady : List (Contents R) → List (ℕ × R) → Ready R → Type 0
-  IsReady channels sent (Ready.Run rows) = (rows.items ≡ sent) × IsRunReady channels sent
-  IsReady channels sent (Ready.Each puts) = (puts.items ≡ deliveries_of meaning graph task sent) × HasRoom channels puts.items
+-- what the task sends can be put into its channels without memory
+abbrev pub IsReady : {R K S O : Type 0} → Meaning R K S O → Expanded → ℕ → List (Contents R) → List (ℕ × R) → Ready R → Type 0
+IsReady meaning graph task channels sent (Ready.Run rows) = (rows.items ≡ sent) × IsRunReady graph task channels sent
+IsReady meaning graph task channels sent (Ready.Each puts) = (puts.items ≡ deliveries_of meaning graph task sent) × HasRoom channels puts.items

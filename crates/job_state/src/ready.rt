@@ -66,7 +66,7 @@ fn push_run<O: Operator>(
     sent: Vec<(u32, O::Record)>,
 )
     requires channels { length channels.old ≡ length graph.now.channels }
-    requires ready { IsRunReady O.meaning graph.now task channels.old sent.items }
+    requires ready { IsRunReady graph.now task channels.old sent.items }
     ensures { (number : ℕ) → items_at (contents_items channels.new) number
         ≡ items_at (contents_items channels.old) number
         ++ put_into number (deliveries_of O.meaning graph.now task sent.items) }
