@@ -1,5 +1,4 @@
 pub mod Calls
-pub mod Log
 pub mod Printed
 pub mod RecordText
 pub mod RowText

@@ -1,7 +1,7 @@
 //! The partitions of a script as a log.
 
 ghost use Rattle.std.specs.Prelude.{◌≡◌, length, map, OnOk, IfOk};
-ghost use Rattle.absflow_run.specs.Log.{with_rows};
+ghost use Rattle.source_log.specs.Partitions.{appended_all};
 
 use crate::refusal::Refusal;
 use operators::Row;
@@ -17,7 +17,7 @@ fn append_rows(
     rows: Vec<FittingRow>,
 ) -> Result<(), SourceFault>
     ensures { OnOk result (⟦<MemoryLog<Row> as Partitions>⟧.records log.new
-        ≡ with_rows (⟦<MemoryLog<Row> as Partitions>⟧.records log.old) partition rows.items) }
+        ≡ appended_all (⟦<MemoryLog<Row> as Partitions>⟧.records log.old) partition rows.items) }
 {
     for row in rows {
         log.append(partition, row.into_row())?;

@@ -4,8 +4,8 @@ use Rattle.std.proofs.lemmas.List.Elements.{All-nil, All-cons, All-head, All-tai
 use Rattle.std.specs.declared.alloc.Global.{Global}
 use Rattle.line_parts.specs.Lines.{in_runs}
 use Rattle.operators.specs.declared.row.Row.{Row}
-use Rattle.job_input.specs.Lines.{with_rows}
 use Rattle.job_input.proofs.Putting.{no_rows}
+use Rattle.source_log.specs.Partitions.{appended_all}
 
 module _ {X : Type 0} (P : X → Type 0) where
   pub all_before : (xs ys : List X) → All P (xs ++ ys) → All P xs
@@ -17,6 +17,6 @@ module _ {X : Type 0} (P : X → Type 0) where
   all_behind (x ∷ xs) ys all = all_behind xs ys (All-tail P x (xs ++ ys) all)
 
 -- with no runs there is nothing to put
-pub none_to_put : (p : ℕ) (partitions : List (List Row)) (runs : List (Vec Row Global)) → length runs ≡ 0 → partitions ≡ with_rows partitions p (in_runs runs)
+pub none_to_put : (p : ℕ) (partitions : List (List Row)) (runs : List (Vec Row Global)) → length runs ≡ 0 → partitions ≡ appended_all partitions p (in_runs runs)
 none_to_put p partitions [] none = sym (no_rows partitions p)
 none_to_put p partitions (run ∷ runs) none = absurd (omega (arith, none))

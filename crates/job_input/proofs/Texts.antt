@@ -10,22 +10,23 @@ use Rattle.line_parts.specs.Lines.{items_of, BeginsWithLines}
 use Rattle.line_parts.proofs.Through.{take_front, drop_front, still_ends}
 use Rattle.operators.specs.RowSpelling.{RowIsSpelled, row_spelling}
 use Rattle.operators.specs.declared.row.Row.{Row}
-use Rattle.job_input.specs.Lines.{is_blank, with_rows, HasRow, PutsLine, PutsLines, PutsText, PutsFront}
+use Rattle.job_input.specs.Lines.{is_blank, HasRow, PutsLine, PutsLines, PutsText, PutsFront}
 use Rattle.job_input.proofs.Putting.{no_rows, more_rows}
+use Rattle.source_log.specs.Partitions.{appended_all}
 
 -- ---- the rows of a text that was read
 
-line_put : (p : ℕ) (line : List ℕ) (row : Option Row) (old : List (List Row)) → HasRow line row → PutsLine p line old (with_rows old p (items_of row))
+line_put : (p : ℕ) (line : List ℕ) (row : Option Row) (old : List (List Row)) → HasRow line row → PutsLine p line old (appended_all old p (items_of row))
 line_put p line row old has = (
-  λ blank. ap (λ r. with_rows old p (items_of r)) (has.0 blank) ∙ no_rows old p,
-  λ other. let (r, is, same) = has.1 other in (r, is, ap (λ s. with_rows old p (items_of s)) same),
+  λ blank. ap (λ r. appended_all old p (items_of r)) (has.0 blank) ∙ no_rows old p,
+  λ other. let (r, is, same) = has.1 other in (r, is, ap (λ s. appended_all old p (items_of s)) same),
 )
 
-pub lines_put : (p n : ℕ) (text : List ℕ) (rows : List Row) (old : List (List Row)) → BeginsWithLines HasRow n text rows [] → PutsLines n p text old (with_rows old p rows)
-lines_put p zero text rows old (none, end) = (end, ap (with_rows old p) none ∙ no_rows old p)
+pub lines_put : (p n : ℕ) (text : List ℕ) (rows : List Row) (old : List (List Row)) → BeginsWithLines HasRow n text rows [] → PutsLines n p text old (appended_all old p rows)
+lines_put p zero text rows old (none, end) = (end, ap (appended_all old p) none ∙ no_rows old p)
 lines_put p (suc n) text rows old (row, more, some, has, lines, all) =
-    let mid = with_rows old p (items_of row) in
-    let whole : with_rows mid p more ≡ with_rows old p rows = more_rows old p (items_of row) more ∙ ap (with_rows old p) (sym all) in
+    let mid = appended_all old p (items_of row) in
+    let whole : appended_all mid p more ≡ appended_all old p rows = more_rows old p (items_of row) more ∙ ap (appended_all old p) (sym all) in
     (mid, line_put p (take_through 10 text) row old has, subst (PutsLines n p (drop_through 10 text) mid) whole (lines_put p n (drop_through 10 text) more mid lines))
 
 pub all_fit : (n : ℕ) (text rest : List ℕ) (rows : List Row) → BeginsWithLines HasRow n text rows rest → All (Fits RowIsSpelled row_spelling) rows
@@ -107,9 +108,9 @@ all_put p (Some xs) (Some ys) (Some zs) old mid new first second end =
     subst (λ l. PutsText p l old new) (sym (is ∙ ap (λ l. text ++ l) end ∙ append-nil text)) puts
 
 -- where what was still to be put at the end is put
-pub then_put : {X E : Type 0} (p : ℕ) (r : Result X E) (known : Option (List ℕ)) (old mid new : List (List Row)) (first last : List Row) → first ≡ [] → new ≡ with_rows mid p last
-    → OnOk r (IfSome known (λ bytes. PutsText p bytes (with_rows old p first) (with_rows mid p last))) → OnOk r (IfSome known (λ bytes. PutsText p bytes old new))
+pub then_put : {X E : Type 0} (p : ℕ) (r : Result X E) (known : Option (List ℕ)) (old mid new : List (List Row)) (first last : List Row) → first ≡ [] → new ≡ appended_all mid p last
+    → OnOk r (IfSome known (λ bytes. PutsText p bytes (appended_all old p first) (appended_all mid p last))) → OnOk r (IfSome known (λ bytes. PutsText p bytes old new))
 then_put p (Err e) known old mid new first last none put text = tt
 then_put p (Ok x) known old mid new first last none put text =
-    let before : with_rows old p first ≡ old = ap (with_rows old p) none ∙ no_rows old p in
-    subst (λ ps. IfSome known (λ bytes. PutsText p bytes old ps)) (sym put) (subst (λ ps. IfSome known (λ bytes. PutsText p bytes ps (with_rows mid p last))) before text)
+    let before : appended_all old p first ≡ old = ap (appended_all old p) none ∙ no_rows old p in
+    subst (λ ps. IfSome known (λ bytes. PutsText p bytes old ps)) (sym put) (subst (λ ps. IfSome known (λ bytes. PutsText p bytes ps (appended_all mid p last))) before text)

@@ -1,5 +1,5 @@
 -- The rows of lines.
-use Rattle.std.specs.Prelude.{◌≡◌, ℕ, zero, suc, ◌==◌, ◌||◌, ◌<◌, length, List, [], ◌++◌, Bool, true, false, Option, None, Some, IfSome, Result, Ok, ⊤, slice_set}
+use Rattle.std.specs.Prelude.{◌≡◌, ℕ, zero, suc, ◌==◌, ◌||◌, ◌<◌, length, List, [], ◌++◌, Bool, true, false, Option, None, Some, IfSome, Result, Ok, ⊤}
 use Rattle.std.specs.List.{list_all}
 use Rattle.std.specs.Io.{IsEmptyOrEndsWith}
 use Rattle.std.specs.Io.BufRead.{take_through, drop_through}
@@ -11,7 +11,7 @@ use Rattle.script_file.specs.declared.fault.ItemFault.TheVariants.{Bad}
 use Rattle.script_file.specs.Faults.{◌>>=◌, or_fault}
 use Rattle.json_members.specs.Json.{json_of}
 use Rattle.script_file.specs.Rows.{row_of}
-use Rattle.source_log.specs.Partitions.{records_at, appended}
+use Rattle.source_log.specs.Partitions.{appended, appended_all}
 
 -- a space, a tab, or a part of a line's end
 abbrev pub is_space : ℕ → Bool
@@ -39,13 +39,9 @@ PutsLines (suc n) partition bytes old new = (mid : List (List Row)) × PutsLine 
 abbrev pub PutsText : ℕ → List ℕ → List (List Row) → List (List Row) → Type 0
 PutsText partition bytes old new = (n : ℕ) × PutsLines n partition bytes old new
 
--- the partitions with these rows put last in this one
-abbrev pub with_rows : List (List Row) → ℕ → List Row → List (List Row)
-with_rows partitions partition rows = slice_set partitions partition (records_at partitions partition ++ rows)
-
 -- Rows are put last in this partition, and the others stay as they are.
 abbrev pub PutsRows : ℕ → List (List Row) → List (List Row) → Type 0
-PutsRows partition old new = (rows : List Row) × (new ≡ with_rows old partition rows)
+PutsRows partition old new = (rows : List Row) × (new ≡ appended_all old partition rows)
 
 -- A blank line has no row, and any other has that of its JSON, which fits.
 abbrev pub HasRow : List ℕ → Option Row → Type 0

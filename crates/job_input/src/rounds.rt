@@ -7,7 +7,8 @@ ghost use Rattle.std.specs.Thread.{IsSync};
 ghost use Rattle.abs_codec.specs.Spelling.{Fits};
 ghost use Rattle.operators.specs.RowSpelling.{RowIsSpelled, row_spelling};
 ghost use Rattle.line_parts.specs.Lines.{in_runs, ReadsLines};
-ghost use Rattle.job_input.specs.Lines.{with_rows, HasRow, PutsFront, PutsRows, PutsText};
+ghost use Rattle.job_input.specs.Lines.{HasRow, PutsFront, PutsRows, PutsText};
+ghost use Rattle.source_log.specs.Partitions.{appended_all};
 
 use crate::fault::LineFault;
 use crate::input::line_fault;
@@ -66,7 +67,7 @@ fn append_runs(
     ensures puts { PutsRows partition (⟦<MemoryLog<Row> as Partitions>⟧.records log.old)
         (⟦<MemoryLog<Row> as Partitions>⟧.records log.new) }
     ensures rows { OnOk result (⟦<MemoryLog<Row> as Partitions>⟧.records log.new
-        ≡ with_rows (⟦<MemoryLog<Row> as Partitions>⟧.records log.old) partition
+        ≡ appended_all (⟦<MemoryLog<Row> as Partitions>⟧.records log.old) partition
         (in_runs runs.items)) }
 {
     for run in runs {
@@ -87,7 +88,7 @@ fn put_pending(
     ensures puts { PutsRows partition (⟦<MemoryLog<Row> as Partitions>⟧.records log.old)
         (⟦<MemoryLog<Row> as Partitions>⟧.records log.new) }
     ensures rows { OnOk result (⟦<MemoryLog<Row> as Partitions>⟧.records log.new
-        ≡ with_rows (⟦<MemoryLog<Row> as Partitions>⟧.records log.old) partition
+        ≡ appended_all (⟦<MemoryLog<Row> as Partitions>⟧.records log.old) partition
         (in_runs pending.old.runs.items)) }
     ensures none { pending.new.runs.items ≡ [] }
 {
@@ -126,7 +127,7 @@ fn read_beside<R: Threads + Sync>(
     ensures puts { PutsRows partition (⟦<MemoryLog<Row> as Partitions>⟧.records log.old)
         (⟦<MemoryLog<Row> as Partitions>⟧.records log.new) }
     ensures rows { OnOk result.0 (⟦<MemoryLog<Row> as Partitions>⟧.records log.new
-        ≡ with_rows (⟦<MemoryLog<Row> as Partitions>⟧.records log.old) partition
+        ≡ appended_all (⟦<MemoryLog<Row> as Partitions>⟧.records log.old) partition
         (in_runs runs.items)) }
     ensures reads { ReadsLines HasRow text.now result.1.lines (in_runs result.1.runs.items)
         (is_none result.1.fault) }
@@ -139,7 +140,7 @@ fn read_beside<R: Threads + Sync>(
         requires { All (Fits RowIsSpelled row_spelling) (in_runs runs.items) }
         ensures puts { PutsRows partition log.entry.now.rows log.exit.now.rows }
         ensures rows { OnOk result (log.exit.now.rows
-            ≡ with_rows log.entry.now.rows partition (in_runs runs.entry.items)) }
+            ≡ appended_all log.entry.now.rows partition (in_runs runs.entry.items)) }
     { append_runs(log, partition, replace(&mut runs, Vec::new(alloc))) };
     let mut read = move || -> Part<Row, LineFault>
         requires { IsSync R.row }
@@ -168,8 +169,8 @@ fn put_lines<R: Threads + Sync>(
         (⟦<MemoryLog<Row> as Partitions>⟧.records log.new) }
     ensures fits { All (Fits RowIsSpelled row_spelling) (in_runs pending.new.runs.items) }
     ensures text { OnOk result (PutsText partition (take count buffer.old.text.items)
-        (with_rows log.old.rows partition (in_runs pending.old.runs.items))
-        (with_rows log.new.rows partition (in_runs pending.new.runs.items))) }
+        (appended_all log.old.rows partition (in_runs pending.old.runs.items))
+        (appended_all log.new.rows partition (in_runs pending.new.runs.items))) }
     ensures rest { OnOk result (buffer.new.text.items ≡ drop count buffer.old.text.items) }
 {
     let before = replace(&mut pending.runs, Vec::new(alloc));
@@ -207,8 +208,8 @@ fn put_whole_lines<R: Threads + Sync>(
     ensures text { OnOk result ((text : List ℕ)
         × (buffer.old.text.items ≡ text ++ buffer.new.text.items) × IsEmptyOrEndsWith text 10
         × PutsText partition text
-        (with_rows log.old.rows partition (in_runs pending.old.runs.items))
-        (with_rows log.new.rows partition (in_runs pending.new.runs.items))) }
+        (appended_all log.old.rows partition (in_runs pending.old.runs.items))
+        (appended_all log.new.rows partition (in_runs pending.new.runs.items))) }
 {
     let count = buffer.whole_len();
     put_lines(rt, alloc, log, partition, pending, buffer, count, threads)?;
@@ -237,8 +238,8 @@ fn put_round<F: BufRead, R: Threads + Sync>(
     ensures front { OnOk result (PutsFront partition
         (prepend_known buffer.old.text.items (F.remaining file.old))
         (prepend_known buffer.new.text.items (F.remaining file.new))
-        (with_rows log.old.rows partition (in_runs pending.old.runs.items))
-        (with_rows log.new.rows partition (in_runs pending.new.runs.items))) }
+        (appended_all log.old.rows partition (in_runs pending.old.runs.items))
+        (appended_all log.new.rows partition (in_runs pending.new.runs.items))) }
     ensures end { result ≡ Ok false
         → OnSome (prepend_known buffer.old.text.items (F.remaining file.old))
         (IsAtEnd (prepend_known buffer.new.text.items (F.remaining file.new))) }
@@ -277,8 +278,8 @@ fn put_rounds<F: BufRead, R: Threads + Sync>(
     ensures fits { All (Fits RowIsSpelled row_spelling) (in_runs pending.new.runs.items) }
     ensures text { OnOk result (IfSome (F.remaining file.old)
         (λ bytes. PutsText partition bytes
-        (with_rows log.old.rows partition (in_runs pending.old.runs.items))
-        (with_rows log.new.rows partition (in_runs pending.new.runs.items)))) }
+        (appended_all log.old.rows partition (in_runs pending.old.runs.items))
+        (appended_all log.new.rows partition (in_runs pending.new.runs.items)))) }
 {
     let mut buffer = LineBuffer::new(alloc);
     for _ in 0..u64::MAX {

@@ -3,10 +3,10 @@ use Rattle.std.proofs.lemmas.List.{flat_map_more}
 use Rattle.abs_codec.specs.Spelling.{Fits}
 use Rattle.line_parts.specs.Lines.{in_runs}
 use Rattle.operators.specs.RowSpelling.{RowIsSpelled, row_spelling}
-use Rattle.job_input.specs.Lines.{with_rows}
 use Rattle.job_input.proofs.Putting.{no_rows, more_rows}
 use Rattle.job_input.proofs.Runs.{all_before, all_behind}
 use Rattle.job_input.proofs.rounds.append_runs.Goals as goal
+use Rattle.source_log.specs.Partitions.{appended_all}
 
 pub loop-run-init : goal.loop-run-init
 loop-run-init c =
@@ -24,7 +24,7 @@ loop-run-preserved c =
     let old = c.args.log.now.rows in
     let p = c.args.partition in
     let ran = c.loop-run.yielded in (
-      c.in_ok-append_all.ensures.ok ∙ ap (λ ps. with_rows ps p run.items) put ∙ more_rows old p (in_runs ran) run.items ∙ ap (with_rows old p) (flat_map_more (λ one. one.items) [] ran run),
+      c.in_ok-append_all.ensures.ok ∙ ap (λ ps. appended_all ps p run.items) put ∙ more_rows old p (in_runs ran) run.items ∙ ap (appended_all old p) (flat_map_more (λ one. one.items) [] ran run),
       all_behind (Fits RowIsSpelled row_spelling) run.items _ (subst (λ runs. All (Fits RowIsSpelled row_spelling) (in_runs runs)) c.in-Some.ensures.steps.0 fit),
     )
 
