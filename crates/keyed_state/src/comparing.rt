@@ -14,7 +14,7 @@ ghost use Rattle.keyed_state.specs.Putting.{note_of, notes_of, undone};
 ghost use Rattle.keyed_state.specs.declared.comparing.SetFault.TheVariants as SetFault;
 
 use crate::lending::Lendable;
-use crate::putting::{MANY, put_back, taken};
+use crate::putting::{put_back, taken};
 use abs_codec::{Codec, Map, NoMemory};
 use std::alloc::{AllocError, Global};
 use std::collections::BTreeMap;
@@ -204,7 +204,7 @@ fn exchange_all<K: Codec + Ord, S: Codec + Eq>(
 
 /// Gives each of these keys, which rise, its state, or none of them where memory is refused or a
 /// state is not the expected one. What is left in the list is to be let go. The map itself is not
-/// copied where nobody reads it.
+/// copied where nobody reads it, and is left ready to be lent.
 pub(crate) fn exchange_all_in<K: Codec + Ord, S: Codec + Eq>(
     alloc: Global,
     map: &mut Lendable<Map<K, S>>,
@@ -220,13 +220,11 @@ pub(crate) fn exchange_all_in<K: Codec + Ord, S: Codec + Eq>(
         → ¬ HaveStates K.Ord.cmp map.old (keys_of entries.old.items) expected.now }
     ensures err { OnErr result (map.new ≡ map.old) }
 {
-    let is_many = entries.len() >= MANY;
     let Ok(own) = taken(alloc, map) else {
         return Err(SetFault::Memory);
     };
     let mut tree = own.into_btree_map();
     let done = exchange_all(&mut tree, entries, expected);
-    let own = Lendable::new(Map::from_btree_map(alloc, tree));
-    *map = if is_many { own.ready(alloc) } else { own };
+    *map = Lendable::new(Map::from_btree_map(alloc, tree)).ready(alloc);
     done
 }

@@ -170,11 +170,8 @@ pub(crate) fn insert_in<K: Codec + Ord, S: Codec>(
     Ok(())
 }
 
-/// A map that takes so many entries at once is made ready to be lent.
-pub(crate) const MANY: usize = 16;
-
 /// Gives each of these keys its state, or none of them where memory is refused. The map itself is
-/// not copied where nobody reads it.
+/// not copied where nobody reads it, and is left ready to be lent.
 pub(crate) fn put_all_in<K: Codec + Ord, S: Codec>(
     alloc: Global,
     map: &mut Lendable<Map<K, S>>,
@@ -183,11 +180,9 @@ pub(crate) fn put_all_in<K: Codec + Ord, S: Codec>(
     ensures ok { OnOk result (map.new ≡ put_over K.Ord.cmp map.old entries.items) }
     ensures err { OnErr result (map.new ≡ map.old) }
 {
-    let is_many = entries.len() >= MANY;
     let mut tree = taken(alloc, map)?.into_btree_map();
     let done = put_all(alloc, &mut tree, entries);
-    let own = Lendable::new(Map::from_btree_map(alloc, tree));
-    *map = if is_many { own.ready(alloc) } else { own };
+    *map = Lendable::new(Map::from_btree_map(alloc, tree)).ready(alloc);
     done
 }
 
