@@ -14,7 +14,7 @@ ghost use Rattle.keyed_state.specs.Putting.{note_of, notes_of, undone};
 ghost use Rattle.keyed_state.specs.declared.comparing.SetFault.TheVariants as SetFault;
 
 use crate::lending::Lendable;
-use crate::putting::{put_back, taken};
+use crate::putting::{make_ready, put_back, taken};
 use abs_codec::{Codec, Map, NoMemory};
 use std::alloc::{AllocError, Global};
 use std::collections::BTreeMap;
@@ -225,6 +225,7 @@ pub(crate) fn exchange_all_in<K: Codec + Ord, S: Codec + Eq>(
     };
     let mut tree = own.into_btree_map();
     let done = exchange_all(&mut tree, entries, expected);
-    *map = Lendable::new(Map::from_btree_map(alloc, tree)).ready(alloc);
+    map.put(Map::from_btree_map(alloc, tree));
+    make_ready(alloc, map);
     done
 }

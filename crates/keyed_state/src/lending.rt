@@ -1,9 +1,11 @@
 //! A value that one owner writes and others read with it.
 
 ghost use Rattle.std.specs.Prelude.{◌≡◌, IfOk, IfErr, IfSome};
+ghost use Rattle.std.specs.Arc.{arc_value};
 
 use std::alloc::Global;
 use std::marker::Model;
+use std::mem::replace;
 use std::sync::Arc;
 
 /// A value that is this owner's alone, or that may be lent.
@@ -41,6 +43,18 @@ impl<T> Model for Lent<T> {
     ghost view = { λ l. arc_value l.value };
 }
 
+/// Takes a shared value out, and puts this one in its place, where nobody else has it.
+fn swap_shared<T>(shared: &mut Arc<T, Global>, value: T) -> Result<T, T>
+    ensures ok { IfOk result (λ former. (former ≡ arc_value shared.old)
+        × (arc_value shared.new ≡ value)) }
+    ensures err { IfErr result (λ back. (back ≡ value) × (shared.new ≡ shared.old)) }
+{
+    match Arc::get_mut(shared) {
+        Some(seen) => Ok(replace(seen, value)),
+        None => Err(value),
+    }
+}
+
 impl<T> Lendable<T> {
     /// A value that is its owner's alone.
     pub(crate) fn new(value: T) -> Self
@@ -70,20 +84,21 @@ impl<T> Lendable<T> {
         }
     }
 
-    /// The value, to be written, where nobody reads it.
-    pub(crate) fn into_value(self) -> Result<T, Lendable<T>>
-        ensures ok { IfOk result (λ value. value ≡ self) }
-        ensures err { IfErr result (λ same. same ≡ self) }
+    /// Takes the value out, and puts this one in its place, where nobody reads it. Else this one is
+    /// handed back. It takes no memory.
+    pub(crate) fn swap(&mut self, value: T) -> Result<T, T>
+        ensures ok { IfOk result (λ former. (former ≡ self.old) × (self.new ≡ value)) }
+        ensures err { IfErr result (λ back. (back ≡ value) × (self.new ≡ self.old)) }
     {
-        match self.kept {
-            Kept::Alone(value) => Ok(value),
-            Kept::Shared(shared) => match Arc::try_unwrap(shared) {
-                Ok(value) => Ok(value),
-                Err(shared) => Err(Lendable {
-                    kept: Kept::Shared(shared),
-                }),
-            },
+        match &mut self.kept {
+            Kept::Alone(seen) => Ok(replace(seen, value)),
+            Kept::Shared(shared) => swap_shared(shared, value),
         }
+    }
+
+    /// Whether it is ready to be lent.
+    pub(crate) fn is_ready(&self) -> bool {
+        matches!(self.kept, Kept::Shared(_))
     }
 
     /// The same value, made ready to be lent where there is memory for that.
@@ -113,6 +128,17 @@ impl<T> Lendable<T> {
         match Arc::try_clone(shared) {
             Ok(value) => Some(Lent { value }),
             Err(_) => None,
+        }
+    }
+}
+
+impl<T: Drop> Lendable<T> {
+    /// Puts this value in the place of the one that is there. Whoever was lent that one keeps it.
+    pub(crate) fn put(&mut self, value: T)
+        ensures { self.new ≡ value }
+    {
+        if let Err(value) = self.swap(value) {
+            *self = Lendable::new(value);
         }
     }
 }

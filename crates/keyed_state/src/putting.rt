@@ -127,8 +127,10 @@ pub(crate) fn put_all<K: Codec + Ord, S: Drop>(
 pub(crate) fn make_ready<K: Ord + Drop, S: Drop>(alloc: Global, map: &mut Lendable<Map<K, S>>)
     ensures { map.new ≡ map.old }
 {
-    let own = replace(map, Lendable::new(Map::new(alloc)));
-    *map = own.ready(alloc);
+    if !map.is_ready() {
+        let own = replace(map, Lendable::new(Map::new(alloc)));
+        *map = own.ready(alloc);
+    }
 }
 
 /// The map, to be written and put back, or a copy of it where others read it. At an `Err` it stays
@@ -140,13 +142,9 @@ pub(crate) fn taken<K: Codec + Ord, S: Codec>(
     ensures ok { IfOk result (λ own. own ≡ map.old) }
     ensures err { OnErr result (map.new ≡ map.old) }
 {
-    match replace(map, Lendable::new(Map::new(alloc))).into_value() {
+    match map.swap(Map::new(alloc)) {
         Ok(own) => Ok(own),
-        Err(shared) => {
-            let copy = shared.value().copied();
-            *map = shared;
-            copy
-        }
+        Err(_) => map.value().copied(),
     }
 }
 
@@ -165,7 +163,7 @@ pub(crate) fn insert_in<K: Codec + Ord, S: Codec>(
 {
     let mut own = taken(alloc, map)?;
     let done = own.insert(key, state);
-    *map = Lendable::new(own);
+    map.put(own);
     done?;
     Ok(())
 }
@@ -182,7 +180,8 @@ pub(crate) fn put_all_in<K: Codec + Ord, S: Codec>(
 {
     let mut tree = taken(alloc, map)?.into_btree_map();
     let done = put_all(alloc, &mut tree, entries);
-    *map = Lendable::new(Map::from_btree_map(alloc, tree)).ready(alloc);
+    map.put(Map::from_btree_map(alloc, tree));
+    make_ready(alloc, map);
     done
 }
 
@@ -248,6 +247,6 @@ pub(crate) fn put_in_both<K: Codec + Ord, S: Codec>(
         undo(&mut tree, below);
         undo(overlay, above);
     }
-    *base = Lendable::new(Map::from_btree_map(alloc, tree));
+    base.put(Map::from_btree_map(alloc, tree));
     done
 }

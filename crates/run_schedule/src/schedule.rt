@@ -66,7 +66,7 @@ pub struct HandedOut {
 }
 
 impl Node {
-    /// After so many records the ends are marked: about a batch for each, which counts as eight
+    /// After so many records the ends are marked: about a batch for each, which counts as 32
     /// records at least, and no fewer than there are ends, so that a mark costs the same however
     /// many there are.
     fn enough(&self, batch: usize) -> usize {
@@ -77,7 +77,7 @@ impl Node {
 
 /// So many records at least are sent to a task before it is asked for them, unless there is nothing
 /// else to do: else a task would be asked after each record, also in vain, where claims are of one.
-const TOLD_TOGETHER: usize = 8;
+const TOLD_TOGETHER: usize = 32;
 
 /// A source sends so many records in one turn, at most.
 const MOST_READS: u32 = 32;
@@ -307,12 +307,18 @@ impl Schedule {
         for _ in 0..self.nodes.len() {
             let rank = others.greatest()?;
             let task = self.task_at(rank)?;
-            if self.nodes.get(task as usize)?.worker == worker {
+            if self.is_own(task, worker) {
                 return Some(task);
             }
             others.remove(rank);
         }
         None
+    }
+
+    /// Whether it was this worker who claimed from the task last.
+    fn is_own(&self, task: u32, worker: u32) -> bool {
+        let node = self.nodes.get(task as usize);
+        node.is_some_and(|node| node.worker == worker)
     }
 
     /// The ready task that stands furthest downstream.
@@ -323,7 +329,12 @@ impl Schedule {
     /// The first input of the worker's own task, or else of the one that stands furthest
     /// downstream.
     fn next_input(&self, worker: u32) -> Option<Place> {
-        let task = self.own_task(worker).or(self.first_task())?;
+        let first = self.first_task()?;
+        let task = if self.is_own(first, worker) {
+            first
+        } else {
+            self.own_task(worker).unwrap_or(first)
+        };
         let input = self.nodes.get(task as usize)?.inputs.first()?;
         Some(Place { task, input })
     }
