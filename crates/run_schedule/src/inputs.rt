@@ -105,6 +105,9 @@ impl Inputs {
 
     /// The first input comes last.
     pub(crate) fn turn(&mut self) {
+        if self.ready.len() < 2 {
+            return;
+        }
         if let Some(input) = self.take_first() {
             self.mark(input);
         }

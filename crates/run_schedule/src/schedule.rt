@@ -440,6 +440,14 @@ impl Schedule {
         } else {
             self.full.remove(node.rank);
         }
+        self.judge_ready(task);
+    }
+
+    /// Whether a task is ready is said anew.
+    fn judge_ready(&mut self, task: u32) {
+        let Some(node) = self.nodes.get(task as usize) else {
+            return;
+        };
         if node.is_busy || node.inputs.is_empty() {
             self.ready.remove(node.rank);
         } else {
@@ -621,6 +629,7 @@ impl Schedule {
         self.claims = self.claims.saturating_add(1);
         if self.takes_all(task, records) {
             self.drop_first(task);
+            self.judge(task);
         } else if let Some(node) = self.nodes.get_mut(task as usize) {
             node.inputs.turn();
         }
@@ -645,7 +654,7 @@ impl Schedule {
         if let Some(node) = self.nodes.get_mut(task as usize) {
             node.is_busy = is_busy;
         }
-        self.judge(task);
+        self.judge_ready(task);
     }
 }
 

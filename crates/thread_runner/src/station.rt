@@ -562,6 +562,9 @@ fn work_ahead<O: Operator, S: SnapshotStore, X: Transactions, P: Partitions<Reco
         ⊎ OffersBehind core.now.engine place.task place.input (most - 1) (Ok result) }
 {
     let behind = most.saturating_sub(1) as usize;
+    if behind == 0 {
+        return Vec::new(alloc);
+    }
     match core.offer_behind(place.task, place.input, behind) {
         Ok(works) => works,
         Err(_) => Vec::new(alloc),
