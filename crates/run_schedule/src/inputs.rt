@@ -55,6 +55,11 @@ impl Inputs {
         self.ready.is_empty()
     }
 
+    /// Whether this input alone may have something.
+    pub(crate) fn is_only(&self, input: u32) -> bool {
+        self.ready.len() == 1 && self.first() == Some(input)
+    }
+
     /// The input may have something.
     pub(crate) fn mark(&mut self, input: u32) {
         let Some(listed) = self.listed.get_mut(input as usize) else {

@@ -644,6 +644,36 @@ impl Schedule {
         records < self.most(task) as u64 && !self.is_pending()
     }
 
+    /// Whether a task whose claim has ended would be the next to claim from this input: nothing else
+    /// comes before it. Then it goes on with the claim that it has, as the schedule sees it.
+    pub(crate) fn goes_on(&mut self, place: Place) -> bool {
+        let Some(node) = self.nodes.get(place.task as usize) else {
+            return false;
+        };
+        let is_next = node.is_operator
+            && node.inputs.is_only(place.input)
+            && self.ready.greatest().is_none_or(|rank| rank < node.rank);
+        is_next && !self.is_down && self.records_come_next()
+    }
+
+    /// Whether a step of a record comes next, if there is one. A piece of a copy that gives way has
+    /// given way then.
+    fn records_come_next(&mut self) -> bool {
+        if self.round.next().is_none() {
+            return !self.is_due();
+        }
+        self.round.awaits_records(self.finished) || self.round.gives_way()
+    }
+
+    /// A task that goes on holds a claim of so many records of its only input. That is left out
+    /// where the claim has all that it had, and no barrier may follow.
+    pub(crate) fn claimed_on(&mut self, task: u32, records: u64) {
+        if self.takes_all(task, records) {
+            self.drop_first(task);
+            self.judge(task);
+        }
+    }
+
     /// A task's claim has ended.
     pub(crate) fn unclaimed(&mut self, task: u32) {
         self.claims = self.claims.saturating_sub(1);

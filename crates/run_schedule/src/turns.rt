@@ -163,6 +163,32 @@ impl Turns {
         self.schedule.claimed(worker, task, records);
     }
 
+    /// A task's job of so many records of this input was taken: whether its worker claims there
+    /// again at once, as it would by its next turn. Then the task holds that claim already.
+    pub fn goes_on(&mut self, place: Place, records: u64) -> bool {
+        self.schedule.worked(place.task, records);
+        if self.end.is_none() && self.left > 0 && self.schedule.goes_on(place) {
+            return true;
+        }
+        self.schedule.unclaimed(place.task);
+        false
+    }
+
+    /// The turn of a worker that claims again at once.
+    pub fn go_on(&mut self) {
+        self.left = self.left.saturating_sub(1);
+    }
+
+    /// A worker that claims again at once holds a claim of so many records.
+    pub fn claimed_on(&mut self, task: u32, records: u64) {
+        self.schedule.claimed_on(task, records);
+    }
+
+    /// A task that was to be claimed from again at once is not.
+    pub fn lets_go(&mut self, task: u32) {
+        self.schedule.unclaimed(task);
+    }
+
     /// What came of a task's job of so many records. A result that comes too late is dropped.
     pub fn finished(&mut self, task: u32, outcome: Result<(), CoreFault>, records: u64) {
         match outcome {

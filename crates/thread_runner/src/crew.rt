@@ -9,7 +9,7 @@ use crate::station::{Next, Station};
 use claims::Leavings;
 use commit_sink::Transactions;
 use operators::Operator;
-use run_schedule::RunFault;
+use run_schedule::{Place, RunFault};
 use snapshot_store::SnapshotStore;
 use source_log::Partitions;
 use std::alloc::Global;
@@ -85,7 +85,7 @@ impl<L: Ledger> Worker<L> {
                 Next::Spell(spelling) => worked = Some(self.spell(rt, alloc, spelling)),
             }
         }
-        self.hand_in(&mut station.lock(rt), worked);
+        self.leave(&mut station.lock(rt), worked);
     }
 
     /// A worker that is tired hands in what was done, and rests, where another one is awake. What
@@ -106,7 +106,7 @@ impl<L: Ledger> Worker<L> {
         if !self.patience.is_tired() {
             return worked;
         }
-        self.hand_in(&mut station.lock(rt), worked);
+        self.leave(&mut station.lock(rt), worked);
         self.rests(rt, station, true);
         None
     }
@@ -142,8 +142,8 @@ impl<L: Ledger> Worker<L> {
     ) -> Next<O> {
         let mut held = station.lock(rt);
         self.patience.has_lock(rt);
-        self.hand_in(&mut held, worked);
-        let (next, before, left) = held.choose_some(alloc, self.number);
+        let again = self.hand_in(&mut held, worked);
+        let (next, before, left) = held.choose_some(alloc, self.number, again);
         held.swap_leavings(leavings);
         drop(held);
         self.patience.gave_lock(rt);
@@ -237,14 +237,19 @@ impl<L: Ledger> Worker<L> {
         Some(Finished::Batch(done))
     }
 
-    /// Hands in what was done, if there is something.
+    /// Hands in what was done, if there is something: where the worker is to claim again at once,
+    /// if it is.
     fn hand_in<
         O: Operator,
         S: SnapshotStore + Drop,
         X: Transactions + Drop,
         P: Partitions<Record = O::Record> + Drop,
         W: Wait + Drop,
-    >(&mut self, station: &mut Station<O, S, X, P, L, W>, worked: Option<Finished<O>>) {
+    >(
+        &mut self,
+        station: &mut Station<O, S, X, P, L, W>,
+        worked: Option<Finished<O>>,
+    ) -> Option<Place> {
         match worked {
             Some(Finished::Batch(batch)) => {
                 let Worker {
@@ -252,11 +257,28 @@ impl<L: Ledger> Worker<L> {
                     finished,
                     ..
                 } = self;
-                *finished += station.take_batch(share, batch);
+                let (records, again) = station.take_batch(share, batch);
+                *finished += records;
+                again
             }
-            Some(Finished::Copy(copy)) => station.handed_in(copy),
-            None => {}
+            Some(Finished::Copy(copy)) => {
+                station.handed_in(copy);
+                None
+            }
+            None => None,
         }
+    }
+
+    /// Hands in what was done, if there is something, and claims nothing.
+    fn leave<
+        O: Operator,
+        S: SnapshotStore + Drop,
+        X: Transactions + Drop,
+        P: Partitions<Record = O::Record> + Drop,
+        W: Wait + Drop,
+    >(&mut self, station: &mut Station<O, S, X, P, L, W>, worked: Option<Finished<O>>) {
+        let again = self.hand_in(station, worked);
+        station.lets_go(again);
     }
 }
 

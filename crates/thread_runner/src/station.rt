@@ -305,10 +305,14 @@ impl<
     }
 
     /// Takes what was done of a task's job and of the work behind it, and tells the turns: how many
-    /// records were taken.
-    pub(crate) fn take_batch(&mut self, share: &mut Share<L>, batch: DoneBatch<O>) -> u128
+    /// records were taken, and where the worker is to claim again at once, if it is.
+    pub(crate) fn take_batch(
+        &mut self,
+        share: &mut Share<L>,
+        batch: DoneBatch<O>,
+    ) -> (u128, Option<Place>)
         requires { 0 < share.old.parts }
-        ensures amount { share.new.amount ≡ share.old.amount + result }
+        ensures amount { share.new.amount ≡ share.old.amount + result.0 }
         ensures bound { share.new.amount < 2 ^ 128 }
         ensures parts { share.new.parts ≡ share.old.parts }
     {
@@ -316,7 +320,11 @@ impl<
         let records = done.records();
         if let Err(fault) = self.finish_with(share, done) {
             self.finished(place.task, Err(fault), records);
-            return 0;
+            return (0, None);
+        }
+        if ahead.is_empty() {
+            let again = self.goes_on(place, records);
+            return (records as u128, again);
         }
         let (count, end) = self.accept_all(share, place, ahead);
         let taken = records as u128 + count;
@@ -325,7 +333,7 @@ impl<
         if end.is_err() {
             self.finished(place.task, end, 0);
         }
-        taken
+        (taken, None)
     }
 
     /// With all shares gathered, the total is their sum.
@@ -404,13 +412,36 @@ impl<
         (next, turns.left())
     }
 
+    /// The first turn of one hold of the lock, where the worker is to claim again at once.
+    fn go_on(&mut self, alloc: Global, again: Option<Place>) -> Next<O>
+        ensures total { self.new.total ≡ self.old.total }
+        ensures step { Preserves ⟦<O as Rules>⟧.all self.old.core.engine self.new.core.engine }
+    {
+        let Some(place) = again else {
+            return Next::Again;
+        };
+        let Station { core, turns, .. } = self;
+        turns.go_on();
+        claim_on(alloc, core, turns, place)
+    }
+
     /// Turns of one hold of the lock, until one leaves this worker something to do: what that is,
-    /// and how many turns were left before them and are after them.
-    pub(crate) fn choose_some(&mut self, alloc: Global, worker: u32) -> (Next<O>, u64, u64)
+    /// and how many turns were left before them and are after them. The worker claims again first
+    /// where it is to.
+    pub(crate) fn choose_some(
+        &mut self,
+        alloc: Global,
+        worker: u32,
+        again: Option<Place>,
+    ) -> (Next<O>, u64, u64)
         ensures total { self.new.total ≡ self.old.total }
         ensures step { Preserves ⟦<O as Rules>⟧.all self.old.core.engine self.new.core.engine }
     {
         let before = self.turns.left();
+        match self.go_on(alloc, again) {
+            Next::Again => {}
+            next => return (next, before, self.turns.left()),
+        }
         for _ in 1..TURNS_A_HOLD {
             match self.choose(alloc, worker) {
                 (Next::Again, _) => {}
@@ -433,6 +464,27 @@ impl<
         ensures { self.new ≡ self.old }
     {
         self.turns.handed_in(copy);
+    }
+
+    /// A task's job of so many records of this input was taken: the same place, where its worker is
+    /// to claim there again at once.
+    fn goes_on(&mut self, place: Place, records: u64) -> Option<Place>
+        ensures { self.new ≡ self.old }
+    {
+        if self.turns.goes_on(place, records) {
+            Some(place)
+        } else {
+            None
+        }
+    }
+
+    /// A worker that is to claim again at once doesn't.
+    pub(crate) fn lets_go(&mut self, again: Option<Place>)
+        ensures { self.new ≡ self.old }
+    {
+        if let Some(place) = again {
+            self.turns.lets_go(place.task);
+        }
     }
 
     /// What came of a task's job of so many records.
@@ -538,15 +590,53 @@ fn claim<O: Operator, S: SnapshotStore, X: Transactions, P: Partitions<Record = 
             turns.claimed(worker, place.task, records);
             Next::Run(Batch { place, job, ahead })
         }
-        Err(CoreFault::NotReady) if turns.awaits_barriers() => {
-            let outcome = core.take_barrier(place.task, place.input);
-            turns.took_barrier(place, outcome);
+        Err(fault) => {
+            find_barrier(core, turns, place, fault);
             Next::Again
+        }
+    }
+}
+
+/// An operator that goes on claims records at the head of its input, a batch at most, or takes the
+/// barrier that may be there. The turns hold its claim already.
+fn claim_on<O: Operator, S: SnapshotStore, X: Transactions, P: Partitions<Record = O::Record>>(
+    alloc: Global,
+    core: &mut Core<O, S, X, P>,
+    turns: &mut Turns,
+    place: Place,
+) -> Next<O>
+    ensures once { ClaimsOnce core.old core.new }
+    ensures step { Preserves ⟦<O as Rules>⟧.all core.old.engine core.new.engine }
+{
+    match core.claim_some(place.task, place.input, turns.batch()) {
+        Ok(job) => {
+            turns.claimed_on(place.task, job.records());
+            let ahead = Vec::new(alloc);
+            Next::Run(Batch { place, job, ahead })
         }
         Err(fault) => {
-            turns.refused(Step::Work(place), fault);
+            turns.lets_go(place.task);
+            find_barrier(core, turns, place, fault);
             Next::Again
         }
+    }
+}
+
+/// A task's claim was refused: it takes the barrier that may be there, or the turns are told why.
+fn find_barrier<O: Operator, S: SnapshotStore, X: Transactions, P: Partitions<Record = O::Record>>(
+    core: &mut Core<O, S, X, P>,
+    turns: &mut Turns,
+    place: Place,
+    fault: CoreFault,
+)
+    ensures once { ClaimsOnce core.old core.new }
+    ensures step { Preserves ⟦<O as Rules>⟧.all core.old.engine core.new.engine }
+{
+    if fault == CoreFault::NotReady && turns.awaits_barriers() {
+        let outcome = core.take_barrier(place.task, place.input);
+        turns.took_barrier(place, outcome);
+    } else {
+        turns.refused(Step::Work(place), fault);
     }
 }
 

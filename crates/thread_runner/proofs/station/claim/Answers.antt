@@ -1,9 +1,9 @@
 use Rattle.std.proofs.Common.{ap}
-use Rattle.dataflow_core.proofs.Preserving.{of_step, of_none, of_both}
+use Rattle.dataflow_core.proofs.Preserving.{of_none, of_both}
 use Rattle.dataflow_core.specs.CoreState.{CoreState}
 use Rattle.thread_runner.proofs.station.claim.Goals as goal
 
-pub returns-in-Err-NotReady-clause-step : goal.returns-in-Err-NotReady-clause-step
-returns-in-Err-NotReady-clause-step g c =
-    let same = ap (λ (s : CoreState g.row.O.Denot g.row.O-Record.Denot g.row.O-Key.Denot g.row.O-State.Denot). s.engine) c.in-Err-NotReady.ensures.err.1 in
-    of_both _ _ _ _ (of_none _ _ _ same) (of_step _ _ _ c.take_barrier-outcome.ensures.step)
+pub returns-in-Err-clause-step : goal.returns-in-Err-clause-step
+returns-in-Err-clause-step g c =
+    let same = ap (λ (s : CoreState g.row.O.Denot g.row.O-Record.Denot g.row.O-Key.Denot g.row.O-State.Denot). s.engine) c.in-Err.ensures.err.1 in
+    of_both _ _ _ _ (of_none _ _ _ same) c.find_barrier.ensures.step
