@@ -25,6 +25,7 @@ mod leavings;
 mod left;
 mod offers;
 mod parts;
+mod rooms;
 mod states;
 
 pub use accepts::accept;
@@ -34,4 +35,5 @@ pub use inputs::input_of;
 pub use leavings::Leavings;
 pub use offers::{offer, offer_behind};
 pub use parts::{Given, Load, Made, Operand, Outcomes};
+pub use rooms::Room;
 pub use states::States;

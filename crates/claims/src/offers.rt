@@ -17,6 +17,7 @@ use crate::carried::Work;
 use crate::due::operator_of;
 use crate::inputs::{first_record, free_records, input_of};
 use crate::parts::{Given, Load, Operand};
+use crate::rooms::Room;
 use crate::states::states_of;
 use abs_codec::{Codec, NoMemory};
 use engine_model::{CoreFault, Rules};
@@ -81,6 +82,7 @@ fn gather<O: Operator>(
     operator: &O,
     channel: u32,
     count: usize,
+    room: &mut Room<O>,
 ) -> Result<Gathered<O::Record, O::Key>, NoMemory>
     requires within { count
         ≤ length (leading_records (items_at attempt.now.channels channel)) }
@@ -90,8 +92,8 @@ fn gather<O: Operator>(
         All (HasItsKey O.meaning operator.now gathered.keys.items) gathered.rows.items) }
 {
     let mut gathered = Gathered {
-        rows: Vec::with_capacity(alloc, count)?,
-        keys: Vec::new(alloc),
+        rows: room.take_rows(alloc, count)?,
+        keys: room.take_keys(alloc, count),
     };
     for index in 0..count {
         let Some(row) = attempt.record(channel, index) else {
@@ -111,6 +113,7 @@ fn operand_of<O: Operator>(
     task: u32,
     channel: u32,
     count: usize,
+    room: &mut Room<O>,
 ) -> Result<Operand<O, O::Key, O::State, O::Record>, NoMemory>
     requires within { count
         ≤ length (leading_records (items_at attempt.now.channels channel)) }
@@ -121,7 +124,7 @@ fn operand_of<O: Operator>(
         → slice_get attempt.now.tasks task ≡ Some (Holding.Operator entries)
         → IsCarried O.meaning O.Key.cmp entries operand) }
 {
-    let Gathered { rows, keys } = gather(alloc, attempt, operator, channel, count)?;
+    let Gathered { rows, keys } = gather(alloc, attempt, operator, channel, count, room)?;
     Ok(Operand {
         operator: operator.copy()?,
         states: states_of(alloc, attempt, task, keys)?,
@@ -137,6 +140,7 @@ fn load_of<O: Operator>(
     task: u32,
     channel: u32,
     count: usize,
+    room: &mut Room<O>,
 ) -> Result<Load<O, O::Key, O::State, O::Record>, NoMemory>
     requires within { count
         ≤ length (leading_records (items_at attempt.now.channels channel)) }
@@ -147,15 +151,16 @@ fn load_of<O: Operator>(
         → slice_get attempt.now.tasks task ≡ Some (Holding.Operator entries)
         → IsCarried O.meaning O.Key.cmp entries load) }
 {
-    let operand = operand_of(alloc, attempt, operator, task, channel, count)?;
+    let operand = operand_of(alloc, attempt, operator, task, channel, count, room)?;
     let load = Load::new(alloc, operand)?;
     Ok(load)
 }
 
 /// Offers the work that a task is to do at an input now: an operator's on the records before the
 /// first barrier, at most so many, and a sink's on one. It copies the operator, the records and
-/// their keys, and the state under each key, once, where the task's states are not lent. `K2` comes
-/// before `K4`, that before `K3`, and `K11` last.
+/// their keys, and the state under each key, once, where the task's states are not lent. What room
+/// there is for the records and the keys is used up. `K2` comes before `K4`, that before `K3`, and
+/// `K11` last.
 pub fn offer<O: Operator>(
     alloc: Global,
     attempt: &Attempt<O>,
@@ -164,6 +169,7 @@ pub fn offer<O: Operator>(
     task: u32,
     input: u32,
     most: usize,
+    room: &mut Room<O>,
 ) -> Result<Work<O>, CoreFault>
     requires some { 0 < most }
     requires expanded { IsExpanded graph.now }
@@ -181,7 +187,7 @@ pub fn offer<O: Operator>(
                 return Err(CoreFault::NoSuchTask);
             };
             let count = free_records(attempt, task, input, channel)?.min(most);
-            let operand = load_of(alloc, attempt, operator, task, channel, count)?;
+            let operand = load_of(alloc, attempt, operator, task, channel, count, room)?;
             Ok(Work {
                 given: Given::Operator(operand),
             })

@@ -13,7 +13,7 @@ use crate::calls::Core;
 use crate::held::{Claim, claim_of, end_claim, is_busy, keep_claim};
 use crate::jobs::{Done, Job};
 use alignment::Effect;
-use claims::{Leavings, Work, Worked};
+use claims::{Leavings, Room, Work, Worked};
 use commit_sink::Transactions;
 use engine::CoreFault;
 use engine_model::Rules;
@@ -51,16 +51,22 @@ impl<O: Operator, S: SnapshotStore, X: Transactions, P: Partitions<Record = O::R
     }
 
     /// The work that a task may claim now, on so many records at most.
-    pub(crate) fn offered(&self, task: u32, input: u32, most: u32) -> Result<Work<O>, CoreFault>
+    pub(crate) fn offered(
+        &self,
+        task: u32,
+        input: u32,
+        most: u32,
+        room: &mut Room<O>,
+    ) -> Result<Work<O>, CoreFault>
         requires { 0 < most }
         ensures ok { IfOk result (MayClaim self.now task input most ⟦<O as Rules>⟧.lang) }
         ensures err { IfErr result (Refuses self.now task input) }
     {
-        self.engine.has_input(task, input)?;
         if is_busy(&self.claims, task) {
+            self.engine.has_input(task, input)?;
             return Err(CoreFault::Busy);
         }
-        let offered = self.engine.offer(task, input, most as usize);
+        let offered = self.engine.offer_in(task, input, most as usize, room);
         if self.serials >= SERIALS {
             return spent(offered);
         }
@@ -87,7 +93,25 @@ impl<O: Operator, S: SnapshotStore, X: Transactions, P: Partitions<Record = O::R
         ensures err { IfErr result (λ fault. Refuses self.old task input fault
             × (self.new ≡ self.old)) }
     {
-        let work = self.offered(task, input, most)?;
+        let mut room = Room::new(self.alloc);
+        self.claim_in(task, input, most, &mut room)
+    }
+
+    /// The same, in room that was taken before: what of it is used up is there no more.
+    pub fn claim_in(
+        &mut self,
+        task: u32,
+        input: u32,
+        most: u32,
+        room: &mut Room<O>,
+    ) -> Result<Job<O>, CoreFault>
+        requires { 0 < most }
+        ensures ok { IfOk result (λ job. Claims self.old task input most ⟦<O as Rules>⟧.lang
+            self.new job.attempt job.serial job.work) }
+        ensures err { IfErr result (λ fault. Refuses self.old task input fault
+            × (self.new ≡ self.old)) }
+    {
+        let work = self.offered(task, input, most, room)?;
         let Core {
             alloc,
             engine,

@@ -16,7 +16,7 @@ ghost use Rattle.engine.specs.Claimed.{Accepts, OffersBehind};
 ghost use Rattle.engine.specs.Running.{IsCounted, IsSameJob};
 
 use crate::calls::{Engine, leave};
-use claims::{Leavings, Work, Worked, accept, channel_of, offer, offer_behind};
+use claims::{Leavings, Room, Work, Worked, accept, channel_of, offer, offer_behind};
 use commit_sink::Transactions;
 use engine_model::{CoreFault, Rules};
 use operators::Operator;
@@ -66,6 +66,21 @@ impl<O: Operator, S: SnapshotStore, X: Transactions, P: Partitions<Record = O::R
         ensures { MatchOption self.now.held (result ≡ Err CoreFault.NotRunning) (λ h. EndsOffer
             ⟦<O as Rules>⟧.lang self.now.graph self.now.operators task input h most result) }
     {
+        self.offer_in(task, input, most, &mut Room::new(self.alloc))
+    }
+
+    /// The same, in room that was taken before: what of it is used up is there no more.
+    pub fn offer_in(
+        &self,
+        task: u32,
+        input: u32,
+        most: usize,
+        room: &mut Room<O>,
+    ) -> Result<Work<O>, CoreFault>
+        requires { 0 < most }
+        ensures { MatchOption self.now.held (result ≡ Err CoreFault.NotRunning) (λ h. EndsOffer
+            ⟦<O as Rules>⟧.lang self.now.graph self.now.operators task input h most result) }
+    {
         let Some(attempt) = &self.attempt else {
             return Err(CoreFault::NotRunning);
         };
@@ -77,6 +92,7 @@ impl<O: Operator, S: SnapshotStore, X: Transactions, P: Partitions<Record = O::R
             task,
             input,
             most,
+            room,
         )
     }
 

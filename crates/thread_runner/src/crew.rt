@@ -2,11 +2,10 @@
 
 ghost use Rattle.std.specs.Prelude.{◌≡◌, ◌+◌, ◌≤◌, ◌<◌, ◌^◌, IfOk, vec_len};
 
-use crate::batch::{Batch, Finished, Spelling};
+use crate::batch::Workbench;
 use crate::patience::Patience;
 use crate::pause::Pause;
 use crate::station::{Next, Station};
-use claims::Leavings;
 use commit_sink::Transactions;
 use operators::Operator;
 use run_schedule::{Place, RunFault};
@@ -66,11 +65,12 @@ impl<L: Ledger> Worker<L> {
         station: &Mutex<Station<O, S, X, P, L, W>>,
         turns: u64,
         pause: &H,
+        batch: u32,
     ) {
-        let mut worked = None;
-        let mut leavings = Leavings::new(alloc);
+        let mut bench = Workbench::new(alloc);
         for _ in 0..turns {
-            match self.take_turns(rt, alloc, station, worked.take(), &mut leavings) {
+            bench.tidy(batch);
+            match self.take_turns(rt, station, &mut bench) {
                 Next::Over => return,
                 Next::Idle => self.idled(rt, station),
                 Next::Again => self.made(rt, station),
@@ -78,18 +78,17 @@ impl<L: Ledger> Worker<L> {
                     let _ = station.lock(rt).publish();
                     self.made(rt, station);
                 }
-                Next::Run(batch) => {
-                    worked = self.run_job(rt, alloc, station, turns, pause, batch);
-                    worked = self.rests_if_tired(rt, station, worked);
+                Next::Run => {
+                    self.run_job(rt, station, turns, pause, &mut bench);
+                    self.rests_if_tired(rt, station, &mut bench);
                 }
-                Next::Spell(spelling) => worked = Some(self.spell(rt, alloc, spelling)),
+                Next::Spell => self.spell(rt, &mut bench),
             }
         }
-        self.leave(&mut station.lock(rt), worked);
+        self.leave(&mut station.lock(rt), &mut bench);
     }
 
-    /// A worker that is tired hands in what was done, and rests, where another one is awake. What
-    /// was done, where it is not.
+    /// A worker that is tired hands in what was done, and rests, where another one is awake.
     fn rests_if_tired<
         O: Operator,
         S: SnapshotStore + Drop,
@@ -101,30 +100,22 @@ impl<L: Ledger> Worker<L> {
         &mut self,
         rt: &R,
         station: &Mutex<Station<O, S, X, P, L, W>>,
-        worked: Option<Finished<O>>,
-    ) -> Option<Finished<O>> {
-        if !self.patience.is_tired() {
-            return worked;
+        bench: &mut Workbench<O>,
+    ) {
+        if self.patience.is_tired() {
+            self.leave(&mut station.lock(rt), bench);
+            self.rests(rt, station, true);
         }
-        self.leave(&mut station.lock(rt), worked);
-        self.rests(rt, station, true);
-        None
     }
 
     /// Spells a task's copy with no lock held.
-    fn spell<O: Operator, R: Clock>(
-        &mut self,
-        rt: &R,
-        alloc: Global,
-        spelling: Spelling<O>,
-    ) -> Finished<O> {
-        let copy = spelling.run(alloc);
+    fn spell<O: Operator, R: Clock>(&mut self, rt: &R, bench: &mut Workbench<O>) {
+        bench.spell();
         self.patience.ran_job(rt);
-        Finished::Copy(copy)
     }
 
     /// Hands in what was done last, if there is something, and takes turns in the same hold of the
-    /// lock. What results have left is let go after it.
+    /// lock. What results have left is at hand after it.
     fn take_turns<
         O: Operator,
         S: SnapshotStore + Drop,
@@ -135,19 +126,16 @@ impl<L: Ledger> Worker<L> {
     >(
         &mut self,
         rt: &R,
-        alloc: Global,
         station: &Mutex<Station<O, S, X, P, L, W>>,
-        worked: Option<Finished<O>>,
-        leavings: &mut Leavings<O>,
-    ) -> Next<O> {
+        bench: &mut Workbench<O>,
+    ) -> Next {
         let mut held = station.lock(rt);
         self.patience.has_lock(rt);
-        let again = self.hand_in(&mut held, worked);
-        let (next, before, left) = held.choose_some(alloc, self.number, again);
-        held.swap_leavings(leavings);
+        let again = self.hand_in(&mut held, bench);
+        let (next, before, left) = held.choose_some(self.number, again, bench);
+        held.swap_leavings(bench);
         drop(held);
         self.patience.gave_lock(rt);
-        leavings.let_go();
         self.patience.took_turns(before, left);
         next
     }
@@ -203,8 +191,8 @@ impl<L: Ledger> Worker<L> {
         true
     }
 
-    /// Runs a task's job with no lock held. What was done of it is `None` where the run ended while
-    /// the job had to wait.
+    /// Runs a task's job with no lock held. It is not done where the run ended while it had to
+    /// wait.
     fn run_job<
         O: Operator,
         S: SnapshotStore + Drop,
@@ -216,25 +204,25 @@ impl<L: Ledger> Worker<L> {
     >(
         &mut self,
         rt: &R,
-        alloc: Global,
         station: &Mutex<Station<O, S, X, P, L, W>>,
         turns: u64,
         pause: &H,
-        batch: Batch<O>,
-    ) -> Option<Finished<O>> {
-        let (attempt, serial) = (batch.job.attempt(), batch.job.serial());
+        bench: &mut Workbench<O>,
+    ) {
+        let Some((attempt, serial)) = bench.ticket() else {
+            return;
+        };
         for _ in 0..turns {
             if pause.before_run(attempt, serial) {
                 break;
             }
             if !station.lock(rt).wait() {
-                return None;
+                return bench.drop_job();
             }
         }
-        let done = batch.run(alloc);
+        bench.run();
         pause.after_run(attempt, serial);
         self.patience.ran_job(rt);
-        Some(Finished::Batch(done))
     }
 
     /// Hands in what was done, if there is something: where the worker is to claim again at once,
@@ -248,25 +236,19 @@ impl<L: Ledger> Worker<L> {
     >(
         &mut self,
         station: &mut Station<O, S, X, P, L, W>,
-        worked: Option<Finished<O>>,
+        bench: &mut Workbench<O>,
     ) -> Option<Place> {
-        match worked {
-            Some(Finished::Batch(batch)) => {
-                let Worker {
-                    share,
-                    finished,
-                    ..
-                } = self;
-                let (records, again) = station.take_batch(share, batch);
-                *finished += records;
-                again
-            }
-            Some(Finished::Copy(copy)) => {
-                station.handed_in(copy);
-                None
-            }
-            None => None,
+        if let Some(copy) = bench.take_copy() {
+            station.handed_in(copy);
         }
+        let Worker {
+            share,
+            finished,
+            ..
+        } = self;
+        let (records, again) = station.take_batch(share, bench);
+        *finished += records;
+        again
     }
 
     /// Hands in what was done, if there is something, and claims nothing.
@@ -276,8 +258,8 @@ impl<L: Ledger> Worker<L> {
         X: Transactions + Drop,
         P: Partitions<Record = O::Record> + Drop,
         W: Wait + Drop,
-    >(&mut self, station: &mut Station<O, S, X, P, L, W>, worked: Option<Finished<O>>) {
-        let again = self.hand_in(station, worked);
+    >(&mut self, station: &mut Station<O, S, X, P, L, W>, bench: &mut Workbench<O>) {
+        let again = self.hand_in(station, bench);
         station.lets_go(again);
     }
 }
@@ -423,7 +405,7 @@ where
         rt,
         crew.as_mut_slice(),
         workers,
-        &|_: usize, worker: &mut Worker<L>| worker.work(rt, alloc, station, turns, pause),
+        &|_: usize, worker: &mut Worker<L>| worker.work(rt, alloc, station, turns, pause, batch),
     );
     let finished = gather(rt, station, all, crew);
     station.lock(rt).end()?;

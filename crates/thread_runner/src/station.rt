@@ -11,8 +11,8 @@ ghost use Rattle.output_readers.specs.Seeing.{IsOpening};
 ghost use Rattle.row_publishing.specs.Showing.{Begin, AreCommitted, Shows};
 ghost use Rattle.thread_runner.specs.Standing.{ClaimsOnce};
 
-use crate::batch::{Batch, DoneBatch, Spelling};
-use claims::{Leavings, Work, Worked};
+use crate::batch::{DoneBatch, Spelling, Workbench};
+use claims::{Work, Worked};
 use commit_sink::Transactions;
 use counted_finishes::{accept_counted, finish_counted};
 use dataflow_core::{Core, CoreFault, Done, Rules};
@@ -37,8 +37,8 @@ const MOST_HANDED_OUT: u32 = 64 * ENTRIES_A_TURN;
 const TURNS_A_HOLD: u64 = 64;
 
 /// What a worker does next.
-#[derive(Drop)]
-pub(crate) enum Next<O: Operator> {
+#[derive(Clone, Copy)]
+pub(crate) enum Next {
     /// Nothing: the run is over.
     Over,
     /// Nothing now.
@@ -47,10 +47,10 @@ pub(crate) enum Next<O: Operator> {
     Again,
     /// The rows of a round of commits are shown to readers.
     Publish,
-    /// This task's job, with no lock held.
-    Run(Batch<O>),
-    /// This task's copy is spelled, with no lock held.
-    Spell(Spelling<O>),
+    /// The job at hand, with no lock held.
+    Run,
+    /// The copy at hand is spelled, with no lock held.
+    Spell,
 }
 
 /// The core with all that belongs to it.
@@ -304,19 +304,22 @@ impl<
         (count, Ok(()))
     }
 
-    /// Takes what was done of a task's job and of the work behind it, and tells the turns: how many
-    /// records were taken, and where the worker is to claim again at once, if it is.
+    /// Takes what was done of a task's job and of the work behind it, if there is something, and
+    /// tells the turns: how many records were taken, and where the worker is to claim again at
+    /// once, if it is.
     pub(crate) fn take_batch(
         &mut self,
         share: &mut Share<L>,
-        batch: DoneBatch<O>,
+        bench: &mut Workbench<O>,
     ) -> (u128, Option<Place>)
         requires { 0 < share.old.parts }
         ensures amount { share.new.amount ≡ share.old.amount + result.0 }
-        ensures bound { share.new.amount < 2 ^ 128 }
+        ensures bound { share.old.amount < 2 ^ 128 → share.new.amount < 2 ^ 128 }
         ensures parts { share.new.parts ≡ share.old.parts }
     {
-        let DoneBatch { place, done, ahead } = batch;
+        let Some(DoneBatch { place, done, ahead }) = bench.take_done() else {
+            return (0, None);
+        };
         let records = done.records();
         if let Err(fault) = self.finish_with(share, done) {
             self.finished(place.task, Err(fault), records);
@@ -403,17 +406,17 @@ impl<
 
     /// One turn: what this worker does next, and how many turns are left. Every step but a task's
     /// work is made here.
-    pub(crate) fn choose(&mut self, alloc: Global, worker: u32) -> (Next<O>, u64)
+    pub(crate) fn choose(&mut self, worker: u32, bench: &mut Workbench<O>) -> (Next, u64)
         ensures total { self.new.total ≡ self.old.total }
         ensures step { Preserves ⟦<O as Rules>⟧.all self.old.core.engine self.new.core.engine }
     {
         let Station { core, turns, .. } = self;
-        let next = take_turn(alloc, core, turns, worker);
+        let next = take_turn(core, turns, worker, bench);
         (next, turns.left())
     }
 
     /// The first turn of one hold of the lock, where the worker is to claim again at once.
-    fn go_on(&mut self, alloc: Global, again: Option<Place>) -> Next<O>
+    fn go_on(&mut self, again: Option<Place>, bench: &mut Workbench<O>) -> Next
         ensures total { self.new.total ≡ self.old.total }
         ensures step { Preserves ⟦<O as Rules>⟧.all self.old.core.engine self.new.core.engine }
     {
@@ -422,7 +425,7 @@ impl<
         };
         let Station { core, turns, .. } = self;
         turns.go_on();
-        claim_on(alloc, core, turns, place)
+        claim_on(core, turns, place, bench)
     }
 
     /// Turns of one hold of the lock, until one leaves this worker something to do: what that is,
@@ -430,33 +433,34 @@ impl<
     /// where it is to.
     pub(crate) fn choose_some(
         &mut self,
-        alloc: Global,
         worker: u32,
         again: Option<Place>,
-    ) -> (Next<O>, u64, u64)
+        bench: &mut Workbench<O>,
+    ) -> (Next, u64, u64)
         ensures total { self.new.total ≡ self.old.total }
         ensures step { Preserves ⟦<O as Rules>⟧.all self.old.core.engine self.new.core.engine }
     {
         let before = self.turns.left();
-        match self.go_on(alloc, again) {
+        match self.go_on(again, bench) {
             Next::Again => {}
             next => return (next, before, self.turns.left()),
         }
         for _ in 1..TURNS_A_HOLD {
-            match self.choose(alloc, worker) {
+            match self.choose(worker, bench) {
                 (Next::Again, _) => {}
                 (next, left) => return (next, before, left),
             }
         }
-        let (next, left) = self.choose(alloc, worker);
+        let (next, left) = self.choose(worker, bench);
         (next, before, left)
     }
 
-    /// Exchanges what results that were taken have left for these leavings, which were let go.
-    pub(crate) fn swap_leavings(&mut self, leavings: &mut Leavings<O>)
+    /// Exchanges what results that were taken have left for the leavings at hand, which were let
+    /// go.
+    pub(crate) fn swap_leavings(&mut self, bench: &mut Workbench<O>)
         ensures { self.new ≡ self.old }
     {
-        self.core.swap_leavings(leavings);
+        self.core.swap_leavings(&mut bench.leavings);
     }
 
     /// A worker has spelled a copy.
@@ -535,11 +539,11 @@ fn refused(fault: OutputFault) -> RunFault
 
 /// What a worker does next, where the step is not made at once.
 fn take_turn<O: Operator, S: SnapshotStore, X: Transactions, P: Partitions<Record = O::Record>>(
-    alloc: Global,
     core: &mut Core<O, S, X, P>,
     turns: &mut Turns,
     worker: u32,
-) -> Next<O>
+    bench: &mut Workbench<O>,
+) -> Next
     ensures once { ClaimsOnce core.old core.new }
     ensures step { Preserves ⟦<O as Rules>⟧.all core.old.engine core.new.engine }
 {
@@ -547,9 +551,9 @@ fn take_turn<O: Operator, S: SnapshotStore, X: Transactions, P: Partitions<Recor
         Step::Over => Next::Over,
         Step::Idle => Next::Idle,
         Step::Look => Next::Again,
-        Step::Work(place) => claim(alloc, core, turns, worker, place),
+        Step::Work(place) => claim(core, turns, worker, place, bench),
         Step::Read(task) => read(core, turns, task),
-        Step::Persist(task) => persist(core, turns, worker, task),
+        Step::Persist(task) => persist(core, turns, worker, task, bench),
         step => {
             turns.made(step, make(core, step));
             if ends_commits(core, step) {
@@ -574,21 +578,23 @@ fn ends_commits<O: Operator, S: SnapshotStore, X: Transactions, P: Partitions<Re
 /// A task claims records at the head of its input, a batch at most, or takes the barrier that may
 /// be there. A sink claims one, and gets the work on those behind it too.
 fn claim<O: Operator, S: SnapshotStore, X: Transactions, P: Partitions<Record = O::Record>>(
-    alloc: Global,
     core: &mut Core<O, S, X, P>,
     turns: &mut Turns,
     worker: u32,
     place: Place,
-) -> Next<O>
+    bench: &mut Workbench<O>,
+) -> Next
     ensures once { ClaimsOnce core.old core.new }
     ensures step { Preserves ⟦<O as Rules>⟧.all core.old.engine core.new.engine }
 {
-    match core.claim_some(place.task, place.input, turns.batch()) {
+    match core.claim_in(place.task, place.input, turns.batch(), &mut bench.room) {
         Ok(job) => {
-            let ahead = work_ahead(alloc, core, place, turns.most(place.task));
+            let ahead = work_ahead(bench.alloc, core, place, turns.most(place.task));
             let records = job.records().saturating_add(ahead.len() as u64);
             turns.claimed(worker, place.task, records);
-            Next::Run(Batch { place, job, ahead })
+            bench.put_job(place, job);
+            bench.put_ahead(ahead);
+            Next::Run
         }
         Err(fault) => {
             find_barrier(core, turns, place, fault);
@@ -600,19 +606,19 @@ fn claim<O: Operator, S: SnapshotStore, X: Transactions, P: Partitions<Record = 
 /// An operator that goes on claims records at the head of its input, a batch at most, or takes the
 /// barrier that may be there. The turns hold its claim already.
 fn claim_on<O: Operator, S: SnapshotStore, X: Transactions, P: Partitions<Record = O::Record>>(
-    alloc: Global,
     core: &mut Core<O, S, X, P>,
     turns: &mut Turns,
     place: Place,
-) -> Next<O>
+    bench: &mut Workbench<O>,
+) -> Next
     ensures once { ClaimsOnce core.old core.new }
     ensures step { Preserves ⟦<O as Rules>⟧.all core.old.engine core.new.engine }
 {
-    match core.claim_some(place.task, place.input, turns.batch()) {
+    match core.claim_in(place.task, place.input, turns.batch(), &mut bench.room) {
         Ok(job) => {
             turns.claimed_on(place.task, job.records());
-            let ahead = Vec::new(alloc);
-            Next::Run(Batch { place, job, ahead })
+            bench.put_job(place, job);
+            Next::Run
         }
         Err(fault) => {
             turns.lets_go(place.task);
@@ -666,7 +672,7 @@ fn read<O: Operator, S: SnapshotStore, X: Transactions, P: Partitions<Record = O
     core: &mut Core<O, S, X, P>,
     turns: &mut Turns,
     task: u32,
-) -> Next<O>
+) -> Next
     ensures once { ClaimsOnce core.old core.new }
     ensures step { Preserves ⟦<O as Rules>⟧.all core.old.engine core.new.engine }
 {
@@ -698,12 +704,16 @@ fn persist<O: Operator, S: SnapshotStore, X: Transactions, P: Partitions<Record 
     turns: &mut Turns,
     worker: u32,
     task: u32,
-) -> Next<O>
+    bench: &mut Workbench<O>,
+) -> Next
     ensures once { ClaimsOnce core.old core.new }
     ensures step { Preserves ⟦<O as Rules>⟧.all core.old.engine core.new.engine }
 {
     match hand_out(core, turns, worker, task) {
-        Some(spelling) => Next::Spell(spelling),
+        Some(spelling) => {
+            bench.put_spelling(spelling);
+            Next::Spell
+        }
         None => {
             let outcome = core.persist_some(task, ENTRIES_A_TURN);
             turns.persisted(task, outcome);

@@ -3,7 +3,7 @@ use Rattle.std.proofs.lemmas.Result.{err_from_is_err_and}
 use Rattle.engine_model.specs.Language.{language}
 use Rattle.dataflow_core.specs.CoreState.{CoreState}
 use Rattle.dataflow_core.proofs.Offering.{no_memory, is_left, one_more}
-use Rattle.dataflow_core.proofs.calls.Core.claim_some.Goals as goal
+use Rattle.dataflow_core.proofs.calls.Core.claim_in.Goals as goal
 
 pub returns-in_err-keep_claim-clause-err : goal.returns-in_err-keep_claim-clause-err
 returns-in_err-keep_claim-clause-err g c =
