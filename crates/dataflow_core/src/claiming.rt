@@ -51,7 +51,17 @@ impl<O: Operator, S: SnapshotStore, X: Transactions, P: Partitions<Record = O::R
     }
 
     /// The work that a task may claim now, on so many records at most.
-    pub(crate) fn offered(
+    pub(crate) fn offered(&self, task: u32, input: u32, most: u32) -> Result<Work<O>, CoreFault>
+        requires { 0 < most }
+        ensures ok { IfOk result (MayClaim self.now task input most ⟦<O as Rules>⟧.lang) }
+        ensures err { IfErr result (Refuses self.now task input) }
+    {
+        let mut room = Room::new(self.alloc);
+        self.offered_in(task, input, most, &mut room)
+    }
+
+    /// The same, in room that was taken before.
+    fn offered_in(
         &self,
         task: u32,
         input: u32,
@@ -111,7 +121,7 @@ impl<O: Operator, S: SnapshotStore, X: Transactions, P: Partitions<Record = O::R
         ensures err { IfErr result (λ fault. Refuses self.old task input fault
             × (self.new ≡ self.old)) }
     {
-        let work = self.offered(task, input, most, room)?;
+        let work = self.offered_in(task, input, most, room)?;
         let Core {
             alloc,
             engine,

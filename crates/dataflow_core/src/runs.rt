@@ -17,7 +17,6 @@ use abs_codec::Codec;
 use commit_sink::Transactions;
 use engine::CoreFault;
 use engine_model::Rules;
-use claims::Room;
 use engine_steps::Step;
 use operators::Operator;
 use snapshot_store::SnapshotStore;
@@ -33,7 +32,7 @@ impl<O: Operator, S: SnapshotStore, X: Transactions, P: Partitions<Record = O::R
     fn claim_refusal(&self, task: u32, input: u32) -> CoreFault
         ensures { Refuses self.now task input result }
     {
-        match self.offered(task, input, 1, &mut Room::new(self.alloc)) {
+        match self.offered(task, input, 1) {
             Ok(_) => CoreFault::Memory,
             Err(fault) => fault,
         }

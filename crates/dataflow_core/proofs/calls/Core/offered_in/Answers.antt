@@ -4,7 +4,7 @@ use Rattle.engine_model.specs.Language.{language}
 use Rattle.dataflow_core.specs.Claims.{IsBusy}
 use Rattle.dataflow_core.specs.CoreState.{CoreState}
 use Rattle.dataflow_core.proofs.Offering.{offers_ok, offers_err, offers_spent}
-use Rattle.dataflow_core.proofs.calls.Core.offered.Goals as goal
+use Rattle.dataflow_core.proofs.calls.Core.offered_in.Goals as goal
 
 pub returns-clause-ok : goal.returns-clause-ok
 returns-clause-ok g c =
