@@ -96,12 +96,7 @@ impl<L: Ledger> Worker<L> {
         P: Partitions<Record = O::Record> + Drop,
         W: Wait + Drop,
         R: Wait + Clock,
-    >(
-        &mut self,
-        rt: &R,
-        station: &Mutex<Station<O, S, X, P, L, W>>,
-        bench: &mut Workbench<O>,
-    ) {
+    >(&mut self, rt: &R, station: &Mutex<Station<O, S, X, P, L, W>>, bench: &mut Workbench<O>) {
         if self.patience.is_tired() {
             self.leave(&mut station.lock(rt), bench);
             self.rests(rt, station, true);
