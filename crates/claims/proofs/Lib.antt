@@ -6,6 +6,7 @@ pub mod InTurn
 pub mod Keys
 pub mod Leading
 pub mod Places
+pub mod SinkRows
 pub mod Serving
 pub mod Turns
 pub mod Working

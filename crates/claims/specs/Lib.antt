@@ -3,4 +3,5 @@ pub mod Due
 pub mod Keys
 pub mod Left
 pub mod Places
+pub mod Rows
 pub mod Tasks

@@ -133,7 +133,45 @@ fn accept_outcomes<O: Operator>(
 }
 
 /// A sink puts bytes, which spell the record at the head of its input, last in its open
-/// transaction.
+/// transaction, which is this one.
+pub(crate) fn put_in<O: Operator, X: Transactions>(
+    attempt: &mut Attempt<O>,
+    transactions: &mut X,
+    task: u32,
+    input: u32,
+    channel: u32,
+    transaction: u64,
+    bytes: Vec<u8>,
+) -> Result<(), CoreFault>
+    requires within { input < length (gate_at attempt.old task).inputs }
+    requires logs { channel < length attempt.old.logs }
+    requires first { (row : O.Record) × IsRecordDue task input attempt.old channel row
+        × (bytes.items ≡ O.Record.spelling row) }
+    requires holds { (sink : Sinking) × (slice_get attempt.old.tasks task
+        ≡ Some (Holding.Sink sink)) × (sink.open_one ≡ transaction) }
+    requires is_open { open_refusal (X.state transactions.old) transaction ≡ None }
+    ensures ends { EndsPutOut task input attempt.old attempt.new channel (X.state transactions.old)
+        (X.state transactions.new) O.Record.spelling result }
+    ensures counted { result ≡ Err CoreFault.Device
+        → X.fault_count transactions.old < X.fault_count transactions.new }
+    ensures told { result ≢ Err CoreFault.Device
+        → X.fault_count transactions.new ≡ X.fault_count transactions.old }
+{
+    attempt.log_head(task, input, channel)?;
+    match transactions.append(transaction, bytes) {
+        Ok(()) => {
+            attempt.take(channel);
+            Ok(())
+        }
+        Err(TransactionFault::Memory) => {
+            attempt.unlog(task, input, channel);
+            Err(CoreFault::Memory)
+        }
+        Err(_) => Err(CoreFault::Device),
+    }
+}
+
+/// The same, where the sink is still to be asked for its open transaction.
 fn put_bytes<O: Operator, X: Transactions>(
     attempt: &mut Attempt<O>,
     transactions: &mut X,
@@ -159,19 +197,16 @@ fn put_bytes<O: Operator, X: Transactions>(
     let Some(sink) = attempt.sink(task) else {
         return Err(CoreFault::NotReady);
     };
-    let open = sink.open();
-    attempt.log_head(task, input, channel)?;
-    match transactions.append(open, bytes) {
-        Ok(()) => {
-            attempt.take(channel);
-            Ok(())
-        }
-        Err(TransactionFault::Memory) => {
-            attempt.unlog(task, input, channel);
-            Err(CoreFault::Memory)
-        }
-        Err(_) => Err(CoreFault::Device),
-    }
+    let transaction = sink.open();
+    put_in(
+        attempt,
+        transactions,
+        task,
+        input,
+        channel,
+        transaction,
+        bytes,
+    )
 }
 
 /// The bytes that a sink puts out are taken.

@@ -26,6 +26,7 @@ mod left;
 mod offers;
 mod parts;
 mod rooms;
+mod rows;
 mod states;
 
 pub use accepts::accept;
@@ -36,4 +37,5 @@ pub use leavings::Leavings;
 pub use offers::{offer, offer_behind};
 pub use parts::{Given, Load, Made, Operand, Outcomes};
 pub use rooms::Room;
+pub use rows::accept_rows;
 pub use states::States;

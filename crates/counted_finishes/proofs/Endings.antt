@@ -1,5 +1,5 @@
 -- A claim ends where its result is taken.
-use Rattle.std.proofs.Common.{◌≡◌, ◌⊎◌, inl, inr, ◌<◌, ◌≤◌, ◌+◌, ℕ, List, Option, Some, None, Result, Ok, Err, MatchResult, MatchOption, slice_get, length, refl, ap, sym, subst, arith}
+use Rattle.std.proofs.Common.{◌≡◌, ◌⊎◌, inl, inr, ◌<◌, ◌≤◌, ◌+◌, ◌^◌, ℕ, List, Option, Some, None, Result, Ok, Err, MatchResult, MatchOption, slice_get, length, refl, ap, sym, subst, arith}
 use Rattle.std.proofs.lemmas.List.Edits.{length-remove}
 use Rattle.std.proofs.lemmas.Option.{slice_get_within}
 use Rattle.claims.specs.declared.parts.Made.{Made}
@@ -7,10 +7,10 @@ use Rattle.engine_model.specs.Language.{Language}
 use Rattle.engine_model.specs.declared.fault.CoreFault.{CoreFault}
 use Rattle.engine_model.specs.declared.fault.CoreFault.TheVariants.{NotRunning, NoSuchTask, NotReady, ChannelBlocked, Busy, Stale, WrongResult, CheckpointPending, NoCheckpoint, NotAllAcked, Memory, Device, CommitFault, NumbersSpent, BadSnapshot}
 use Rattle.job_state.specs.Held.{Held}
-use Rattle.dataflow_core.specs.Claims.{IsHeldAt, IsFreshTicket, EndsClaimed, EndsFinish, EndsAccepting, claims_left}
+use Rattle.dataflow_core.specs.Claims.{IsHeldAt, IsFreshTicket, EndsClaimed, EndsFinish, EndsAccepting, EndsAcceptingRows, claims_left}
 use Rattle.dataflow_core.specs.CoreState.{CoreState}
 use Rattle.dataflow_core.specs.declared.held.Claim.{Claim}
-use Rattle.counted_finishes.specs.Counting.{EndsAClaim, UsesASerial}
+use Rattle.counted_finishes.specs.Counting.{EndsAClaim, UsesASerial, SpendsASerial}
 
 -- one claim less where the result is taken, and else no more
 abbrev Fewer : Result Unit CoreFault → List Claim → List Claim → Type 0
@@ -67,3 +67,8 @@ module _ {R K S O : Type 0} (old : CoreState O R K S) (lang : Language R K S O) 
       (used result new.serials old.serials (ap (λ (s : CoreState O R K S). s.serials) ends.2), ap (λ (s : CoreState O R K S). s.claims) ends.2)
   accept_uses (inr refuses) =
       (subst (λ r. MatchResult r (λ _. new.serials ≡ old.serials + 1) (λ _. old.serials ≤ new.serials)) (sym refuses.1) (subst (λ (s : CoreState O R K S). old.serials ≤ s.serials) (sym refuses.3) (omega arith)), ap (λ (s : CoreState O R K S). s.claims) refuses.3)
+
+module _ {R K S O : Type 0} (old : CoreState O R K S) (lang : Language R K S O) (new : CoreState O R K S) (task input : ℕ) (mades : List (Made O K S R)) (count : ℕ) (fits : count < 2 ^ 64) (result : Result Unit CoreFault) where
+  pub rows_spend : EndsAcceptingRows old lang new task input mades count result → SpendsASerial old new count
+  rows_spend (inl ends) = (omega (arith, fits, ap (λ (s : CoreState O R K S). s.serials) ends.2), ap (λ (s : CoreState O R K S). s.claims) ends.2)
+  rows_spend (inr refuses) = (omega (arith, refuses.2, ap (λ (s : CoreState O R K S). s.serials) refuses.4), ap (λ (s : CoreState O R K S). s.claims) refuses.4)

@@ -16,3 +16,7 @@ EndsAClaim old new result =
 abbrev pub UsesASerial : {O R K S : Type 0} → CoreState O R K S → CoreState O R K S → Result Unit CoreFault → Type 0
 UsesASerial old new result =
     MatchResult result (λ _. new.serials ≡ old.serials + 1) (λ _. old.serials ≤ new.serials) × (new.claims ≡ old.claims)
+
+-- a serial is used up for all that is counted at once, and the claims stay
+abbrev pub SpendsASerial : {O R K S : Type 0} → CoreState O R K S → CoreState O R K S → (count : ℕ) → Type 0
+SpendsASerial old new count = (count + 2 ^ 64 * old.serials ≤ 2 ^ 64 * new.serials) × (new.claims ≡ old.claims)

@@ -2,9 +2,9 @@
 
 ghost use Rattle.std.specs.Prelude.{◌≡◌, ◌+◌, ◌<◌, ◌^◌, MatchResult};
 ghost use Rattle.claims.specs.Carried.{given_of, records_of};
-ghost use Rattle.dataflow_core.specs.Claims.{EndsFinish, FinishMoves, EndsAccepting, AcceptMoves};
+ghost use Rattle.dataflow_core.specs.Claims.{EndsFinish, FinishMoves, EndsAccepting, AcceptMoves, EndsAcceptingRows, RowsMove};
 ghost use Rattle.dataflow_core.specs.Steps.{IsStep};
-ghost use Rattle.counted_finishes.specs.Counting.{EndsAClaim, UsesASerial, Within};
+ghost use Rattle.counted_finishes.specs.Counting.{EndsAClaim, UsesASerial, SpendsASerial, Within};
 
 use claims::Worked;
 use commit_sink::Transactions;
@@ -120,4 +120,57 @@ fn accept<O: Operator, S: SnapshotStore, X: Transactions, P: Partitions<Record =
     ensures serials { UsesASerial core.old core.new result }
 {
     core.accept(task, input, worked)
+}
+
+/// Takes what was made of the work on several records of a sink with no claim, as the core's own
+/// `accept_rows` does, and adds the number of those that were taken to the share and the book.
+pub fn accept_rows_counted<
+    O: Operator,
+    S: SnapshotStore,
+    X: Transactions,
+    P: Partitions<Record = O::Record>,
+    L: Ledger,
+>(
+    core: &mut Core<O, S, X, P>,
+    book: &mut Book<L>,
+    share: &mut Share<L>,
+    task: u32,
+    input: u32,
+    ahead: Vec<Worked<O>>,
+) -> (u64, Result<(), CoreFault>)
+    requires parts { 0 < share.old.parts }
+    requires within { Within book.old.total core.old }
+    ensures within { Within book.new.total core.new }
+    ensures ends { EndsAcceptingRows core.old ⟦<O as Rules>⟧.lang core.new task input ahead.items
+        result.0 result.1 }
+    ensures step { IsStep ⟦<O as Rules>⟧.all core.old.engine core.new.engine }
+    ensures plain { RowsMove core.old ⟦<O as Rules>⟧.lang core.new task input result.0 }
+    ensures total { book.new.total ≡ book.old.total + result.0 }
+    ensures amount { share.new.amount ≡ share.old.amount + result.0 }
+    ensures bound { share.new.amount < 2 ^ 128 }
+    ensures parts { share.new.parts ≡ share.old.parts }
+{
+    let (records, end) = accept_rows(core, task, input, ahead);
+    book.add(share, records);
+    core.serials_bound();
+    book.audit(share);
+    (records, end)
+}
+
+/// The core's own `accept_rows`. A serial is used up where a record is taken.
+fn accept_rows<O: Operator, S: SnapshotStore, X: Transactions, P: Partitions<Record = O::Record>>(
+    core: &mut Core<O, S, X, P>,
+    task: u32,
+    input: u32,
+    ahead: Vec<Worked<O>>,
+) -> (u64, Result<(), CoreFault>)
+    ensures ends { EndsAcceptingRows core.old ⟦<O as Rules>⟧.lang core.new task input ahead.items
+        result.0 result.1 }
+    ensures step { IsStep ⟦<O as Rules>⟧.all core.old.engine core.new.engine }
+    ensures plain { RowsMove core.old ⟦<O as Rules>⟧.lang core.new task input result.0 }
+    ensures serials { SpendsASerial core.old core.new result.0 }
+{
+    let (records, end) = core.accept_rows(task, input, ahead);
+    prove!(records <= u64::MAX);
+    (records, end)
 }

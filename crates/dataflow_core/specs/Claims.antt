@@ -12,7 +12,7 @@ use Rattle.engine_model.specs.declared.fault.CoreFault.{CoreFault}
 use Rattle.engine_model.specs.declared.fault.CoreFault.TheVariants.{NotRunning, NoSuchTask, Busy, ChannelBlocked, NotReady, NumbersSpent, Memory, Stale, WrongResult}
 use Rattle.engine_plain.specs.Plain.{StepsOften, Stays}
 use Rattle.dataflow_model.specs.Machine as machine
-use Rattle.engine.specs.Claimed.{Accepts}
+use Rattle.engine.specs.Claimed.{Accepts, AcceptsRows, StepsSoMany}
 use Rattle.job_state.specs.Held.{Held}
 use Rattle.dataflow_core.specs.Calls.{TakesBarrier}
 use Rattle.dataflow_core.specs.CoreState.{CoreState}
@@ -134,3 +134,17 @@ module _ {R K S O : Type 0} (old : CoreState O R K S) where
         (channel : ℕ) × (input_at old.engine.graph task input ≡ Some channel)
         × StepsOften (records_of (given_of made)) lang (machine.Work task channel) old.engine new.engine
     AcceptMoves made (Err fault) = Stays lang old.engine new.engine
+
+    -- What was made of the work on a sink's records is taken in turn with no claim: so many records are taken. A serial is used up for all of it.
+    abbrev pub EndsAcceptingRows : List (Made O K S R) → (count : ℕ) → Result Unit CoreFault → Type 0
+    EndsAcceptingRows mades count result =
+        (MayAccept task
+        × AcceptsRows lang old.engine new.engine task input mades count result
+        × (new ≡ record old { engine = new.engine; serials = old.serials + 1 }))
+        ⊎ ((fault : CoreFault) × (result ≡ Err fault) × (count ≡ 0) × RefusesAccept task fault × (new ≡ old))
+
+    -- what is taken is as many plain steps, of this task and input
+    abbrev pub RowsMove : (count : ℕ) → Type 0
+    RowsMove count =
+        MatchOption (input_at old.engine.graph task input) (Stays lang old.engine new.engine)
+        (λ channel. StepsSoMany count lang (machine.Work task channel) old.engine new.engine)

@@ -21,6 +21,8 @@ ghost use Rattle.engine_model.specs.Sound.{IsSound, AreLegal, HaveGrown};
 ghost use Rattle.engine_model.specs.View.{job_of, devices_of};
 ghost use Rattle.engine_model.specs.declared.fault.CoreFault.TheVariants as CoreFault;
 ghost use Rattle.engine_plain.specs.Plain.{StepsIfOk, Stays};
+ghost use Rattle.engine.specs.Claimed.{StepsSoMany};
+ghost use Rattle.engine.specs.Reading.{ReadsSome};
 ghost use Rattle.engine.specs.Running.{IsCounted};
 ghost use Rattle.dataflow_core.specs.Calls.{Fails, Restarts, Reads, Injects, Triggers, Persists, PersistsSome, Completes, Commits, Appends};
 ghost use Rattle.dataflow_core.specs.CoreState.{claims_after};
@@ -183,6 +185,22 @@ impl<O: Operator, S: SnapshotStore, X: Transactions, P: Partitions<Record = O::R
     {
         let Core { engine, .. } = self;
         engine.read(task)
+    }
+
+    /// Source `task` sends its next records, one after another and so many at most, as so many calls
+    /// of `read`, until one is refused: how many it has sent, and why no more.
+    pub fn read_some(&mut self, task: u32, most: u32) -> (u32, Result<(), CoreFault>)
+        requires { 0 < most }
+        ensures ends { ReadsSome ⟦<O as Rules>⟧.all self.old.engine self.new.engine task most
+            result.0 result.1 }
+        ensures step { IsStep ⟦<O as Rules>⟧.all self.old.engine self.new.engine }
+        ensures plain { StepsSoMany result.0 ⟦<O as Rules>⟧.lang (machine.Read task)
+            self.old.engine self.new.engine }
+        ensures counted { IsCounted self.old.engine.faults self.new.engine.faults result.1 }
+        ensures claims { self.new ≡ record self.old { engine = self.new.engine } }
+    {
+        let Core { engine, .. } = self;
+        engine.read_some(task, most)
     }
 
     /// Source `task` copies its offset for the pending checkpoint, and sends the barrier.

@@ -6,7 +6,7 @@ ghost use Rattle.engine_model.specs.declared.fault.CoreFault.TheVariants as Core
 ghost use Rattle.engine_plain.specs.Plain.{Stays};
 ghost use Rattle.engine.specs.Claimed.{OffersBehind};
 ghost use Rattle.engine.specs.Running.{IsCounted};
-ghost use Rattle.dataflow_core.specs.Claims.{IsHeldAt, IsFreshTicket, IsHeldUp, Refuses, MayClaim, Claims, TakesBarrierUnclaimed, EndsFinish, FinishMoves, MayAccept, RefusesAccept, EndsAccepting, AcceptMoves, spent_as};
+ghost use Rattle.dataflow_core.specs.Claims.{IsHeldAt, IsFreshTicket, IsHeldUp, Refuses, MayClaim, Claims, TakesBarrierUnclaimed, EndsFinish, FinishMoves, MayAccept, RefusesAccept, EndsAccepting, AcceptMoves, EndsAcceptingRows, RowsMove, spent_as};
 ghost use Rattle.dataflow_core.specs.Steps.{IsStep};
 
 use crate::calls::Core;
@@ -236,6 +236,28 @@ impl<O: Operator, S: SnapshotStore, X: Transactions, P: Partitions<Record = O::R
         self.may_accept(task)?;
         self.serials += 1;
         self.engine.accept(task, input, worked)
+    }
+
+    /// Takes what was made of the work on several records of a sink that holds no claim, from the
+    /// first to the last, until one is refused, as `accept` would: how many records were taken, and
+    /// why no more. It uses up one serial.
+    pub fn accept_rows(
+        &mut self,
+        task: u32,
+        input: u32,
+        ahead: Vec<Worked<O>>,
+    ) -> (u64, Result<(), CoreFault>)
+        ensures ends { EndsAcceptingRows self.old ⟦<O as Rules>⟧.lang self.new task input
+            ahead.items result.0 result.1 }
+        ensures step { IsStep ⟦<O as Rules>⟧.all self.old.engine self.new.engine }
+        ensures plain { RowsMove self.old ⟦<O as Rules>⟧.lang self.new task input result.0 }
+        ensures counted { IsCounted self.old.engine.faults self.new.engine.faults result.1 }
+    {
+        if let Err(fault) = self.may_accept(task) {
+            return (0, Err(fault));
+        }
+        self.serials += 1;
+        self.engine.accept_rows(task, input, ahead)
     }
 
     /// Exchanges what results that were taken have left for these leavings, which were let go: who

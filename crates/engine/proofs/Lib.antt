@@ -4,5 +4,7 @@ pub mod Counting
 pub mod Opening
 pub mod Plain
 pub mod Raising
+pub mod ReadingRows
 pub mod Serving
+pub mod TakingRows
 pub mod TaskCalls

@@ -1,4 +1,5 @@
 pub mod Claimed
 pub mod Readers
+pub mod Reading
 pub mod Rows
 pub mod Running

@@ -30,6 +30,8 @@ ghost use Rattle.checkpoint_model.specs.Cuts.{IsReachedCut};
 ghost use Rattle.dataflow_model.specs.Graph.{Begins};
 ghost use Rattle.dataflow_model.specs.Machine as machine;
 ghost use Rattle.claims.specs.Tasks.{EndsBarrier};
+ghost use Rattle.engine.specs.Claimed.{StepsSoMany};
+ghost use Rattle.engine.specs.Reading.{ReadsSome};
 ghost use Rattle.engine.specs.Running.{IsCounted, IsSameJob, number_of, raised, attempts_after, OnDown, OnAttempt, OnStore, OnTransactions};
 
 use crate::tasks::take_barrier;
@@ -39,7 +41,7 @@ use claims::Leavings;
 use commit_sink::Transactions;
 use engine_checkpoints::{commit, complete, persist, persist_some, trigger};
 use engine_model::{CoreFault, Persisted, Rules};
-use engine_moves::{inject, read_next};
+use engine_moves::{inject, read_next, read_some};
 use job_graph::Graph;
 use job_state::{Attempt, CopyWork};
 use operators::Operator;
@@ -318,6 +320,27 @@ impl<O: Operator, S: SnapshotStore, X: Transactions, P: Partitions<Record = O::R
         };
         let outcome = read_next(attempt, &self.graph, &mut self.log, task);
         leave(&mut self.attempt, outcome)
+    }
+
+    /// Source `task` sends its next records, one after another and so many at most, as so many calls
+    /// of `read`, until one is refused: how many it has sent, and why no more.
+    pub fn read_some(&mut self, task: u32, most: u32) -> (u32, Result<(), CoreFault>)
+        requires { 0 < most }
+        ensures ends { ReadsSome ⟦<O as Rules>⟧.all self.old self.new task most result.0 result.1 }
+        ensures goes { Goes ⟦<O as Rules>⟧.lang self.old self.new }
+        ensures sound { IsSound ⟦<O as Rules>⟧.all self.old → IsSound ⟦<O as Rules>⟧.all self.new }
+        ensures plain { StepsSoMany result.0 ⟦<O as Rules>⟧.lang (machine.Read task) self.old
+            self.new }
+        ensures counted { IsCounted self.old.faults self.new.faults result.1 }
+        ensures same { IsSameJob self.old self.new }
+        ensures ledger { self.new.ledger ≡ self.old.ledger }
+    {
+        let Some(attempt) = &mut self.attempt else {
+            return (0, Err(CoreFault::NotRunning));
+        };
+        let (count, outcome) = read_some(attempt, &self.graph, &mut self.log, task, most);
+        let end = leave(&mut self.attempt, outcome);
+        (count, end)
     }
 
     /// A task takes the barrier at the head of its input. At the last of its unmarked inputs it

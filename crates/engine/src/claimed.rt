@@ -12,11 +12,11 @@ ghost use Rattle.engine_model.specs.Sound.{IsSound};
 ghost use Rattle.engine_plain.specs.Plain.{StepsOftenIfOk, Stays};
 ghost use Rattle.claims.specs.Carried.{given_of, records_of};
 ghost use Rattle.claims.specs.Due.{EndsAsking, EndsOffer};
-ghost use Rattle.engine.specs.Claimed.{Accepts, OffersBehind};
+ghost use Rattle.engine.specs.Claimed.{Accepts, AcceptsRows, OffersBehind, StepsSoMany};
 ghost use Rattle.engine.specs.Running.{IsCounted, IsSameJob};
 
 use crate::calls::{Engine, leave};
-use claims::{Leavings, Room, Work, Worked, accept, channel_of, offer, offer_behind};
+use claims::{Leavings, Room, Work, Worked, accept, accept_rows, channel_of, offer, offer_behind};
 use commit_sink::Transactions;
 use engine_model::{CoreFault, Rules};
 use operators::Operator;
@@ -143,6 +143,44 @@ impl<O: Operator, S: SnapshotStore, X: Transactions, P: Partitions<Record = O::R
             &mut self.leavings,
         );
         leave(&mut self.attempt, outcome)
+    }
+
+    /// Takes what was made of the work on several records of a sink, from the first to the last, as
+    /// so many calls of `accept`, until one is refused: how many records were taken, and why no
+    /// more. `K7` is told where the task is no sink, or may take nothing from the input.
+    pub fn accept_rows(
+        &mut self,
+        task: u32,
+        input: u32,
+        ahead: Vec<Worked<O>>,
+    ) -> (u64, Result<(), CoreFault>)
+        ensures ends { AcceptsRows ⟦<O as Rules>⟧.lang self.old self.new task input ahead.items
+            result.0 result.1 }
+        ensures goes { Goes ⟦<O as Rules>⟧.lang self.old self.new }
+        ensures sound { IsSound ⟦<O as Rules>⟧.all self.old → IsSound ⟦<O as Rules>⟧.all self.new }
+        ensures begins { (task subtask : ℕ) → slice_get self.old.graph.tasks task
+            ≡ Some (Role.Sink subtask) → Begins (committed_rows self.old.ledger subtask)
+            (committed_rows self.new.ledger subtask) }
+        ensures plain { MatchOption (input_at self.old.graph task input)
+            (Stays ⟦<O as Rules>⟧.lang self.old self.new)
+            (λ channel. StepsSoMany result.0 ⟦<O as Rules>⟧.lang (machine.Work task channel)
+            self.old self.new) }
+        ensures counted { IsCounted self.old.faults self.new.faults result.1 }
+        ensures same { IsSameJob self.old self.new }
+    {
+        let Some(attempt) = &mut self.attempt else {
+            return (0, Err(CoreFault::NotRunning));
+        };
+        let (count, outcome) = accept_rows(
+            attempt,
+            &self.graph,
+            &mut self.transactions,
+            task,
+            input,
+            ahead,
+        );
+        let end = leave(&mut self.attempt, outcome);
+        (count, end)
     }
 
     /// Exchanges what results that were taken have left for these leavings, which were let go: who

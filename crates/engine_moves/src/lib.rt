@@ -14,4 +14,4 @@ mod barriers;
 mod reads;
 
 pub use barriers::{inject, operator_barrier, sink_barrier};
-pub use reads::read_next;
+pub use reads::{read_next, read_some};

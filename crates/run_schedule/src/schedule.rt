@@ -189,7 +189,9 @@ impl Schedule {
 
     /// How many records a source sends in one turn, at most: one between two pieces of a copy that
     /// has time, so that its pieces come soon.
-    pub(crate) fn reads(&self) -> u32 {
+    pub(crate) fn reads(&self) -> u32
+        ensures { 1 ≤ result }
+    {
         if self.round.next().is_some() && !self.round.is_late() {
             1
         } else {

@@ -79,7 +79,9 @@ impl Turns {
     }
 
     /// How many records a source sends in one turn, at most.
-    pub fn reads(&self) -> u32 {
+    pub fn reads(&self) -> u32
+        ensures { 1 ≤ result }
+    {
         self.schedule.reads()
     }
 

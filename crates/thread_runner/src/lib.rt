@@ -1,9 +1,9 @@
 //! Workers on one core, in as many threads. The core stands in a [`Station`] behind a lock, beside
 //! a book of totals and the turns of a run. Proved: whoever holds the lock holds a core with what
 //! every core keeps; each call of a station does what the core's call of that name does;
-//! `finish_with` does what the core's own `finish` does, and `accept_with` what its `accept` does,
-//! and each adds the number of the records to the worker's share and the book exactly where the
-//! result is taken; with all shares gathered, the book's total is their sum; and what a [`run`]
+//! `finish_with` does what the core's own `finish` does, `accept_with` what its `accept` does, and
+//! `accept_rows_with` what its `accept_rows` does, and each adds the number of the records that are
+//! taken to the worker's share and the book; with all shares gathered, the book's total is their sum; and what a [`run`]
 //! reports is what it added to the share that was handed to it. Jobs are run with no lock held, of
 //! one record each ([`run`]) or of up to 1,024 ([`run_batched`]).
 //!

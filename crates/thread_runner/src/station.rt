@@ -4,7 +4,7 @@
 ghost use Rattle.std.specs.Prelude.{◌≡◌, ◌⊎◌, ◌+◌, ◌-◌, ◌<◌, ◌≤◌, ◌^◌, [], ⊤, None, Ok, IfOk, IfErr, MatchOption, MatchResult, length, replicate};
 ghost use Rattle.std.specs.Option.{option_map};
 ghost use Rattle.claims.specs.Carried.{given_of, records_of};
-ghost use Rattle.dataflow_core.specs.Claims.{EndsFinish, FinishMoves, EndsAccepting, AcceptMoves};
+ghost use Rattle.dataflow_core.specs.Claims.{EndsFinish, FinishMoves, EndsAccepting, AcceptMoves, EndsAcceptingRows, RowsMove};
 ghost use Rattle.dataflow_core.specs.Steps.{IsStep, Preserves};
 ghost use Rattle.engine.specs.Claimed.{OffersBehind};
 ghost use Rattle.output_readers.specs.Seeing.{IsOpening};
@@ -14,7 +14,7 @@ ghost use Rattle.thread_runner.specs.Standing.{ClaimsOnce};
 use crate::batch::{DoneBatch, Spelling, Workbench};
 use claims::{Work, Worked};
 use commit_sink::Transactions;
-use counted_finishes::{accept_counted, finish_counted};
+use counted_finishes::{accept_counted, accept_rows_counted, finish_counted};
 use dataflow_core::{Core, CoreFault, Done, Rules};
 use operators::Operator;
 use output_readers::{OutputFault, OutputReader, OutputWriter, Told};
@@ -280,28 +280,30 @@ impl<
         accept_counted(core, book, share, task, input, worked)
     }
 
-    /// Takes what was made of the work on the records behind a sink's job, from the first to the
-    /// last: how many records were taken, and why no more.
-    pub(crate) fn accept_all(
+    /// Takes what was made of the work on several records of a sink with no claim, as the core's
+    /// own `accept_rows` does, and adds the number of those that are taken to the share and the
+    /// book.
+    pub fn accept_rows_with(
         &mut self,
         share: &mut Share<L>,
-        place: Place,
+        task: u32,
+        input: u32,
         ahead: Vec<Worked<O>>,
-    ) -> (u128, Result<(), CoreFault>)
+    ) -> (u64, Result<(), CoreFault>)
         requires { 0 < share.old.parts }
+        ensures ends { EndsAcceptingRows self.old.core ⟦<O as Rules>⟧.lang self.new.core task input
+            ahead.items result.0 result.1 }
+        ensures step { IsStep ⟦<O as Rules>⟧.all self.old.core.engine self.new.core.engine }
+        ensures plain { RowsMove self.old.core ⟦<O as Rules>⟧.lang self.new.core task input
+            result.0 }
+        ensures total { self.new.total ≡ self.old.total + result.0 }
+        ensures output { self.new.output ≡ self.old.output }
         ensures amount { share.new.amount ≡ share.old.amount + result.0 }
-        ensures bound { share.old.amount < 2 ^ 128 → share.new.amount < 2 ^ 128 }
+        ensures bound { share.new.amount < 2 ^ 128 }
         ensures parts { share.new.parts ≡ share.old.parts }
     {
-        let mut count: u128 = 0;
-        for worked in ahead {
-            let records = worked.records();
-            if let Err(fault) = self.accept_with(share, place.task, place.input, worked) {
-                return (count, Err(fault));
-            }
-            count += records as u128;
-        }
-        (count, Ok(()))
+        let Station { core, book, .. } = self;
+        accept_rows_counted(core, book, share, task, input, ahead)
     }
 
     /// Takes what was done of a task's job and of the work behind it, if there is something, and
@@ -314,10 +316,11 @@ impl<
     ) -> (u128, Option<Place>)
         requires { 0 < share.old.parts }
         ensures amount { share.new.amount ≡ share.old.amount + result.0 }
-        ensures bound { share.old.amount < 2 ^ 128 → share.new.amount < 2 ^ 128 }
+        ensures bound { share.new.amount < 2 ^ 128 }
         ensures parts { share.new.parts ≡ share.old.parts }
     {
         let Some(DoneBatch { place, done, ahead }) = bench.take_done() else {
+            self.audit(share);
             return (0, None);
         };
         let records = done.records();
@@ -329,8 +332,8 @@ impl<
             let again = self.goes_on(place, records);
             return (records as u128, again);
         }
-        let (count, end) = self.accept_all(share, place, ahead);
-        let taken = records as u128 + count;
+        let (count, end) = self.accept_rows_with(share, place.task, place.input, ahead);
+        let taken = records as u128 + count as u128;
         let all = u64::try_from(taken).unwrap_or(u64::MAX);
         self.finished(place.task, Ok(()), all);
         if end.is_err() {
@@ -676,26 +679,9 @@ fn read<O: Operator, S: SnapshotStore, X: Transactions, P: Partitions<Record = O
     ensures once { ClaimsOnce core.old core.new }
     ensures step { Preserves ⟦<O as Rules>⟧.all core.old.engine core.new.engine }
 {
-    let (records, outcome) = read_some(core, task, turns.reads());
+    let (records, outcome) = core.read_some(task, turns.reads());
     turns.read(task, records, outcome);
     Next::Again
-}
-
-/// A source sends its next records, so many at most: how many it has sent, and why no more.
-fn read_some<O: Operator, S: SnapshotStore, X: Transactions, P: Partitions<Record = O::Record>>(
-    core: &mut Core<O, S, X, P>,
-    task: u32,
-    most: u32,
-) -> (u32, Result<(), CoreFault>)
-    ensures once { ClaimsOnce core.old core.new }
-    ensures step { Preserves ⟦<O as Rules>⟧.all core.old.engine core.new.engine }
-{
-    for records in 0..most {
-        if let Err(fault) = core.read(task) {
-            return (records, Err(fault));
-        }
-    }
-    (most, Ok(()))
 }
 
 /// Hands out a task's copy, goes on with the work on its part, or puts that in the store.

@@ -2,7 +2,7 @@ use Rattle.std.proofs.Common.{◌<◌, length, sym, subst}
 use Rattle.alignment.specs.Table.{is_logged}
 use Rattle.job_state.specs.Held.{gate_at}
 use Rattle.claims.proofs.Holdings.{memory_leaves, logged_length}
-use Rattle.claims.proofs.accepts.put_bytes.Goals as goal
+use Rattle.claims.proofs.accepts.put_in.Goals as goal
 
 -- a record that is logged changes no gate, and not how many logs there are
 pub unlog-requires-clause-within : goal.unlog-requires-clause-within
