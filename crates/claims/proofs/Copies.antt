@@ -29,13 +29,13 @@ use Rattle.claims.proofs.Keys.{under-rises, there_under, own_under}
 module _ {K X : Type 0} {cmp : K → K → Ordering} (order : IsTotalOrder cmp) where
   -- ---- rising lists with the same value at each key are one
 
-  at_head : (e : K × X) (es : List (K × X)) → value_at cmp (e ∷ es) e.0 ≡ Some e.1
+  pub at_head : (e : K × X) (es : List (K × X)) → value_at cmp (e ∷ es) e.0 ≡ Some e.1
   at_head e es = lookup_head (is_at (cmp e.0)) e es ((eq_by_cmp_equiv order).refl e.0)
 
-  past_head : (q : K) (e : K × X) (es : List (K × X)) → IsStrictlySortedBy cmp (keys_of (e ∷ es)) → is_at (cmp q) e.0 ≡ true → value_at cmp es q ≡ None
+  pub past_head : (q : K) (e : K × X) (es : List (K × X)) → IsStrictlySortedBy cmp (keys_of (e ∷ es)) → is_at (cmp q) e.0 ≡ true → value_at cmp es q ≡ None
   past_head q e es rises at = lookup-none (is_at (cmp q)) es (none_past_head (eq_by_cmp_equiv order) q e es (IsDistinct-from_sorted cmp (keys_of (e ∷ es)) rises) at)
 
-  below_head : (q : K) (e : K × X) (es : List (K × X)) → IsStrictlySortedBy cmp (keys_of (e ∷ es)) → cmp q e.0 ≡ Less → value_at cmp (e ∷ es) q ≡ None
+  pub below_head : (q : K) (e : K × X) (es : List (K × X)) → IsStrictlySortedBy cmp (keys_of (e ∷ es)) → cmp q e.0 ≡ Less → value_at cmp (e ∷ es) q ≡ None
   below_head q e es rises less = lookup-none (is_at (cmp q)) (e ∷ es) (none_below_head order q e es rises less)
 
   not_there : (x : X) (o : Option X) → o ≡ Some x → o ≡ None → ⊥

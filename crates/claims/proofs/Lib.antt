@@ -4,6 +4,7 @@ pub mod Expected
 pub mod Holdings
 pub mod InTurn
 pub mod Keys
+pub mod LastKeys
 pub mod Leading
 pub mod Places
 pub mod SinkRows

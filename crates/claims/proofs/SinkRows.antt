@@ -1,5 +1,5 @@
 -- A sink takes what was made of its work, one after another.
-use Rattle.std.proofs.Common.{◌≡◌, ◌<◌, ◌+◌, ◌++◌, ◌⊎◌, inl, inr, ℕ, suc, List, [], ◌∷◌, length, map, take, drop, get_or, slice_get, Option, Some, None, Result, Ok, Err, refl, sym, ap, subst, ◌∙◌, arith}
+use Rattle.std.proofs.Common.{◌≡◌, ◌<◌, ◌+◌, ◌++◌, inl, inr, ℕ, suc, List, [], ◌∷◌, length, map, take, drop, get_or, slice_get, Option, Some, None, Result, Ok, Err, refl, sym, ap, subst, ◌∙◌, arith}
 use Rattle.alignment.specs.Table.{is_blocked, is_logged}
 use Rattle.commit_sink.specs.Ledger.{Ledger, Transaction, IsOrdered, transaction_at, with_transaction, refusal, if_open, open_refusal, appended}
 use Rattle.commit_sink.specs.Sink.{Sinking}

@@ -1,5 +1,5 @@
 -- The states under several keys.
-use Rattle.std.specs.Prelude.{◌≡◌, List, [], ◌∷◌, Option, Some, is_some, if◌then◌else◌}
+use Rattle.std.specs.Prelude.{◌≡◌, List, [], ◌∷◌, Option, Some, is_some, true, if◌then◌else◌}
 use Rattle.std.specs.BTreeMap.{insert_entry}
 use Rattle.std.specs.List.{IsAmong}
 use Rattle.std.specs.declared.cmp.Ordering.{Ordering}
@@ -21,6 +21,10 @@ module _ {K S : Type 0} (cmp : K → K → Ordering) where
   -- the states under these keys: each key once, by rising keys, with its state among the entries
   abbrev pub states_under : (entries : List (K × S)) → List K → List (K × Option S)
   states_under entries keys = with_keys entries [] keys
+
+  -- each key of the entries has a place among the states
+  abbrev pub HavePlaces : List (K × S) → List (K × Option S) → Type 0
+  HavePlaces entries states = (key : K) → is_some (value_at cmp entries key) ≡ true → is_some (value_at cmp states key) ≡ true
 
   -- the states, however they are kept
   abbrev pub states_kept : Kept K S → List (K × Option S)

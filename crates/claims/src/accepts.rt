@@ -53,14 +53,14 @@ fn operate<O: Operator>(
     input: u32,
     channel: u32,
     operand: &Operand<O, O::Key, O::State, O::Record>,
-    outcomes: Outcomes<O::Key, O::State, O::Record>,
+    mut outcomes: Outcomes<O::Key, O::State, O::Record>,
     leavings: &mut Leavings<O>,
 ) -> Result<(), SetFault>
     ghost turns: { List (Turn O.Record O.Key O.State) }
     requires shape { (operators : List O) × (entries : List (O.Key × O.State))
         × Shape ⟦<O as Rules>⟧.all graph.now operators attempt.old
         × IsDueOn graph.now operators task input attempt.old channel entries operand.now }
-    requires some { 0 < length operand.now.rows.items }
+    requires operand { IsOperand ⟦<O as Rules>⟧.all operand.now }
     requires outcomes { IsOutcome O.meaning O.Key.cmp operand.now outcomes }
     requires turns { turns ≡ turns_given O.meaning O.Key.cmp operand.now }
     ensures ok { OnOk result (OperatesEach O.meaning O.Key.cmp graph.now task input channel turns
@@ -78,18 +78,17 @@ fn operate<O: Operator>(
         return Err(SetFault::Changed);
     }
     let count = operand.rows.len();
-    let mut states = outcomes.states;
     let end = attempt.operate_some(
         graph,
         task,
         input,
         channel,
         count,
-        &mut states,
+        &mut outcomes.states,
         expected,
-        outcomes.sent,
+        &mut outcomes.sent,
     );
-    leavings.keep_states(states);
+    leavings.keep_outcomes(outcomes);
     end
 }
 

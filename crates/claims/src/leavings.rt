@@ -1,6 +1,6 @@
 //! What results that were taken leave, to be let go while nothing is held.
 
-use crate::parts::Load;
+use crate::parts::{Load, Outcomes};
 use operators::Operator;
 use std::alloc::Global;
 
@@ -12,7 +12,7 @@ const MOST: usize = 64;
 #[derive(Drop)]
 pub struct Leavings<O: Operator> {
     loads: Vec<Load<O, O::Key, O::State, O::Record>>,
-    states: Vec<Vec<(O::Key, O::State)>>,
+    outcomes: Vec<Outcomes<O::Key, O::State, O::Record>>,
 }
 
 impl<O: Operator> Leavings<O> {
@@ -20,7 +20,7 @@ impl<O: Operator> Leavings<O> {
     pub fn new(alloc: Global) -> Self {
         Leavings {
             loads: Vec::new(alloc),
-            states: Vec::new(alloc),
+            outcomes: Vec::new(alloc),
         }
     }
 
@@ -31,16 +31,16 @@ impl<O: Operator> Leavings<O> {
         }
     }
 
-    /// Keeps the states that a task had, if there are some and there is room for them.
-    pub(crate) fn keep_states(&mut self, states: Vec<(O::Key, O::State)>) {
-        if self.states.len() < MOST && !states.is_empty() {
-            let _ = self.states.push(states);
+    /// Keeps what is left of outcomes, with the states that a task had, if there is room for it.
+    pub(crate) fn keep_outcomes(&mut self, outcomes: Outcomes<O::Key, O::State, O::Record>) {
+        if self.outcomes.len() < MOST {
+            let _ = self.outcomes.push(outcomes);
         }
     }
 
     /// Lets all of it go, and keeps the room.
     pub fn let_go(&mut self) {
         self.loads.clear();
-        self.states.clear();
+        self.outcomes.clear();
     }
 }

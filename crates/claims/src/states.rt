@@ -8,7 +8,7 @@ ghost use Rattle.std.specs.Option.{option_copied};
 ghost use Rattle.abs_codec.specs.Entries.{value_at};
 ghost use Rattle.job_state.specs.declared.holding.Holding.TheVariants as Holding;
 ghost use Rattle.operators.specs.Operator.{OrderIsExact};
-ghost use Rattle.claims.specs.Keys.{states_under};
+ghost use Rattle.claims.specs.Keys.{states_under, HavePlaces};
 
 use abs_codec::{Codec, NoMemory};
 use job_state::Attempt;
@@ -300,8 +300,11 @@ impl<K: Codec + Ord, S: Codec> States<K, S> {
     }
 
     /// The states, in the order of these entries, where they are copied, each under the key of one
-    /// of them.
+    /// of them. Keys that rise, and have their places here, are all of them if they are as many: so
+    /// none is compared.
     pub(crate) fn under_entries(&self, entries: &[(K, S)]) -> Option<&[Option<S>]>
+        requires rising { IsStrictlySortedBy K.Ord.cmp (keys_of entries.now) }
+        requires places { HavePlaces K.Ord.cmp entries.now self.now }
         ensures { OrderIsExact K.Ord.cmp → IfSome result (λ states.
             (length states.now ≡ length entries.now)
             × (zip (keys_of entries.now) states.now ≡ self.now)) }
@@ -310,34 +313,10 @@ impl<K: Codec + Ord, S: Codec> States<K, S> {
             return None;
         };
         let (keys, states) = copies.columns();
-        if states.len() == keys.len() && has_keys(entries, keys) {
+        if states.len() == keys.len() && entries.len() == keys.len() {
             Some(states)
         } else {
             None
         }
     }
-}
-
-/// Whether two keys are one.
-fn is_key<K: Ord>(key: &K, other: &K) -> bool
-    ensures { OrderIsExact K.cmp → IsTrue result → key.now ≡ other.now }
-{
-    key == other
-}
-
-/// Whether these are the keys of these entries, in their order.
-fn has_keys<K: Ord, S>(entries: &[(K, S)], keys: &[K]) -> bool
-    ensures { OrderIsExact K.cmp → IsTrue result → keys_of entries.now ≡ keys.now }
-{
-    let mut left = keys;
-    for entry in entries {
-        let Some((key, others)) = left.split_first() else {
-            return false;
-        };
-        if !is_key(&entry.0, key) {
-            return false;
-        }
-        left = others;
-    }
-    left.is_empty()
 }

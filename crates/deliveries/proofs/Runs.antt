@@ -54,3 +54,9 @@ run_target channels numbers place run lane is more = by is.each
         one_passes (meets (takes lane) channels) (take run (drop place numbers)) (lane % run) (omega (arith, long, below)) (passes (lane % run) below ∙ eq-eqb (lane % run) (lane % run) refl)
         (λ i within other. passes i (omega (arith, within, long)) ∙ ne_eqb (lane % run) i (λ e. other (sym e)))
         ∙ ap (λ n. n ∷ []) (seen (lane % run) below)
+
+-- of one number alone, which passes
+pub only_passes : (test : ℕ → Bool) (xs : List ℕ) → length xs ≡ 1 → test (slice_index xs 0) ≡ true → filter test (take (length xs) (drop 0 xs)) ≡ slice_index xs 0 ∷ []
+only_passes test [] one held = absurd (omega (arith, one))
+only_passes test (x ∷ []) one held = rw held refl
+only_passes test (x ∷ y ∷ xs) one held = absurd (omega (arith, one))

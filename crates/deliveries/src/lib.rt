@@ -6,4 +6,4 @@ mod by_run;
 mod puts;
 
 pub use by_run::{only_run, run_target};
-pub use puts::{barriers, deliver, deliver_row, sole_target};
+pub use puts::{barriers, deliver, deliver_row, fixed_target, sole_target};

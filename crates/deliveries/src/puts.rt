@@ -75,6 +75,20 @@ pub fn sole_target<O: Operator>(graph: &Graph, task: u32, port: u32, row: &O::Re
     target::<O>(graph, numbers, 0, numbers.len(), row)
 }
 
+/// The one channel that each record goes into when a task sends it on a port, whatever the record
+/// is; `None` where that is told by its lane, or where it may be none or several.
+pub fn fixed_target<O: Operator>(graph: &Graph, task: u32, port: u32) -> Option<u32>
+    ensures { IfSome result (λ number. (row : O.Record) → deliveries_of O.meaning graph.now task
+        ((port, row) ∷ []) ≡ (number, Record row) ∷ []) }
+{
+    let numbers = sole_run(graph, task, port)?;
+    if numbers.len() == 1 && takes_all(graph, numbers[0]) {
+        Some(numbers[0])
+    } else {
+        None
+    }
+}
+
 /// Adds that a record goes into each channel that takes it from the task's port: the record itself
 /// into the last of them, copies into the others. Of a run of channels one is looked at.
 fn deliver_one<O: Operator>(

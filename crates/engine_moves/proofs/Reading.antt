@@ -1,11 +1,16 @@
 -- A source reads records, one after another.
-use Rattle.std.proofs.Common.{◌≡◌, ◌<◌, ◌+◌, ◌-◌, ◌⊎◌, inl, inr, ℕ, zero, suc, List, slice_get, Option, Some, Result, Ok, Err, refl, sym, subst, ◌∙◌, arith}
+use Rattle.std.proofs.Common.{◌≡◌, ◌<◌, ◌+◌, ◌-◌, inl, inr, ℕ, zero, suc, List, slice_get, Option, None, Some, Result, Ok, Err, refl, sym, ap, subst, ◌∙◌, arith}
+use Rattle.std.specs.Prelude.{IfSome}
+use Rattle.std.proofs.lemmas.Option.{slice_get_within}
+use Rattle.dataflow_model.specs.Graph.{Meaning}
 use Rattle.job_graph.specs.Expanded.{Expanded}
 use Rattle.job_graph.specs.declared.role.Role.{Role}
 use Rattle.job_graph.specs.declared.role.Role.TheVariants as role
-use Rattle.job_state.specs.Held.{Held}
+use Rattle.job_state.specs.Held.{Held, Reads}
+use Rattle.job_state.specs.Sending.{GoesInto}
 use Rattle.job_state.specs.declared.holding.Holding.{Holding}
 use Rattle.job_state.specs.declared.holding.Holding.TheVariants as holds
+use Rattle.engine_model.proofs.Lists.{get_set_same}
 use Rattle.source_log.specs.Partitions.{records_at}
 use Rattle.engine_model.specs.AllRules.{AllRules}
 use Rattle.engine_model.specs.Calls.{EndsRead}
@@ -14,6 +19,17 @@ use Rattle.engine_moves.specs.Reading.{NextFits, ReadsInTurn}
 
 pub no_fault : (fault : CoreFault) → ◌≡◌ {A = Result Unit CoreFault} (Ok tt) (Err fault) → ⊥
 no_fault fault e = cc
+
+-- where each record goes into a channel, one does
+pub known_for : {R K S O : Type 0} (meaning : Meaning R K S O) (graph : Expanded) (task : ℕ) (row : R) (known : Option ℕ) → IfSome known (λ n. (r : R) → GoesInto meaning graph task n r) → IfSome known (λ n. GoesInto meaning graph task n row)
+known_for meaning graph task row None all = tt
+known_for meaning graph task row (Some number) all = all row
+
+-- a source that has read a record holds the offset behind it
+pub read_moves : {R K S O : Type 0} (meaning : Meaning R K S O) (graph : Expanded) (task offset : ℕ) (row : R) (old new : Held R K S) → slice_get old.tasks task ≡ Some (holds.Source offset) → Reads meaning graph task offset row old new
+    → slice_get new.tasks task ≡ Some (holds.Source (offset + 1))
+read_moves meaning graph task offset row old new held reads =
+    ap (λ h. slice_get h.tasks task) reads.ends ∙ get_set_same old.tasks task (holds.Source (offset + 1)) (slice_get_within old.tasks task (holds.Source offset) held)
 
 same_partition : (a b : ℕ) → ◌≡◌ {A = Option Role} (Some (role.Source a)) (Some (role.Source b)) → a ≡ b
 same_partition a b e = cc

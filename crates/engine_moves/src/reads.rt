@@ -1,7 +1,8 @@
 //! Sources read records.
 
-ghost use Rattle.std.specs.Prelude.{◌≡◌, ◌≢◌, ◌<◌, ◌+◌, ◌^◌, ℕ, Err, Some, length, slice_get, OnOk, OnErr};
+ghost use Rattle.std.specs.Prelude.{◌≡◌, ◌≢◌, ◌<◌, ◌+◌, ◌^◌, ℕ, Err, Some, length, slice_get, IfSome, OnOk, OnErr};
 ghost use Rattle.job_state.specs.declared.holding.Holding.TheVariants as Holding;
+ghost use Rattle.job_state.specs.Sending.{GoesInto};
 ghost use Rattle.job_graph.specs.declared.role.Role.TheVariants as Role;
 ghost use Rattle.engine_model.specs.declared.fault.CoreFault.TheVariants as CoreFault;
 ghost use Rattle.engine_model.specs.Calls.{EndsRead};
@@ -45,10 +46,11 @@ pub fn read_next<O: Operator, P: Partitions<Record = O::Record>>(
     let Some(offset) = attempt.offset(task) else {
         return Err(CoreFault::NoSuchTask);
     };
-    read_at(attempt, graph, log, task, partition, offset)
+    read_at(attempt, graph, log, task, partition, offset, None)
 }
 
-/// Source `task`, which reads this partition and holds this offset, sends its next record.
+/// Source `task`, which reads this partition and holds this offset, sends its next record. The
+/// channel that each of its records goes into may be known.
 fn read_at<O: Operator, P: Partitions<Record = O::Record>>(
     attempt: &mut Attempt<O>,
     graph: &Graph,
@@ -56,11 +58,14 @@ fn read_at<O: Operator, P: Partitions<Record = O::Record>>(
     task: u32,
     partition: u32,
     offset: u64,
+    known: Option<u32>,
 ) -> Result<(), CoreFault>
     requires source { slice_get graph.now.tasks task ≡ Some (Role.Source partition) }
     requires holds { slice_get attempt.old.tasks task ≡ Some (Holding.Source offset) }
     requires channels { length attempt.old.channels ≡ length graph.now.channels }
     requires within { partition < length (P.records log.old) }
+    requires known { IfSome known (λ number. (row : O.Record)
+        → GoesInto O.meaning graph.now task number row) }
     ensures ends { EndsRead graph.now task attempt.old attempt.new ⟦<O as Rules>⟧.lang
         (P.records log.old) result }
     ensures same { P.records log.new ≡ P.records log.old }
@@ -85,7 +90,7 @@ fn read_at<O: Operator, P: Partitions<Record = O::Record>>(
         Err(SourceFault::Memory) => return Err(CoreFault::Memory),
         Err(_) => return Err(CoreFault::Device),
     };
-    attempt.read(graph, task, offset, row)?;
+    attempt.read(graph, task, offset, row, known)?;
     Ok(())
 }
 
@@ -117,9 +122,10 @@ pub fn read_some<O: Operator, P: Partitions<Record = O::Record>>(
     let Some(first) = attempt.offset(task) else {
         return (0, Err(CoreFault::NoSuchTask));
     };
+    let known = Attempt::<O>::fixed_target(graph, task);
     let mut offset = first;
     for count in 0..most {
-        if let Err(fault) = read_at(attempt, graph, log, task, partition, offset) {
+        if let Err(fault) = read_at(attempt, graph, log, task, partition, offset, known) {
             return (count, Err(fault));
         }
         offset += 1;

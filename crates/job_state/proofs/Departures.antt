@@ -47,6 +47,7 @@ module _ {R K S O : Type 0} (meaning : Meaning R K S O) (graph : Expanded) (task
 
   -- where room was taken, or left
   pub ready_kept : (old new : List (Contents R)) (sent : List (ℕ × R)) (ready : Ready R) → ((number : ℕ) → room_at old number ≤ room_at new number) → IsReady meaning graph task old sent ready → IsReady meaning graph task new sent ready
+  ready_kept old new sent (Ready.One number row) grows is = (is.0, omega (arith, is.1, grows number))
   ready_kept old new sent (Ready.Run rows) grows is = (
     is.0,
     record {

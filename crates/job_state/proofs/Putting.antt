@@ -1,8 +1,8 @@
 -- Channels, as items are put into them.
-use Rattle.std.proofs.Common.{◌≡◌, ◌<◌, ◌≤◌, ◌+◌, ◌-◌, ◌==◌, ℕ, List, [], ◌∷◌, ◌++◌, length, map, filter, take, drop, get_or, Some, slice_get, slice_set, unwrap_or, All, subst, sym, ap, ◌∙◌, arith, inl, inr}
+use Rattle.std.proofs.Common.{◌≡◌, ◌<◌, ◌≤◌, ◌+◌, ◌-◌, ◌==◌, ℕ, zero, suc, List, [], ◌∷◌, ◌++◌, length, map, filter, take, drop, get_or, Some, slice_get, slice_set, unwrap_or, All, subst, sym, ap, ◌∙◌, arith, inl, inr}
 use Rattle.std.specs.Option.{option_map, option_map_or}
 use Rattle.std.proofs.lemmas.Bool.Decides.{eqb_tells}
-use Rattle.std.proofs.lemmas.List.{map-set, map-append, append-nil, take_all, set_past, length-map, length-set, set-set}
+use Rattle.std.proofs.lemmas.List.{map-set, map-append, append-nil, take_all, set_past, length-map, length-set, length-append, set-set}
 use Rattle.std.proofs.lemmas.List.Elements.{filter-append}
 use Rattle.std.proofs.lemmas.Option.{slice_get-map}
 use Rattle.channels.specs.Channel.{Contents}
@@ -88,6 +88,12 @@ module _ {R : Type 0} where
   pub has_room_at : {channels was : List (Contents R)} (puts : List (ℕ × Item R)) → channels ≡ was → HasRoom was puts → HasRoom channels puts
   has_room_at puts same room = subst (λ (l : List (Contents R)). HasRoom l puts) (sym same) room
 
+  -- where there is room there is a channel
+  pub room_within : (channels : List (Contents R)) (n : ℕ) → 1 ≤ room_at channels n → n < length channels
+  room_within [] n room = absurd (omega (arith, room))
+  room_within (c ∷ channels) zero room = omega arith
+  room_within (c ∷ channels) (suc n) room = omega (arith, room_within channels n room)
+
   pub room_here : (channels : List (Contents R)) (n : ℕ) (was : Contents R) → slice_get channels n ≡ Some was → room_at channels n ≡ was.room
   room_here channels n was is = ap (λ o. option_map_or (λ c. c.room) o 0) is
 
@@ -101,6 +107,11 @@ module _ {R : Type 0} where
 
   pub has_room : (channels : List (Contents R)) (met : ℕ) (puts : List (ℕ × Item R)) (p : ℕ × Item R) (was : Contents R) → All (λ q. length puts ≤ room_at channels q.0 + met) puts → met < length puts → p ≡ get_or puts met p → slice_get channels p.0 ≡ Some was → 0 < was.room
   has_room channels met puts p was room within is here = omega (arith, room met p within, ap (λ q. room_at channels q.0) is, room_here channels p.0 was here)
+
+-- of one alone, that one is taken
+pub popped_alone : {X : Type 0} (old new : List X) (x y : X) → old ≡ x ∷ [] → old ≡ new ++ y ∷ [] → x ≡ y
+popped_alone old [] x y one is = let e : x ∷ [] ≡ y ∷ [] = sym one ∙ is in cc
+popped_alone old (n ∷ ns) x y one is = absurd (omega (arith, ap length one, ap length is, length-append ns (y ∷ [])))
 
 pub all_of_take : {X : Type 0} (P : X → Type 0) (xs : List X) (i : ℕ) → length xs ≤ i → All P (take i xs) → All P xs
 all_of_take P xs i past all = subst (All P) (take_all i xs past) all

@@ -3,7 +3,7 @@ use Rattle.std.specs.Prelude.{◌≡◌, ◌≤◌, ◌<◌, ◌==◌, ℕ, List
 use Rattle.std.specs.Option.{option_map_or}
 use Rattle.channels.specs.Channel.{Contents}
 use Rattle.channels.specs.declared.item.Item.{Item}
-use Rattle.channels.specs.declared.item.Item.TheVariants.{Barrier}
+use Rattle.channels.specs.declared.item.Item.TheVariants.{Barrier, Record}
 use Rattle.dataflow_model.specs.Graph.{Channel, Meaning}
 use Rattle.deliveries.specs.Deliveries.{deliveries_of}
 use Rattle.job_graph.specs.Expanded.{Expanded, outlets_of}
@@ -47,6 +47,14 @@ module _ {R : Type 0} where
   barrier_into checkpoint task None = []
   barrier_into checkpoint task (Some channel) = if channel.sender == task then Barrier checkpoint ∷ [] else []
 
+-- a record that the task sends on its first port goes into this channel, and no other
+abbrev pub GoesInto : {R K S O : Type 0} → Meaning R K S O → Expanded → ℕ → ℕ → R → Type 0
+GoesInto meaning graph task number row = deliveries_of meaning graph task ((0, row) ∷ []) ≡ (number, Record row) ∷ []
+
+-- what the task sends is one record, which goes into this channel, and no other
+abbrev pub IsOneInto : {R K S O : Type 0} → Meaning R K S O → Expanded → ℕ → ℕ → List (ℕ × R) → Type 0
+IsOneInto {R} meaning graph task number sent = (port : ℕ) × (row : R) × (sent ≡ (port, row) ∷ []) × (deliveries_of meaning graph task sent ≡ (number, Record row) ∷ [])
+
 module _ {R : Type 0} (graph : Expanded) (task : ℕ) where
   -- all of these are sent on the task's first port, whose channels are one run, and each of those has room for all
   pub record IsRunReady (channels : List (Contents R)) (sent : List (ℕ × R)) : Type 0 where
@@ -56,5 +64,6 @@ module _ {R : Type 0} (graph : Expanded) (task : ℕ) where
 
 -- what the task sends can be put into its channels without memory
 abbrev pub IsReady : {R K S O : Type 0} → Meaning R K S O → Expanded → ℕ → List (Contents R) → List (ℕ × R) → Ready R → Type 0
+IsReady meaning graph task channels sent (Ready.One number row) = (deliveries_of meaning graph task sent ≡ (number, Record row) ∷ []) × (1 ≤ room_at channels number)
 IsReady meaning graph task channels sent (Ready.Run rows) = (rows.items ≡ sent) × IsRunReady graph task channels sent
 IsReady meaning graph task channels sent (Ready.Each puts) = (puts.items ≡ deliveries_of meaning graph task sent) × HasRoom channels puts.items

@@ -1,6 +1,6 @@
 //! Records that are sent, taken and logged.
 
-ghost use Rattle.std.specs.Prelude.{◌≡◌, ◌<◌, ◌+◌, ◌^◌, ℕ, List, length, slice_get, Some, Err, OnOk, OnErr};
+ghost use Rattle.std.specs.Prelude.{◌≡◌, ◌<◌, ◌+◌, ◌^◌, ℕ, List, length, slice_get, Some, Err, IfSome, OnOk, OnErr};
 ghost use Rattle.std.specs.Option.{option_copied};
 ghost use Rattle.channels.specs.declared.item.Item.TheVariants as Item;
 ghost use Rattle.keyed_state.specs.declared.comparing.SetFault.TheVariants as SetFault;
@@ -16,34 +16,47 @@ use crate::taking::pass_on_all;
 use crate::tasks::{advance, keep, keep_all};
 use abs_codec::NoMemory;
 use channels::Item;
+use deliveries::fixed_target;
 use job_graph::Graph;
 use keyed_state::SetFault;
 use operators::Operator;
 
 impl<O: Operator> Attempt<O> {
     ghost use Rattle.job_state.specs.declared.holding.Holding.TheVariants as Holding;
-    ghost use Rattle.job_state.specs.Sending.{items_at, without_head};
+    ghost use Rattle.job_state.specs.Sending.{items_at, without_head, GoesInto};
     ghost use Rattle.job_state.specs.Held.{Held, gate_at, Reads, Operates, record_logged};
     ghost use Rattle.job_state.specs.AtOnce.{HaveExpected};
     ghost use Rattle.job_state.specs.Batch.{Turn, StandFirst, OperatesEach, AreLastStates, rows_of, sent_by};
     ghost use Rattle.std.specs.List.Sorted.{IsStrictlySortedBy};
     ghost use Rattle.std.specs.Map.{keys_of};
 
-    /// A source, which holds this offset, sends its next record.
+    /// The one channel that each record goes into which a task sends on its first port, if there is
+    /// such one.
+    pub fn fixed_target(graph: &Graph, task: u32) -> Option<u32>
+        ensures { IfSome result (λ number. (row : O.Record)
+            → GoesInto O.meaning graph.now task number row) }
+    {
+        fixed_target::<O>(graph, task, 0)
+    }
+
+    /// A source, which holds this offset, sends its next record. The channel that it goes into may
+    /// be known.
     pub fn read(
         &mut self,
         graph: &Graph,
         task: u32,
         offset: u64,
         row: O::Record,
+        known: Option<u32>,
     ) -> Result<(), NoMemory>
         requires holds { slice_get self.old.tasks task ≡ Some (Holding.Source offset) }
         requires in_range { offset + 1 < 2 ^ 64 }
         requires channels { length self.old.channels ≡ length graph.now.channels }
+        requires known { IfSome known (λ number. GoesInto O.meaning graph.now task number row) }
         ensures ok { OnOk result (Reads O.meaning graph.now task offset row self.old self.new) }
         ensures err { OnErr result (self.new ≡ self.old) }
     {
-        send_record::<O>(self.alloc, &mut self.channels, graph, task, row)?;
+        send_record::<O>(self.alloc, &mut self.channels, graph, task, row, known)?;
         advance(&mut self.tasks, task, offset + 1);
         Ok(())
     }
@@ -87,7 +100,7 @@ impl<O: Operator> Attempt<O> {
     /// of each key, and sends what all of them send: as it would one after another. The records are
     /// logged where the task's gate logs the input. Nothing changes where memory is refused, or
     /// where a key has another state than the one that is expected, if any are. What is left of the
-    /// states is to be let go.
+    /// states, and of what is sent, is to be let go.
     pub fn operate_some(
         &mut self,
         graph: &Graph,
@@ -97,7 +110,7 @@ impl<O: Operator> Attempt<O> {
         count: usize,
         states: &mut Vec<(O::Key, O::State)>,
         expected: Option<&[Option<O::State>]>,
-        sent: Vec<(u32, O::Record)>,
+        sent: &mut Vec<(u32, O::Record)>,
     ) -> Result<(), SetFault>
         ghost turns: { List (Turn O.Record O.Key O.State) }
         requires holds { (entries : List (O.Key × O.State))
@@ -110,7 +123,7 @@ impl<O: Operator> Attempt<O> {
         // Each key stands once.
         requires rising { IsStrictlySortedBy O.Key.cmp (keys_of states.old.items) }
         requires states { AreLastStates O.meaning.same_key turns states.old.items }
-        requires sent { sent.items ≡ sent_by turns }
+        requires sent { sent.old.items ≡ sent_by turns }
         ensures ok { OnOk result (OperatesEach O.meaning O.Key.cmp graph.now task input channel
             turns self.old self.new) }
         ensures expected { 0 < count → (entries : List (O.Key × O.State))

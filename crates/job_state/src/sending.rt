@@ -1,11 +1,11 @@
 //! What is put into channels, and taken from them.
 
-ghost use Rattle.std.specs.Prelude.{◌≡◌, ◌++◌, ◌∷◌, [], ◌<◌, ◌≤◌, ℕ, All, map, length, slice_get, option_map, OnOk, OnErr, IfOk};
+ghost use Rattle.std.specs.Prelude.{◌≡◌, ◌++◌, ◌∷◌, [], ◌<◌, ◌≤◌, ℕ, All, map, length, slice_get, option_map, OnOk, OnErr, IfOk, IfSome};
 ghost use Rattle.std.specs.Option.{option_copied};
 ghost use Rattle.channels.specs.Items.{item_copied, leading_records};
 ghost use Rattle.deliveries.specs.Deliveries.{deliveries_of, barriers_of};
 ghost use Rattle.job_state.specs.AtOnce.{without_first};
-ghost use Rattle.job_state.specs.Sending.{contents_items, items_at, put_into, room_at, HasRoom, AreChannels, Puts, barrier_into, without_head};
+ghost use Rattle.job_state.specs.Sending.{contents_items, items_at, put_into, room_at, HasRoom, AreChannels, Puts, barrier_into, without_head, GoesInto};
 ghost use Rattle.channels.specs.declared.item.Item.TheVariants.{Record};
 ghost use Rattle.dataflow_model.specs.Machine.{received};
 
@@ -193,21 +193,44 @@ pub(crate) fn pass_on<R: Drop>(
     taken
 }
 
-/// Sends a record on a task's first port.
+/// The one channel that a record goes into when a task sends it on its first port, which may be
+/// known; `None` where there is no such one, or where the channels of the port are more than one
+/// run.
+fn target_of<O: Operator>(
+    graph: &Graph,
+    task: u32,
+    row: &O::Record,
+    known: Option<u32>,
+) -> Option<u32>
+    requires { IfSome known (λ number. GoesInto O.meaning graph.now task number
+        row.now) }
+    ensures { IfSome result (λ number. GoesInto O.meaning graph.now task number
+        row.now) }
+{
+    match known {
+        Some(number) => Some(number),
+        None => sole_target::<O>(graph, task, 0, row),
+    }
+}
+
+/// Sends a record on a task's first port. The channel that it goes into may be known.
 pub(crate) fn send_record<O: Operator>(
     alloc: Global,
     channels: &mut [Channel<O::Record>],
     graph: &Graph,
     task: u32,
     row: O::Record,
+    known: Option<u32>,
 ) -> Result<(), NoMemory>
-    requires { length channels.old ≡ length graph.now.channels }
+    requires channels { length channels.old ≡ length graph.now.channels }
+    requires known { IfSome known (λ number. GoesInto O.meaning graph.now task number
+        row) }
     ensures ok { OnOk result (Puts (λ number. map Record
         (received O.meaning task ((0, row) ∷ []) (slice_get graph.now.channels number)))
         (contents_items channels.old) (contents_items channels.new)) }
     ensures err { OnErr result (contents_items channels.new ≡ contents_items channels.old) }
 {
-    if let Some(number) = sole_target::<O>(graph, task, 0, &row) {
+    if let Some(number) = target_of::<O>(graph, task, &row, known) {
         return send_item(channels, number, Item::Record(row));
     }
     let puts = reserve_row::<O>(alloc, channels, graph, task, row)?;

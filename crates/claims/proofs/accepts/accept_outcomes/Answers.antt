@@ -11,7 +11,7 @@ returns-in_default-clause-ends g c = λ ledger. (λ due. c.in_default.ensures.no
 pub operate-requires : goal.operate-requires
 operate-requires g c = λ lifetimes lives.
     let on = c.in-Some.ensures.some in
-    (lives.0, (lives.1.0, (lives.1.1.0, (lives.1.1.1, ((c.args.operators.now, on.0, c.requires.serves.1.shape, on.1), (c.requires.operand.some, (c.requires.outcomes, refl)))))))
+    (lives.0, (lives.1.0, (lives.1.1.0, (lives.1.1.1, ((c.args.operators.now, on.0, c.requires.serves.1.shape, on.1), (c.requires.operand, (c.requires.outcomes, refl)))))))
 
 pub returns-in-Ok-clause-ends : goal.returns-in-Ok-clause-ends
 returns-in-Ok-clause-ends g c = λ ledger.

@@ -1,4 +1,4 @@
-use Rattle.std.proofs.Common.{◌≡◌, Bool, true, false, Some, slice_get, sym, ap, ◌∙◌}
+use Rattle.std.proofs.Common.{◌≡◌, Bool, true, false, Some, sym, ap, ◌∙◌}
 use Rattle.engine_model.specs.Calls.{IsBlocked}
 use Rattle.job_graph.specs.declared.role.Role.TheVariants as role
 use Rattle.claims.proofs.Dues.{within_gates}

@@ -1,6 +1,5 @@
-use Rattle.std.proofs.Common.{Some, sym, ap, ◌∙◌, refl, rules}
+use Rattle.std.proofs.Common.{Some, sym, ap, ◌∙◌}
 use Rattle.job_graph.specs.declared.role.Role.TheVariants as Role
-use Rattle.engine_model.proofs.Numbers.{none_past}
 use Rattle.engine_moves.proofs.reads.read_next.Goals as goal
 
 -- a source holds an offset

@@ -1,7 +1,6 @@
 use Rattle.std.proofs.Common.{◌≡◌, ◌+◌, ℕ, List, suc, Some, Ok, Err, sym, ap, subst, ◌∙◌, arith}
 use Rattle.job_graph.specs.declared.role.Role.TheVariants as Role
 use Rattle.engine_model.specs.Calls.{EndsRead}
-use Rattle.engine_model.specs.Language.{language}
 use Rattle.engine_model.proofs.RulesOf.{rules_of}
 use Rattle.engine_moves.specs.Reading.{ReadsInTurn}
 use Rattle.engine_moves.proofs.Reading.{no_fault, next_fits, one_more, refused_after}

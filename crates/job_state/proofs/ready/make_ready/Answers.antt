@@ -1,10 +1,19 @@
-use Rattle.std.proofs.Common.{◌<◌, All, length, sym, subst}
-use Rattle.job_graph.specs.Expanded.{outlets_of}
-use Rattle.job_state.proofs.Departures.{outlets_below}
+use Rattle.std.proofs.Common.{◌∷◌, [], subst, sym, ap, ◌∙◌, arith}
+use Rattle.channels.specs.declared.item.Item.TheVariants.{Record}
+use Rattle.job_state.specs.Sending.{IsOneInto}
+use Rattle.job_state.proofs.Putting.{are_channels, popped_alone}
+use Rattle.job_state.proofs.Received.{deliveries_are_put}
 use Rattle.job_state.proofs.ready.make_ready.Goals as goal
 
-pub reserve_each-requires : goal.reserve_each-requires
-reserve_each-requires g c =
+pub reserve_one-requires : goal.reserve_one-requires
+reserve_one-requires g c =
+    let meaning = g.O.Operator.meaning in
     let graph = c.args.graph.now in
-    let below = subst (λ m. All (λ n. n < m) (outlets_of graph c.args.task 0)) (sym c.requires) (outlets_below g.O.Operator.meaning graph c.args.task 0) in
-    subst (All (λ n. n < length c.args.channels.now)) (sym c.in-Some.ensures.are) below
+    let one = subst (IsOneInto meaning graph c.args.task c.in-Some.number) c.deref.ensures.value c.in-Some.ensures in
+    are_channels (sym one.3) c.requires (deliveries_are_put meaning graph c.args.task c.args.sent.now.items) 0 (c.in-Some.number, Record one.1) (omega arith)
+
+pub returns-in-Some-pop-clause-ready : goal.returns-in-Some-pop-clause-ready
+returns-in-Some-pop-clause-ready g c =
+    let one = subst (IsOneInto g.O.Operator.meaning c.args.graph.now c.args.task c.in-Some.number) c.deref.ensures.value c.in-Some.ensures in
+    let same = popped_alone c.args.sent.now.items c.pop.new.self.items (one.0, one.1) (c.in-Some-pop.field-0-0, c.in-Some-pop.row) one.2 c.in-Some-pop.ensures.items in
+    (one.3 ∙ ap (λ p. (c.in-Some.number, Record p.1) ∷ []) same, c.in_ok-reserve_one.ensures.room)

@@ -15,7 +15,7 @@ returns-clause-ok g c =
 
 pub send_item-requires : goal.send_item-requires
 send_item-requires g c =
-    are_channels (sym c.in-Some.ensures) c.requires (deliveries_are_put g.O.Operator.meaning c.args.graph.now c.args.task ((0, c.args.row) ∷ [])) 0 (c.in-Some.number, Record c.args.row) (omega arith)
+    are_channels (sym c.in-Some.ensures) c.requires.channels (deliveries_are_put g.O.Operator.meaning c.args.graph.now c.args.task ((0, c.args.row) ∷ [])) 0 (c.in-Some.number, Record c.args.row) (omega arith)
 
 pub returns-in-Some-clause-ok : goal.returns-in-Some-clause-ok
 returns-in-Some-clause-ok g c =

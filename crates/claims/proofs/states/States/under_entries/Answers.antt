@@ -1,11 +1,10 @@
-use Rattle.std.proofs.Common.{length, ap, ◌∙◌, arith}
-use Rattle.std.specs.List.{zip}
-use Rattle.std.proofs.lemmas.List.{length-map}
+use Rattle.std.proofs.Common.{subst, ◌∙◌}
+use Rattle.std.specs.List.Sorted.{IsStrictlySortedBy}
+use Rattle.std.specs.Map.{keys_of}
+use Rattle.claims.proofs.LastKeys.{under_same}
 use Rattle.claims.proofs.states.States.under_entries.Goals as goal
 
-pub returns-then-has_keys : goal.returns-then-has_keys
-returns-then-has_keys g c = λ exact.
-    let keyed = c.has_keys.ensures exact c.if-has_keys.true in (
-      omega (arith, ap length keyed, length-map c.args.entries.now (λ e. e.0)),
-      ap (λ ks. zip ks c.columns.result.1.now) keyed ∙ (c.columns.ensures.entries ∙ c.in-Some.ensures),
-    )
+pub returns-then-entries-keys : goal.returns-then-entries-keys
+returns-then-entries-keys g c = λ exact.
+    let rises = subst (λ es. IsStrictlySortedBy g.K.Ord.cmp (keys_of es)) c.in-Some.ensures c.columns.ensures.rising in
+    under_same g.met.K.Ord.total exact c.args.entries.now c.columns.result.0.now c.columns.result.1.now c.args.self.now (c.columns.ensures.entries ∙ c.in-Some.ensures) rises c.requires.rising c.requires.places c.if-states-keys.true c.if-entries-keys.true

@@ -108,7 +108,7 @@ pass_on_all-requires g c = λ lifetimes lives.
     let within : c.args.channel < length c.reserve_log.new.logs =
     omega (arith, given.0, ap (λ l. length l) c.reserve_log.ensures.logged, length-map c.reserve_log.new.logs (λ l. l.records), length-map c.self.inside.logs (λ l. l.records), ap (λ h. length h.logs) c.self.view_is) in
     let records : c.args.count ≤ length (leading_records stands) = omega (arith, many, leads rows stands first) in
-    let ready = subst (λ sent. IsReady meaning graph task channels sent c.in_ok-ready.ready) sends (ready_at meaning graph task c.args.sent.items c.in_ok-ready.ready passed c.in_ok-ready.ensures.ready) in
+    let ready = subst (λ sent. IsReady meaning graph task channels sent c.in_ok-ready.ready) sends (ready_at meaning graph task c.args.sent.now.items c.in_ok-ready.ready passed c.in_ok-ready.ensures.ready) in
     (lives.0, (lives.1.0, (lives.1.1.0, (lives.1.1.1, (there, (within, (c.in_ok-reserve_log.ensures.room, (records, ready))))))))
 
 pub returns-clause-ok : goal.returns-clause-ok
@@ -134,11 +134,11 @@ returns-clause-ok g c =
     let logs_it = c.is_logged-logged.ensures ∙ ap (λ gates. is_logged (gate_in gates c.args.task) c.args.input) c.deref.ensures.value in
     let law = equal_keys order meaning.same_key g.met.O.Operator.same_key in
     all_are_each meaning g.O.Key.Ord.cmp law c.args.graph.now c.args.task c.args.input channel g.turns c.args.self.now _ (omega (arith, counted, c.if-count-eq0.false)) given.0 stands_first
-    (operates_all_from meaning c.args.graph.now c.args.task g.O.Key.Ord.cmp c.args.input channel c.args.count g.turns c.args.states.now.items c.args.sent.items _ c.args.self.now _ kept.0 kept.1 _ _ c.self.view_is
+    (operates_all_from meaning c.args.graph.now c.args.task g.O.Key.Ord.cmp c.args.input channel c.args.count g.turns c.args.states.now.items c.args.sent.now.items _ c.args.self.now _ kept.0 kept.1 _ _ c.self.view_is
     (ap (λ l. slice_get (holdings_of l) c.args.task) (sym stands) ∙ kept.2) kept.4
     (keeps_in_turn order meaning.same_key g.met.O.Operator.same_key g.turns c.args.states.now.items kept.4.entries kept.4.kept rising last kept.4.keeps)
     counted sends
-    (puts_at _ _ (ap (λ l. without_first c.args.count channel l) stood) (ap (λ l. contents_items l) (sym passed)) (λ k. ap (λ l. put_into k (deliveries_of meaning c.args.graph.now c.args.task l)) (sym sends) ∙ received_is_put meaning c.args.graph.now c.args.task c.args.sent.items k) c.pass_on_all.ensures.puts)
+    (puts_at _ _ (ap (λ l. without_first c.args.count channel l) stood) (ap (λ l. contents_items l) (sym passed)) (λ k. ap (λ l. put_into k (deliveries_of meaning c.args.graph.now c.args.task l)) (sym sends) ∙ received_is_put meaning c.args.graph.now c.args.task c.args.sent.now.items k) c.pass_on_all.ensures.puts)
     (c.pass_on_all.ensures.came ∙ c.reserve_log.ensures.came)
     (c.pass_on_all.ensures.logged rows many first ∙ ap (λ l. log_with_all c.is_logged-logged.result channel rows l) c.reserve_log.ensures.logged ∙ ap (λ b. log_with_all b channel rows (records_of c.self.inside.logs)) logs_it)
     (ap (λ l. holdings_of l) tasks ∙ kept.3 ∙ ap (λ l. slice_set (holdings_of l) c.args.task kept.1) stands)
