@@ -116,7 +116,7 @@ impl<
 
     /// Offers the work on the records behind the first of a sink's input, in their order and on so
     /// many at most, each of which is due once those before it are taken. What was made of each is
-    /// handed in by `accept_with`, in that order.
+    /// handed in by `accept_with`, or of all by `accept_rows_with`, in that order.
     pub fn offer_behind(
         &self,
         task: u32,

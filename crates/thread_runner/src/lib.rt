@@ -3,9 +3,9 @@
 //! every core keeps; each call of a station does what the core's call of that name does;
 //! `finish_with` does what the core's own `finish` does, `accept_with` what its `accept` does, and
 //! `accept_rows_with` what its `accept_rows` does, and each adds the number of the records that are
-//! taken to the worker's share and the book; with all shares gathered, the book's total is their sum; and what a [`run`]
-//! reports is what it added to the share that was handed to it. Jobs are run with no lock held, of
-//! one record each ([`run`]) or of up to 1,024 ([`run_batched`]).
+//! taken to the worker's share and the book; with all shares gathered, the book's total is their
+//! sum; and what a [`run`] reports is what it added to the share that was handed to it. Jobs are
+//! run with no lock held, of one record each ([`run`]) or of up to 1,024 ([`run_batched`]).
 //!
 //! A station may have readers: `with_readers` makes 16 of them, which `reader` hands out. `publish`
 //! shows them what is committed, and answers a [`Told`] that names these lists; [`run`] publishes
