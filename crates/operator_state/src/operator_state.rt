@@ -86,15 +86,28 @@ fn begin<K>(last: &Option<K>, left: usize, out: &mut Vec<u8>) -> Result<(), NoMe
     write_count(left, out).map_err(|_| NoMemory)
 }
 
-/// Takes the room for so many entries more, each as long as those that are written are on average,
-/// and for an eighth more: later entries are often longer, and a full vector is copied to grow.
-/// Where memory is refused, it is asked for again as they are written.
+/// How many bytes so many entries more are likely to take, where so many stand in so many bytes: as
+/// many each, and an eighth more, since later ones are often longer.
+fn likely_bytes(written: usize, bytes: usize, more: usize) -> usize {
+    let each = bytes.checked_div(written).unwrap_or(0);
+    let room = each.saturating_mul(more);
+    room.saturating_add(room / 8)
+}
+
+/// Takes the room that so many entries more are likely to need, since a full vector is copied to
+/// grow. Where memory is refused, it is asked for again as they are written.
 fn take_room(written: usize, more: usize, out: &mut Vec<u8>)
     ensures { out.new.items ≡ out.old.items }
 {
-    let each = out.len().checked_div(written).unwrap_or(0);
-    let room = each.saturating_mul(more);
-    let _ = out.reserve(room.saturating_add(room / 8));
+    let _ = out.reserve(likely_bytes(written, out.len(), more));
+}
+
+/// Puts zeros where so many entries more are likely to stand, for these to be written over them.
+fn fill_room(written: usize, more: usize, out: &mut Vec<u8>)
+    ensures { take (length out.old.items) out.new.items ≡ out.old.items }
+{
+    let likely = likely_bytes(written, out.len(), more);
+    let _ = out.resize(out.len().saturating_add(likely), 0);
 }
 
 /// Writes a key and its state.
@@ -150,16 +163,18 @@ fn write_entry_at<K: Codec, S: Codec>(
     Ok(next)
 }
 
-/// Writes the next entries of the frozen map, and copies the key of the last of them.
+/// Writes the next entries of the frozen map from `at` on, and copies the key of the last of them.
 fn write_next<K: Codec + Ord, S: Codec>(
     states: &KeyedState<K, S>,
     last: Option<&K>,
     count: usize,
     out: &mut Vec<u8>,
+    at: usize,
 ) -> Result<Option<K>, NoMemory>
-    requires { count ≤ length (entries_above K.Ord.cmp (option_copied last)
+    requires count { count ≤ length (entries_above K.Ord.cmp (option_copied last)
         (frozen_entries states.now)) }
-    ensures appended { OnOk result (out.new.items ≡ out.old.items
+    requires within { at ≤ length out.old.items }
+    ensures appended { OnOk result (out.new.items ≡ take at out.old.items
         ++ flat_map (pair_spelling K.spelling S.spelling) (take count
         (entries_above K.Ord.cmp (option_copied last.entry) (frozen_entries states.now)))) }
     ensures spelled { OnOk result (All (PairIsSpelled K.HasSpelling S.HasSpelling)
@@ -168,13 +183,14 @@ fn write_next<K: Codec + Ord, S: Codec>(
     ensures others { IfOk result (λ next. entries_above K.Ord.cmp next (frozen_entries states.now)
         ≡ drop count (entries_above K.Ord.cmp (option_copied last.entry)
         (frozen_entries states.now))) }
-    ensures keeps { (more : List ℕ) × (out.new.items ≡ out.old.items ++ more) }
+    ensures keeps { (more : List ℕ) × (out.new.items ≡ take at out.old.items ++ more) }
 {
+    let mut next = last;
+    let mut end = at;
     let Some(mut entries) = states.frozen_above(last) else {
+        out.truncate(at);
         return Ok(None);
     };
-    let mut next = last;
-    let mut end = out.len();
     for _ in 0..count {
         if let Some((key, state)) = entries.next() {
             end = write_entry_at(key, state, out, end)?;
@@ -208,9 +224,12 @@ fn spell_next<K: Codec + Ord, S: Codec>(
         ≡ drop count (entries_above K.Ord.cmp last.now (frozen_entries states.now))) }
     ensures keeps { (more : List ℕ) × (out.new.items ≡ out.old.items ++ more) }
 {
-    take_room(states.len().saturating_sub(left), left, out);
+    let written = states.len().saturating_sub(left);
+    take_room(written, left, out);
     begin(last, left, out)?;
-    write_next(states, last.as_ref(), count, out)
+    let at = out.len();
+    fill_room(written, count, out);
+    write_next(states, last.as_ref(), count, out, at)
 }
 
 /// Writes these logs behind the entries. The head comes first where there are none.

@@ -1,4 +1,4 @@
-use Rattle.std.proofs.Common.{◌≡◌, ◌+◌, ◌≤◌, ℕ, suc, length, take, drop, List, Some, slice_get, ap, ap₂, sym, subst, ◌∙◌, arith}
+use Rattle.std.proofs.Common.{◌≡◌, ◌+◌, ℕ, suc, length, take, drop, List, Some, slice_get, ap, ap₂, sym, subst, ◌∙◌, arith}
 use Rattle.std.specs.Option.{option_copied}
 use Rattle.std.specs.List.{All, flat_map}
 use Rattle.std.proofs.lemmas.List.Elements.{All-push}
@@ -13,7 +13,7 @@ pub returns-in_err-end-clause-keeps : goal.returns-in_err-end-clause-keeps
 returns-in_err-end-clause-keeps g c =
     let new = c.write_entry_at.new.out.items in
     let done = flat_map (pair_spelling g.K.Codec.spelling g.S.Codec.spelling) (take c.loop.counter (entries_above g.K.Ord.cmp (option_copied c.args.last) (frozen_entries c.args.states.now))) in
-    since c.args.out.now.items (take c.loop.end new) new done (drop c.loop.end new) (c.write_entry_at.ensures.keeps ∙ c.loop.invariant.text) (sym (take-append-drop c.loop.end new))
+    since (take c.args.at c.args.out.now.items) (take c.loop.end new) new done (drop c.loop.end new) (c.write_entry_at.ensures.keeps ∙ c.loop.invariant.text) (sym (take-append-drop c.loop.end new))
 
 pub loop-preserved : goal.loop-preserved
 loop-preserved g c =
@@ -31,10 +31,10 @@ loop-preserved g c =
           let next : c.loop.counter + 1 ≡ suc c.loop.counter = omega arith in
           record {
             within = omega (arith, done.1.1, w.end-is, ap (λ o. length o.items) w.out-is);
-            text = ap₂ (λ (n : ℕ) o. take n o.items) w.end-is w.out-is ∙ text_on (pair_spelling g.K.Codec.spelling g.S.Codec.spelling) c.args.out.now.items (take c.loop.end c.loop.out.items) (take w.in_ok-end.end w.write_entry_at.new.out.items) here further e c.loop.invariant.text done.1.2 on.1;
+            text = ap₂ (λ (n : ℕ) o. take n o.items) w.end-is w.out-is ∙ text_on (pair_spelling g.K.Codec.spelling g.S.Codec.spelling) (take c.args.at c.args.out.now.items) (take c.loop.end c.loop.out.items) (take w.in_ok-end.end w.write_entry_at.new.out.items) here further e c.loop.invariant.text done.1.2 on.1;
             each = subst (All (PairIsSpelled g.K.Codec.HasSpelling g.S.Codec.HasSpelling)) (sym on.1) (All-push (PairIsSpelled g.K.Codec.HasSpelling g.S.Codec.HasSpelling) here e c.loop.invariant.each done.0);
             rest = sym (drop_on c.loop.counter left e c.next.new.self (sym c.loop.invariant.rest ∙ steps)) ∙ ap (λ n. drop n left) (sym next);
             others = ap (λ n. entries_above g.K.Ord.cmp (option_copied n) frozen) w.next-is ∙ on.0;
           }
-      | in_default-next w ↦ absurd (none_left c.loop.entries left c.loop.counter c.args.count c.loop.invariant.rest (sym (ap (λ (l : List (g.row.K.Denot × g.row.S.Denot)). slice_get l 0) w.in_default-next.ensures.steps.0)) c.loop-test.true c.requires)
+      | in_default-next w ↦ absurd (none_left c.loop.entries left c.loop.counter c.args.count c.loop.invariant.rest (sym (ap (λ (l : List (g.row.K.Denot × g.row.S.Denot)). slice_get l 0) w.in_default-next.ensures.steps.0)) c.loop-test.true c.requires.count)
     ]
