@@ -63,7 +63,8 @@ fn target_of_one<O: Operator>(graph: &Graph, task: u32, sent: &[(u32, O::Record)
     }
 }
 
-/// Takes the room for what a task sends, which is no longer in the list.
+/// Takes the room for what a task sends, which the answer then holds in place of the list. Where
+/// memory is refused, the list may have lost it.
 pub(crate) fn make_ready<O: Operator>(
     alloc: Global,
     channels: &mut [Channel<O::Record>],

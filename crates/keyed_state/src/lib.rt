@@ -22,8 +22,9 @@
 //!   refused, none;
 //! - `merge` of k entries takes k copies of one entry, and k times a time logarithmic in n + m;
 //! - `lend` takes constant time and no memory. It answers the map where nothing is frozen and m is
-//!   0, once entries were put by `set_all`. Whoever was lent it reads it as it was then: where it is
-//!   written while somebody has it still, it is copied first;
+//!   0, once entries were put by `set_all` or `compare_and_set_all` and there was memory for a
+//!   counter. Whoever was lent it reads it as it was then: where it is written while somebody has
+//!   it still, it is copied first;
 //! - `lend_frozen` answers the frozen map in the same way, and takes the memory of a counter where
 //!   it was not lent before; `from_lent` takes no memory;
 //! - `encode` takes the time and memory of the spelling, and where m is not 0 a copy of it all.
