@@ -5,14 +5,11 @@
 #![tactic(auto)]
 
 mod fault;
-mod inputs;
-mod rank_set;
-mod round;
 mod schedule;
 mod shape;
 mod turns;
 
 pub use fault::RunFault;
-pub use inputs::Place;
 pub use schedule::{HandedOut, Schedule, Step};
+pub use schedule_parts::Place;
 pub use turns::Turns;

@@ -2,9 +2,7 @@
 
 ghost use Rattle.std.specs.Prelude.{◌≤◌};
 
-use crate::inputs::{Inputs, Place};
-use crate::rank_set::RankSet;
-use crate::round::{Need, Round};
+use schedule_parts::{Inputs, Need, Place, RankSet, Round};
 use std::collections::VecDeque;
 
 /// A step of a run.

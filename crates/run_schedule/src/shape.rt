@@ -1,9 +1,8 @@
 //! The schedule of a graph.
 
-use crate::inputs::{Inputs, Place};
-use crate::round::Round;
 use crate::schedule::{Node, Schedule};
 use job_graph::{Graph, Role, Route};
+use schedule_parts::{Inputs, Place, Round};
 use std::alloc::{AllocError, Global};
 use std::collections::VecDeque;
 

@@ -3,10 +3,10 @@
 ghost use Rattle.std.specs.Prelude.{◌≤◌};
 
 use crate::fault::RunFault;
-use crate::inputs::Place;
 use crate::schedule::{HandedOut, Schedule, Step};
 use alignment::Effect;
 use engine_model::{CoreFault, Persisted};
+use schedule_parts::Place;
 
 /// The turns of the present run.
 #[derive(Drop)]

@@ -1,5 +1,5 @@
 -- What a station keeps.
-use Rattle.std.specs.Prelude.{◌≡◌, ℕ, ◌+◌, ◌≤◌, Option, Result, length}
+use Rattle.std.specs.Prelude.{◌≡◌, ℕ, Option, Result}
 use Rattle.engine_model.specs.AllRules.{AllRules}
 use Rattle.engine_model.specs.Language.{Language}
 use Rattle.engine_model.specs.declared.fault.CoreFault.{CoreFault}
@@ -14,10 +14,6 @@ pub record Standing (O R K S : Type 0) : Type 0 where
   pub core : CoreState O R K S
   pub total : ℕ
   pub output : Option Output
-
--- one claim is made at most
-abbrev pub ClaimsOnce : {O R K S : Type 0} → CoreState O R K S → CoreState O R K S → Type 0
-ClaimsOnce old new = length new.claims + old.serials ≤ length old.claims + new.serials
 
 module _ {O R K S : Type 0} (old new : Standing O R K S) where
   -- a call of the core that leaves the claims, the total, and what readers are shown

@@ -2,10 +2,9 @@
 
 ghost use Rattle.std.specs.Prelude.{◌≡◌, ◌+◌, ◌≤◌, ◌<◌, ◌^◌, IfOk, vec_len};
 
-use crate::batch::Workbench;
 use crate::patience::Patience;
 use crate::pause::Pause;
-use crate::station::{Next, Station};
+use crate::station::Station;
 use commit_sink::Transactions;
 use operators::Operator;
 use run_schedule::{Place, RunFault};
@@ -17,6 +16,7 @@ use std::sync::{Mutex, Wait};
 use std::thread;
 use std::thread::Threads;
 use std::time::Clock;
+use worker_turns::{Next, Workbench};
 
 /// What a run did.
 #[derive(Clone, Copy, PartialEq, Eq, Debug)]

@@ -53,7 +53,6 @@
 //! are proved and run, with the bounds of their types.
 #![tactic(auto)]
 
-mod batch;
 mod calls;
 mod crew;
 mod patience;

@@ -4,10 +4,14 @@ use std::collections::VecDeque;
 
 /// What a checkpoint needs next.
 #[derive(Clone, Copy, PartialEq, Eq, Debug)]
-pub(crate) enum Need {
+pub enum Need {
+    /// This source task sends the barrier.
     Inject(u32),
+    /// Some work on this task's part, or the part is put in the store.
     Persist(u32),
+    /// The checkpoint becomes complete.
     Complete,
+    /// This sink subtask commits.
     Commit(u32),
 }
 
@@ -36,7 +40,7 @@ const RECORDS_WAITED_A_PIECE: u64 = 256;
 
 /// The checkpoint that is made.
 #[derive(Drop)]
-pub(crate) struct Round {
+pub struct Round {
     stage: Stage,
     to_inject: VecDeque<u32>,
     to_persist: VecDeque<u32>,
@@ -63,7 +67,7 @@ pub(crate) struct Round {
 
 impl Round {
     /// Over these queues, which have room for every task.
-    pub(crate) fn new(
+    pub fn new(
         to_inject: VecDeque<u32>,
         to_persist: VecDeque<u32>,
         tasks: u32,
@@ -86,12 +90,12 @@ impl Round {
     }
 
     /// Whether the last checkpoint had many pieces for the records between two of them.
-    pub(crate) fn is_late(&self) -> bool {
+    pub fn is_late(&self) -> bool {
         self.steps > 1
     }
 
     /// No checkpoint is pending.
-    pub(crate) fn clear(&mut self) {
+    pub fn clear(&mut self) {
         self.stage = Stage::None;
         self.to_inject.clear();
         self.to_persist.clear();
@@ -99,7 +103,7 @@ impl Round {
     }
 
     /// A checkpoint begins.
-    pub(crate) fn begin(&mut self, sources: &[u32]) {
+    pub fn begin(&mut self, sources: &[u32]) {
         self.stage = Stage::Pending;
         self.to_inject.clear();
         self.to_persist.clear();
@@ -112,16 +116,18 @@ impl Round {
         }
     }
 
-    pub(crate) fn is_none(&self) -> bool {
+    /// Whether none is pending, and all sinks have committed what was complete.
+    pub fn is_none(&self) -> bool {
         self.stage == Stage::None
     }
 
-    pub(crate) fn is_pending(&self) -> bool {
+    /// Whether one is pending.
+    pub fn is_pending(&self) -> bool {
         self.stage == Stage::Pending
     }
 
     /// What is needed next, if anything can be done for it now.
-    pub(crate) fn next(&self) -> Option<Need> {
+    pub fn next(&self) -> Option<Need> {
         match self.stage {
             Stage::None => None,
             Stage::Pending => self.next_part(),
@@ -143,17 +149,17 @@ impl Round {
     }
 
     /// A task's copy is whole.
-    pub(crate) fn copied(&mut self, task: u32) {
+    pub fn copied(&mut self, task: u32) {
         let _ = self.to_persist.push_back(task);
     }
 
     /// The first source has injected, now or before.
-    pub(crate) fn injected(&mut self) {
+    pub fn injected(&mut self) {
         let _ = self.to_inject.pop_front();
     }
 
     /// The first copy, which has so many pieces, is written elsewhere.
-    pub(crate) fn handed_out(&mut self, pieces: u64) {
+    pub fn handed_out(&mut self, pieces: u64) {
         self.steps_left = 0;
         self.pieces = self.pieces.saturating_add(pieces);
         self.pieces_elsewhere = self.pieces_elsewhere.saturating_add(pieces);
@@ -161,12 +167,12 @@ impl Round {
     }
 
     /// A copy was written elsewhere, and comes first.
-    pub(crate) fn handed_in(&mut self, task: u32) {
+    pub fn handed_in(&mut self, task: u32) {
         let _ = self.to_persist.push_front(task);
     }
 
     /// Work on the first copy has gone on, and more is left of it.
-    pub(crate) fn has_more(&mut self) {
+    pub fn has_more(&mut self) {
         self.pieces = self.pieces.saturating_add(1);
         if self.is_late() || self.pieces >= PIECES_AT_ONCE {
             self.steps_left = self.steps;
@@ -174,19 +180,19 @@ impl Round {
     }
 
     /// Whether barriers wait for more records, of which so many were worked since the trigger.
-    pub(crate) fn awaits_records(&self, worked: u64) -> bool {
+    pub fn awaits_records(&self, worked: u64) -> bool {
         worked < self.records_waited && !self.to_inject.is_empty()
     }
 
     /// Whether a record has its turn before what is needed next. It has had one where it is asked.
-    pub(crate) fn gives_way(&mut self) -> bool {
+    pub fn gives_way(&mut self) -> bool {
         let gives_way = self.steps_left > 0;
         self.steps_left = self.steps_left.saturating_sub(1);
         gives_way
     }
 
     /// The first copy is in the store, now or before.
-    pub(crate) fn persisted(&mut self, is_new: bool) {
+    pub fn persisted(&mut self, is_new: bool) {
         self.steps_left = 0;
         let _ = self.to_persist.pop_front();
         if is_new {
@@ -195,7 +201,7 @@ impl Round {
     }
 
     /// The checkpoint is complete, and the next one comes after so many records.
-    pub(crate) fn completed(&mut self, every: u64) {
+    pub fn completed(&mut self, every: u64) {
         let is_late = every > 0 && self.pieces.saturating_mul(RECORDS_A_PIECE) >= every;
         self.steps = if is_late { MOST_STEPS } else { 1 };
         self.records_waited = if is_late {
@@ -209,7 +215,7 @@ impl Round {
     }
 
     /// The next sink has committed.
-    pub(crate) fn committed(&mut self) {
+    pub fn committed(&mut self) {
         self.sink = self.sink.saturating_add(1);
         self.end_if_committed();
     }

@@ -2,33 +2,37 @@
 
 /// A set of numbers below 256, whose greatest is found in constant time.
 #[derive(Clone, Copy)]
-pub(crate) struct RankSet {
+pub struct RankSet {
     words: [u64; 4],
 }
 
 impl RankSet {
-    pub(crate) fn new() -> RankSet {
+    /// No number.
+    pub fn new() -> RankSet {
         RankSet { words: [0; 4] }
     }
 
-    pub(crate) fn insert(&mut self, rank: u32) {
+    /// The number is in the set, if it is below 256.
+    pub fn insert(&mut self, rank: u32) {
         if let Some(word) = self.words.get_mut((rank / 64) as usize) {
             *word |= bit(rank);
         }
     }
 
-    pub(crate) fn remove(&mut self, rank: u32) {
+    /// The number is not in the set.
+    pub fn remove(&mut self, rank: u32) {
         if let Some(word) = self.words.get_mut((rank / 64) as usize) {
             *word &= !bit(rank);
         }
     }
 
-    pub(crate) fn clear(&mut self) {
+    /// No number is in the set.
+    pub fn clear(&mut self) {
         self.words = [0; 4];
     }
 
     /// The greatest, if there is one.
-    pub(crate) fn greatest(&self) -> Option<u32> {
+    pub fn greatest(&self) -> Option<u32> {
         let [first, second, third, fourth] = self.words;
         greatest_in(fourth, 192)
             .or(greatest_in(third, 128))

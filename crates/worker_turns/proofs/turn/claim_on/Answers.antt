@@ -1,7 +1,7 @@
 use Rattle.std.proofs.Common.{ap}
 use Rattle.dataflow_core.proofs.Preserving.{of_none, of_both}
 use Rattle.dataflow_core.specs.CoreState.{CoreState}
-use Rattle.thread_runner.proofs.station.claim_on.Goals as goal
+use Rattle.worker_turns.proofs.turn.claim_on.Goals as goal
 
 pub returns-in-Ok-clause-step : goal.returns-in-Ok-clause-step
 returns-in-Ok-clause-step g c =

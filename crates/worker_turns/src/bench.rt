@@ -18,7 +18,7 @@ pub(crate) struct Spelling<O: Operator> {
 /// while the lock is held: its job, what was done of it, a copy that it spells, room for the next
 /// claim, and what results have left.
 #[derive(Drop)]
-pub(crate) struct Workbench<O: Operator> {
+pub struct Workbench<O: Operator> {
     pub(crate) alloc: Global,
     /// The input of the job's task, or of the one whose job was done last.
     place: Place,
@@ -32,20 +32,24 @@ pub(crate) struct Workbench<O: Operator> {
     /// A copy that was spelled, and whose bytes are left to its task.
     copy: Option<HandedOut>,
     pub(crate) room: Room<O>,
-    pub(crate) leavings: Leavings<O>,
+    /// What results have left, to be let go with no lock held.
+    pub leavings: Leavings<O>,
 }
 
 /// What was done of a job, with the work on what comes behind it.
 #[derive(Drop)]
-pub(crate) struct DoneBatch<O: Operator> {
-    pub(crate) place: Place,
-    pub(crate) done: Done<O>,
-    pub(crate) ahead: Vec<Worked<O>>,
+pub struct DoneBatch<O: Operator> {
+    /// The input of the job's task.
+    pub place: Place,
+    /// What was done of the job.
+    pub done: Done<O>,
+    /// What was made of the work on the records behind the job's own.
+    pub ahead: Vec<Worked<O>>,
 }
 
 impl<O: Operator> Workbench<O> {
     /// Nothing. It takes no memory.
-    pub(crate) fn new(alloc: Global) -> Workbench<O> {
+    pub fn new(alloc: Global) -> Workbench<O> {
         Workbench {
             alloc,
             place: Place { task: 0, input: 0 },
@@ -77,20 +81,20 @@ impl<O: Operator> Workbench<O> {
     }
 
     /// The attempt and the serial of the job, if there is one.
-    pub(crate) fn ticket(&self) -> Option<(u64, u64)> {
+    pub fn ticket(&self) -> Option<(u64, u64)> {
         let job = self.job.as_ref()?;
         Some((job.attempt(), job.serial()))
     }
 
     /// The job is not done.
-    pub(crate) fn drop_job(&mut self) {
+    pub fn drop_job(&mut self) {
         self.job = None;
         self.ahead.clear();
     }
 
     /// Does the job, if there is one. Where memory is refused, what is left of the work behind it
     /// is not done, and its records stay.
-    pub(crate) fn run(&mut self) {
+    pub fn run(&mut self) {
         let Some(job) = self.job.take() else {
             return;
         };
@@ -111,7 +115,7 @@ impl<O: Operator> Workbench<O> {
     }
 
     /// Spells the copy that was handed out, if there is one.
-    pub(crate) fn spell(&mut self) {
+    pub fn spell(&mut self) {
         if let Some(Spelling { copy, work }) = self.spelling.take() {
             work.run(self.alloc);
             self.copy = Some(copy);
@@ -119,7 +123,7 @@ impl<O: Operator> Workbench<O> {
     }
 
     /// What was done of a job, if there is something.
-    pub(crate) fn take_done(&mut self) -> Option<DoneBatch<O>> {
+    pub fn take_done(&mut self) -> Option<DoneBatch<O>> {
         let done = self.done.take()?;
         Some(DoneBatch {
             place: self.place,
@@ -129,13 +133,13 @@ impl<O: Operator> Workbench<O> {
     }
 
     /// The copy that was spelled, if there is one.
-    pub(crate) fn take_copy(&mut self) -> Option<HandedOut> {
+    pub fn take_copy(&mut self) -> Option<HandedOut> {
         self.copy.take()
     }
 
     /// What is done with no lock held before it is asked for: what results have left is let go, and
     /// room is taken for a claim of so many records.
-    pub(crate) fn tidy(&mut self, records: u32) {
+    pub fn tidy(&mut self, records: u32) {
         self.leavings.let_go();
         self.room.make(records);
     }

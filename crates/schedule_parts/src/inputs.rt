@@ -17,7 +17,7 @@ const FULL: u32 = 4;
 
 /// A task's inputs that may have something, and those that wait for the barriers of others.
 #[derive(Drop)]
-pub(crate) struct Inputs {
+pub struct Inputs {
     /// In turn, each at most once.
     ready: VecDeque<u32>,
     /// Each at most once.
@@ -32,7 +32,7 @@ pub(crate) struct Inputs {
 
 impl Inputs {
     /// So many inputs, of which none has anything.
-    pub(crate) fn new(alloc: Global, count: usize) -> Result<Inputs, AllocError> {
+    pub fn new(alloc: Global, count: usize) -> Result<Inputs, AllocError> {
         let mut listed = Vec::new(alloc);
         listed.resize(count, false)?;
         let mut batches = Vec::new(alloc);
@@ -47,21 +47,22 @@ impl Inputs {
     }
 
     /// The input whose turn it is.
-    pub(crate) fn first(&self) -> Option<u32> {
+    pub fn first(&self) -> Option<u32> {
         self.ready.front().copied()
     }
 
-    pub(crate) fn is_empty(&self) -> bool {
+    /// Whether none may have something.
+    pub fn is_empty(&self) -> bool {
         self.ready.is_empty()
     }
 
     /// Whether this input alone may have something.
-    pub(crate) fn is_only(&self, input: u32) -> bool {
+    pub fn is_only(&self, input: u32) -> bool {
         self.ready.len() == 1 && self.first() == Some(input)
     }
 
     /// The input may have something.
-    pub(crate) fn mark(&mut self, input: u32) {
+    pub fn mark(&mut self, input: u32) {
         let Some(listed) = self.listed.get_mut(input as usize) else {
             return;
         };
@@ -71,7 +72,7 @@ impl Inputs {
     }
 
     /// The input's sender may have sent a batch.
-    pub(crate) fn fill(&mut self, input: u32) {
+    pub fn fill(&mut self, input: u32) {
         self.mark(input);
         let Some(batches) = self.batches.get_mut(input as usize) else {
             return;
@@ -83,7 +84,7 @@ impl Inputs {
     }
 
     /// Whether an input is full.
-    pub(crate) fn is_full(&self) -> bool {
+    pub fn is_full(&self) -> bool {
         self.full > 0
     }
 
@@ -99,7 +100,7 @@ impl Inputs {
     }
 
     /// Every input may have something, and none is full.
-    pub(crate) fn mark_all(&mut self) {
+    pub fn mark_all(&mut self) {
         self.unblock();
         let count = u32::try_from(self.listed.len()).unwrap_or(u32::MAX);
         for input in 0..count {
@@ -109,7 +110,7 @@ impl Inputs {
     }
 
     /// The first input comes last.
-    pub(crate) fn turn(&mut self) {
+    pub fn turn(&mut self) {
         if self.ready.len() < 2 {
             return;
         }
@@ -119,14 +120,14 @@ impl Inputs {
     }
 
     /// The first input has nothing.
-    pub(crate) fn drop_first(&mut self) {
+    pub fn drop_first(&mut self) {
         if let Some(input) = self.take_first() {
             self.empty(input);
         }
     }
 
     /// The first input waits for the barriers of others.
-    pub(crate) fn block_first(&mut self) {
+    pub fn block_first(&mut self) {
         let Some(input) = self.take_first() else {
             return;
         };
@@ -136,7 +137,7 @@ impl Inputs {
     }
 
     /// The barriers that inputs have waited for have come.
-    pub(crate) fn unblock(&mut self) {
+    pub fn unblock(&mut self) {
         for _ in 0..self.blocked.len() {
             let Some(input) = self.blocked.pop_front() else {
                 return;

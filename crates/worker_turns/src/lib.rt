@@ -1,0 +1,11 @@
+//! What a worker does: one turn on a core, and the work at its bench. The turn is chosen by the
+//! `Turns` of a run (`run_schedule`), and its step is made on the core; a job that is claimed,
+//! and a copy that is handed out, lie at the worker's [`Workbench`], to be done with no lock held.
+//! Proved: a turn makes steps of the core alone, and one claim at most, whatever is chosen.
+#![tactic(auto)]
+
+mod bench;
+mod turn;
+
+pub use bench::{DoneBatch, Workbench};
+pub use turn::{Next, claim_on, take_turn};
