@@ -190,11 +190,17 @@ impl Schedule {
     pub(crate) fn reads(&self) -> u32
         ensures { 1 ≤ result }
     {
-        if self.round.next().is_some() && !self.round.is_late() {
+        let has_time = self.round.next().is_some() && !self.round.is_late();
+        if has_time && !self.awaits_records() {
             1
         } else {
             MOST_READS
         }
+    }
+
+    /// Whether the barriers of the checkpoint wait for records.
+    fn awaits_records(&self) -> bool {
+        self.round.awaits_records(self.finished)
     }
 
     /// How many of so many workers can be of use: a task works one claim at a time, so it is as
@@ -229,11 +235,11 @@ impl Schedule {
         }
     }
 
-    /// The step for what the checkpoint needs. Where it would be late, its barriers wait for
-    /// records, and where a part takes many steps, steps of records come between two of them, if
-    /// they are to be had.
+    /// The step for what the checkpoint needs. Its barriers wait for as many records as the keys of
+    /// the last one ask for, and where a part takes many steps, steps of records come between two
+    /// of them, if they are to be had.
     fn next_need(&mut self, need: Need, worker: u32) -> Step {
-        let awaits_records = self.round.awaits_records(self.finished);
+        let awaits_records = self.awaits_records();
         if awaits_records || self.round.gives_way() {
             if let Some(step) = self.record_step(worker) {
                 return step;
@@ -662,7 +668,7 @@ impl Schedule {
         if self.round.next().is_none() {
             return !self.is_due();
         }
-        self.round.awaits_records(self.finished) || self.round.gives_way()
+        self.awaits_records() || self.round.gives_way()
     }
 
     /// A task that goes on holds a claim of so many records of its only input. That is left out

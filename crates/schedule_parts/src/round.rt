@@ -34,9 +34,9 @@ const PIECES_AT_ONCE: u64 = 64;
 /// A copy is late where it has a piece or more for so many records between two checkpoints.
 const RECORDS_A_PIECE: u64 = 12;
 
-/// The barriers of a checkpoint that would be late wait for so many records for each piece of the
-/// last one that was written elsewhere: as many as a piece has keys.
-const RECORDS_WAITED_A_PIECE: u64 = 256;
+/// Between two checkpoints so many records are worked, at least, for each piece of the former that
+/// was written elsewhere: two for each of its keys.
+const RECORDS_FOR_A_PIECE: u64 = 512;
 
 /// The checkpoint that is made.
 #[derive(Drop)]
@@ -54,8 +54,9 @@ pub struct Round {
     pieces: u64,
     /// How many of these were written elsewhere.
     pieces_elsewhere: u64,
-    /// The first barrier waits until so many records are worked after the trigger. No copy is there
-    /// meanwhile, so that waiting costs nothing.
+    /// The first barrier waits until so many records are worked after the trigger, so that writing
+    /// copies takes a small share of what records take. No copy is there meanwhile, so that waiting
+    /// costs nothing.
     records_waited: u64,
     /// How many parts are in the store.
     persisted: u32,
@@ -204,11 +205,7 @@ impl Round {
     pub fn completed(&mut self, every: u64) {
         let is_late = every > 0 && self.pieces.saturating_mul(RECORDS_A_PIECE) >= every;
         self.steps = if is_late { MOST_STEPS } else { 1 };
-        self.records_waited = if is_late {
-            self.pieces_elsewhere.saturating_mul(RECORDS_WAITED_A_PIECE)
-        } else {
-            0
-        };
+        self.records_waited = self.pieces_elsewhere.saturating_mul(RECORDS_FOR_A_PIECE);
         self.stage = Stage::Complete;
         self.sink = 0;
         self.end_if_committed();
