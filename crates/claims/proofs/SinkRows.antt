@@ -49,7 +49,7 @@ no_fault fault e = cc
 module _ {R K S O : Type 0} (lang : Language R K S O) (graph : Expanded) (operators : List O) (task input channel : ℕ) (h k : Held R K S) (old new : Ledger) where
   -- what a sink takes is a record that it puts out
   puts_out : (m : Made O K S R) → SinksInto graph task input h channel → EndsAccept lang graph operators task input h k old new m (Ok tt) → PutsOut task input h k channel old new lang.spelling
-  puts_out (made.Operator operand outcomes) at e = absurd (no_operator e.due.number at.subtask (sym e.due.is_operator ∙ at.is_sink))
+  puts_out (made.Operator solved) at e = absurd (no_operator e.due.number at.subtask (sym e.due.is_operator ∙ at.is_sink))
   puts_out (made.Sink row bytes) at e =
       subst (λ (c : Option ℕ). WorksAs graph task input h k old new lang operators (Ok tt) (Some (role.Sink at.subtask)) c) at.leads
       (subst (λ (r : Option Role). WorksAs graph task input h k old new lang operators (Ok tt) r (input_at graph task input)) at.is_sink e.1)

@@ -26,13 +26,13 @@ module _ {K S : Type 0} where
 module _ {R K S O : Type 0} where
   -- the work that a result was made of
   abbrev pub given_of : Made O K S R → Given O K S R
-  given_of (made.Operator operand outcomes) = given.Operator operand
+  given_of (made.Operator solved) = given.Operator solved.operand
   given_of (made.Sink row bytes) = given.Sink row
   given_of (made.Refused work) = work
 
   -- the result is none: memory was refused
   abbrev pub IsRefused : Made O K S R → Type 0
-  IsRefused (made.Operator operand outcomes) = ⊥
+  IsRefused (made.Operator solved) = ⊥
   IsRefused (made.Sink row bytes) = ⊥
   IsRefused (made.Refused work) = Unit {0}
 
@@ -78,6 +78,6 @@ module _ {R K S O : Type 0} where
 
   -- what was made is what the work means: an operator's outcomes, or the spelling of a sink's record
   abbrev pub IsMade : (rules : AllRules R K S O) → (R → List ℕ) → Made O K S R → Type 0
-  IsMade rules spelling (made.Operator operand outcomes) = IsOperand rules operand × IsOutcome rules.lang.meaning rules.lang.cmp operand outcomes
+  IsMade rules spelling (made.Operator solved) = IsOperand rules solved.operand × IsOutcome rules.lang.meaning rules.lang.cmp solved.operand solved.outcomes
   IsMade rules spelling (made.Sink row bytes) = bytes.items ≡ spelling row
   IsMade rules spelling (made.Refused work) = IsGiven rules work

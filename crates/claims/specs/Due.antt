@@ -136,6 +136,6 @@ module _ {R K S O : Type 0} (lang : Language R K S O) (graph : Expanded) (operat
     EndsRefused work other = ⊥
 
     abbrev pub EndsAccept : Made O K S R → Result Unit CoreFault → Type 0
-    EndsAccept (made.Operator operand outcomes) result = EndsTaking (given.Operator operand) result
+    EndsAccept (made.Operator solved) result = EndsTaking (given.Operator solved.operand) result
     EndsAccept (made.Sink row bytes) result = EndsTaking (given.Sink row) result
     EndsAccept (made.Refused work) result = EndsRefused work result

@@ -45,7 +45,7 @@ fn has_uncompared<O: Operator>(
 }
 
 /// An operator's records are taken, which are due where the task has the states that the work was
-/// given, with what it made of them. The states that the task had are kept, to be let go later.
+/// given, with what it made of them. The states that the task had are left in their place.
 fn operate<O: Operator>(
     attempt: &mut Attempt<O>,
     graph: &Graph,
@@ -53,15 +53,14 @@ fn operate<O: Operator>(
     input: u32,
     channel: u32,
     operand: &Operand<O, O::Key, O::State, O::Record>,
-    mut outcomes: Outcomes<O::Key, O::State, O::Record>,
-    leavings: &mut Leavings<O>,
+    outcomes: &mut Outcomes<O::Key, O::State, O::Record>,
 ) -> Result<(), SetFault>
     ghost turns: { List (Turn O.Record O.Key O.State) }
     requires shape { (operators : List O) × (entries : List (O.Key × O.State))
         × Shape ⟦<O as Rules>⟧.all graph.now operators attempt.old
         × IsDueOn graph.now operators task input attempt.old channel entries operand.now }
     requires operand { IsOperand ⟦<O as Rules>⟧.all operand.now }
-    requires outcomes { IsOutcome O.meaning O.Key.cmp operand.now outcomes }
+    requires outcomes { IsOutcome O.meaning O.Key.cmp operand.now outcomes.old }
     requires turns { turns ≡ turns_given O.meaning O.Key.cmp operand.now }
     ensures ok { OnOk result (OperatesEach O.meaning O.Key.cmp graph.now task input channel turns
         attempt.old attempt.new) }
@@ -78,7 +77,7 @@ fn operate<O: Operator>(
         return Err(SetFault::Changed);
     }
     let count = operand.rows.len();
-    let end = attempt.operate_some(
+    attempt.operate_some(
         graph,
         task,
         input,
@@ -87,9 +86,7 @@ fn operate<O: Operator>(
         &mut outcomes.states,
         expected,
         &mut outcomes.sent,
-    );
-    leavings.keep_outcomes(outcomes);
-    end
+    )
 }
 
 /// An operator's outcomes are taken. Its states are compared as they are kept, or where memory is
@@ -102,13 +99,12 @@ fn accept_outcomes<O: Operator>(
     task: u32,
     input: u32,
     operand: &Operand<O, O::Key, O::State, O::Record>,
-    outcomes: Outcomes<O::Key, O::State, O::Record>,
-    leavings: &mut Leavings<O>,
+    outcomes: &mut Outcomes<O::Key, O::State, O::Record>,
 ) -> Result<(), CoreFault>
     requires serves { (ledger : Ledger) × Serves ⟦<O as Rules>⟧.all
         graph.now operators.now ledger attempt.old }
     requires operand { IsOperand ⟦<O as Rules>⟧.all operand.now }
-    requires outcomes { IsOutcome O.meaning O.Key.cmp operand.now outcomes }
+    requires outcomes { IsOutcome O.meaning O.Key.cmp operand.now outcomes.old }
     ensures told { result ≢ Err CoreFault.Device }
     ensures ends { (ledger : Ledger) → EndsTaking ⟦<O as Rules>⟧.lang graph.now operators.now task
         input attempt.old attempt.new ledger ledger (Given.Operator operand.now) result }
@@ -116,9 +112,7 @@ fn accept_outcomes<O: Operator>(
     let Some(channel) = records_channel(attempt, graph, operators, task, input, operand) else {
         return Err(CoreFault::WrongResult);
     };
-    match operate(
-        attempt, graph, task, input, channel, operand, outcomes, leavings,
-    ) {
+    match operate(attempt, graph, task, input, channel, operand, outcomes) {
         Ok(()) => Ok(()),
         Err(SetFault::Changed) => Err(CoreFault::WrongResult),
         Err(SetFault::Memory) => {
@@ -259,12 +253,18 @@ pub fn accept<O: Operator, X: Transactions>(
         → X.fault_count transactions.new ≡ X.fault_count transactions.old }
 {
     match worked.made {
-        Made::Operator(load, outcomes) => {
-            let operand = load.get();
+        Made::Operator(mut solved) => {
+            let sheet = &mut *solved.sheet;
             let end = accept_outcomes(
-                attempt, graph, operators, task, input, operand, outcomes, leavings,
+                attempt,
+                graph,
+                operators,
+                task,
+                input,
+                &sheet.operand,
+                &mut sheet.outcomes,
             );
-            leavings.keep(load);
+            leavings.keep(solved);
             end
         }
         Made::Sink(row, bytes) => accept_row(

@@ -184,7 +184,7 @@ fn worked_operand<O: Operator>(
     let own = settled(alloc, load);
     match outcomes_of(alloc, own.get()) {
         Ok(outcomes) => Worked {
-            made: Made::Operator(own, outcomes),
+            made: Made::Operator(own.solved(outcomes)),
         },
         Err(_) => Worked {
             made: Made::Refused(Given::Operator(own)),
@@ -264,7 +264,7 @@ impl<O: Operator> Worked<O> {
         ensures { result ≡ records_of (given_of self.now) }
     {
         match &self.made {
-            Made::Operator(load, _) => load.get().rows.len(),
+            Made::Operator(solved) => solved.operand().rows.len(),
             Made::Sink(_, _) => 1,
             Made::Refused(given) => count_of(given),
         }

@@ -18,10 +18,26 @@ pub struct Operand<O, K: Ord, S, R> {
     pub rows: Vec<R>,
 }
 
-/// An operator's work behind an owner: it is handed on as one word. Contracts see the work.
+/// What an operator makes of its records, one after another: the last state of each key, by rising
+/// keys, and all records that are sent, each with its port.
+#[derive(Drop)]
+pub struct Outcomes<K, S, R> {
+    pub states: Vec<(K, S)>,
+    pub sent: Vec<(u32, R)>,
+}
+
+/// An operator's work, and what is made of it.
+#[derive(Drop)]
+pub struct Sheet<O, K: Ord, S, R> {
+    pub operand: Operand<O, K, S, R>,
+    pub outcomes: Outcomes<K, S, R>,
+}
+
+/// An operator's work behind an owner, with a place for what will be made of it: it is handed on as
+/// one word. Contracts see the work.
 #[derive(Drop)]
 pub struct Load<O, K: Ord, S, R> {
-    operand: Box<Operand<O, K, S, R>>,
+    sheet: Box<Sheet<O, K, S, R>>,
 }
 
 impl<O, K: Ord, S, R> Model for Load<O, K, S, R> {
@@ -29,15 +45,19 @@ impl<O, K: Ord, S, R> Model for Load<O, K, S, R> {
 
     ghost Value = { Operand O K S R };
 
-    ghost view = { λ l. l.operand.value };
+    ghost view = { λ l. l.sheet.value.operand };
 }
 
 impl<O: Drop, K: Ord + Drop, S: Drop, R: Drop> Load<O, K, S, R> {
     pub(crate) fn new(alloc: Global, operand: Operand<O, K, S, R>) -> Result<Self, NoMemory>
         ensures { IfOk result (λ load. load ≡ operand) }
     {
-        let operand = Box::new(alloc, operand)?;
-        Ok(Load { operand })
+        let outcomes = Outcomes {
+            states: Vec::new(alloc),
+            sent: Vec::new(alloc),
+        };
+        let sheet = Box::new(alloc, Sheet { operand, outcomes })?;
+        Ok(Load { sheet })
     }
 }
 
@@ -45,7 +65,7 @@ impl<O, K: Ord, S, R> Load<O, K, S, R> {
     pub(crate) fn get(&self) -> &Operand<O, K, S, R>
         ensures { result.now ≡ self.now }
     {
-        &self.operand
+        &self.sheet.operand
     }
 }
 
@@ -64,18 +84,45 @@ impl<O, K: Codec + Ord, S: Codec, R> Load<O, K, S, R> {
     pub(crate) fn settled(mut self, alloc: Global) -> Self
         ensures { OrderIsExact K.Ord.cmp → result ≡ self }
     {
-        let operand = &mut *self.operand;
-        settle(alloc, &mut operand.states);
+        let sheet = &mut *self.sheet;
+        settle(alloc, &mut sheet.operand.states);
         self
     }
 }
 
-/// What an operator makes of its records, one after another: the last state of each key, by rising
-/// keys, and all records that are sent, each with its port.
+/// An operator's work with what was made of it, behind the same owner. Contracts see both.
 #[derive(Drop)]
-pub struct Outcomes<K, S, R> {
-    pub states: Vec<(K, S)>,
-    pub sent: Vec<(u32, R)>,
+pub struct Solved<O, K: Ord, S, R> {
+    pub(crate) sheet: Box<Sheet<O, K, S, R>>,
+}
+
+impl<O, K: Ord, S, R> Model for Solved<O, K, S, R> {
+    ghost use Rattle.claims.specs.declared.parts.Sheet.{Sheet};
+
+    ghost Value = { Sheet O K S R };
+
+    ghost view = { λ s. s.sheet.value };
+}
+
+impl<O: Drop, K: Ord + Drop, S: Drop, R: Drop> Load<O, K, S, R> {
+    /// The work with these outcomes, which are put in their place.
+    pub(crate) fn solved(mut self, outcomes: Outcomes<K, S, R>) -> Solved<O, K, S, R>
+        ensures work { result.operand ≡ self }
+        ensures made { result.outcomes ≡ outcomes }
+    {
+        let sheet = &mut *self.sheet;
+        sheet.outcomes = outcomes;
+        Solved { sheet: self.sheet }
+    }
+}
+
+impl<O, K: Ord, S, R> Solved<O, K, S, R> {
+    /// The work.
+    pub(crate) fn operand(&self) -> &Operand<O, K, S, R>
+        ensures { result.now ≡ self.now.operand }
+    {
+        &self.sheet.operand
+    }
 }
 
 /// A task's work: an operator's, or the record that a sink puts out.
@@ -89,7 +136,7 @@ pub enum Given<O, K: Ord, S, R> {
 /// puts out, or nothing, since memory was refused.
 #[derive(Drop)]
 pub enum Made<O, K: Ord, S, R> {
-    Operator(Load<O, K, S, R>, Outcomes<K, S, R>),
+    Operator(Solved<O, K, S, R>),
     Sink(R, Vec<u8>),
     Refused(Given<O, K, S, R>),
 }

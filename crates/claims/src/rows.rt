@@ -169,7 +169,7 @@ fn take_made<O: Operator, X: Transactions>(
             &row,
             bytes,
         ),
-        Made::Operator(_, _) => Err(CoreFault::WrongResult),
+        Made::Operator(_) => Err(CoreFault::WrongResult),
         Made::Refused(given) => Err(refused_at(attempt, graph, task, input, place.0, &given)),
     }
 }

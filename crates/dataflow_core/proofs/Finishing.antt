@@ -22,7 +22,7 @@ use Rattle.dataflow_core.specs.declared.held.Claim.{Claim}
 module _ {R K S O : Type 0} (lang : Language R K S O) where
   -- work that is taken is due, from its input's channel
   leads : (graph : Expanded) (operators : List O) (task input : ℕ) (h k : Held R K S) (old new : Ledger) (made : Made O K S R) (u : Unit) → EndsAccept lang graph operators task input h k old new made (Ok u) → (channel : ℕ) × (input_at graph task input ≡ Some channel)
-  leads graph operators task input h k old new (made.Operator operand outcomes) u e = (e.channel, e.due.leads)
+  leads graph operators task input h k old new (made.Operator solved) u e = (e.channel, e.due.leads)
   leads graph operators task input h k old new (made.Sink row bytes) u e = (e.0.0, e.0.1.leads)
   leads graph operators task input h k old new (made.Refused work) u e = absurd e
 

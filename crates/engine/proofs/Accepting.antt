@@ -48,11 +48,11 @@ module _ {R K S O : Type 0} (lang : Language R K S O) (graph : Expanded) (operat
   Either m result = Works m result ⊎ (PutsOne m result ⊎ Refuses h k old new result)
 
   either : (m : Made O K S R) (result : Result Unit CoreFault) → EndsAccept lang graph operators task input h k old new m result → Either m result
-  either (made.Operator operand outcomes) (Ok u) e = inl (operand, refl, refl, e)
-  either (made.Operator operand outcomes) (Err WrongResult) e = inr (inr (inl refl, e.1, e.2))
-  either (made.Operator operand outcomes) (Err Memory) e = inr (inr (inr refl, e.1, e.2))
-  either (made.Operator operand outcomes) (Err Device) e = absurd e
-  either (made.Operator operand outcomes) (Err other) e = absurd e
+  either (made.Operator solved) (Ok u) e = inl (solved.operand, refl, refl, e)
+  either (made.Operator solved) (Err WrongResult) e = inr (inr (inl refl, e.1, e.2))
+  either (made.Operator solved) (Err Memory) e = inr (inr (inr refl, e.1, e.2))
+  either (made.Operator solved) (Err Device) e = absurd e
+  either (made.Operator solved) (Err other) e = absurd e
   either (made.Sink row bytes) (Ok u) e = inr (inl (refl, e.1))
   either (made.Sink row bytes) (Err Device) e = inr (inl (refl, e.1))
   either (made.Sink row bytes) (Err WrongResult) e = inr (inr (inl refl, e.1, e.2))

@@ -27,15 +27,15 @@ module _ {R K S O : Type 0} (lang : Language R K S O) (graph : Expanded) (operat
 
   module _ (k : Held R K S) (old new : Ledger) (u : Unit {0}) where
     pub one_works : (m : Made O K S R) → records_of (given_of m) ≡ 1 → EndsAccept lang graph operators task input h k old new m (Ok u) → EndsWork lang graph operators task input h k old new (Ok u)
-    one_works (made.Operator operand outcomes) one e =
+    one_works (made.Operator solved) one e =
         subst (λ (r : Option Role). WorksAs graph task input h k old new lang operators (Ok u) r (input_at graph task input)) (sym e.due.is_operator)
         (subst (λ (c : Option ℕ). WorksAs graph task input h k old new lang operators (Ok u) (Some (role.Operator e.due.number)) c) (sym e.due.leads)
-        (operand.operator, e.due.same_operator, operates_once lang operand.operator graph task input e.channel h k operand.rows.items one e.works, e.stays))
+        (solved.operand.operator, e.due.same_operator, operates_once lang solved.operand.operator graph task input e.channel h k solved.operand.rows.items one e.works, e.stays))
     one_works (made.Sink row bytes) one e = e.1
     one_works (made.Refused work) one e = absurd e
 
     -- work that is taken is due
     pub taken_due : (m : Made O K S R) → EndsAccept lang graph operators task input h k old new m (Ok u) → IsDue lang graph operators task input h (given_of m)
-    taken_due (made.Operator operand outcomes) e = (e.channel, e.due)
+    taken_due (made.Operator solved) e = (e.channel, e.due)
     taken_due (made.Sink row bytes) e = e.0
     taken_due (made.Refused work) e = absurd e

@@ -138,10 +138,10 @@ module _ {R K S O : Type 0} (rules : AllRules R K S O) (old new : State O R K S)
 
     -- a result of work that is due is refused for want of memory, or where a device failed
     due_only : (h k : Held R K S) (w : Made O K S R) (f : CoreFault) → IsDue rules.lang old.graph old.operators task input h (given_of w) → EndsAccept rules.lang old.graph old.operators task input h k old.ledger new.ledger w (Err f) → (f ≡ Memory) ⊎ (f ≡ Device)
-    due_only h k (made.Operator operand outcome) WrongResult due e = absurd (e.0 due)
-    due_only h k (made.Operator operand outcome) Memory due e = inl refl
-    due_only h k (made.Operator operand outcome) Device due e = inr refl
-    due_only h k (made.Operator operand outcome) other due e = absurd e
+    due_only h k (made.Operator solved) WrongResult due e = absurd (e.0 due)
+    due_only h k (made.Operator solved) Memory due e = inl refl
+    due_only h k (made.Operator solved) Device due e = inr refl
+    due_only h k (made.Operator solved) other due e = absurd e
     due_only h k (made.Sink row bytes) WrongResult due e = absurd (e.0 due)
     due_only h k (made.Sink row bytes) Memory due e = inl refl
     due_only h k (made.Sink row bytes) Device due e = inr refl

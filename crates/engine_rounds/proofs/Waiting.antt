@@ -39,12 +39,12 @@ module _ {R K S O : Type 0} (lang : Language R K S O) (graph : Expanded) (operat
 
   -- what is taken is never refused so
   not_ready : (w : Made O K S R) → EndsAccept lang graph operators task input h k old new w (Err NotReady) → ⊥
-  not_ready (made.Operator operand outcome) e = e
+  not_ready (made.Operator solved) e = e
   not_ready (made.Sink row bytes) e = e
   not_ready (made.Refused work) e = e
 
   not_blocked : (w : Made O K S R) → EndsAccept lang graph operators task input h k old new w (Err ChannelBlocked) → ⊥
-  not_blocked (made.Operator operand outcome) e = e
+  not_blocked (made.Operator solved) e = e
   not_blocked (made.Sink row bytes) e = e
   not_blocked (made.Refused work) e = e
 

@@ -76,10 +76,10 @@ module _ {R K S : Type 0} (graph : Expanded) (task input channel n : ℕ) (h k :
 -- how what is due is refused where it is handed in
 module _ {R K S O : Type 0} (lang : Language R K S O) (graph : Expanded) (operators : List O) (task input : ℕ) (h k : Held R K S) (old new : Ledger) where
   pub accept_refused : (w : Made O K S R) (f : CoreFault) → IsDue lang graph operators task input h (given_of w) → EndsAccept lang graph operators task input h k old new w (Err f) → ((f ≡ Memory) × (k ≡ h)) ⊎ (f ≡ Device)
-  accept_refused (made.Operator operand outcome) WrongResult due e = absurd (e.0 due)
-  accept_refused (made.Operator operand outcome) Memory due e = inl (refl, e.1)
-  accept_refused (made.Operator operand outcome) Device due e = inr refl
-  accept_refused (made.Operator operand outcome) other due e = absurd e
+  accept_refused (made.Operator solved) WrongResult due e = absurd (e.0 due)
+  accept_refused (made.Operator solved) Memory due e = inl (refl, e.1)
+  accept_refused (made.Operator solved) Device due e = inr refl
+  accept_refused (made.Operator solved) other due e = absurd e
   accept_refused (made.Sink row bytes) WrongResult due e = absurd (e.0 due)
   accept_refused (made.Sink row bytes) Memory due e = inl (refl, e.1)
   accept_refused (made.Sink row bytes) Device due e = inr refl

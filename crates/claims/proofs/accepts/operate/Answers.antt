@@ -15,8 +15,8 @@ use Rattle.claims.proofs.LastKeys.{last_have_places}
 use Rattle.claims.proofs.Turns.{rows_of-turns, length-turns}
 use Rattle.claims.proofs.accepts.operate.Goals as goal
 
-pub operate_some-end-requires : goal.operate_some-end-requires
-operate_some-end-requires g c =
+pub operate_some-requires : goal.operate_some-requires
+operate_some-requires g c =
     let p = c.args.operand.now in
     let graph = c.args.graph.now in
     let attempt = c.args.attempt.now in
@@ -53,7 +53,7 @@ operate_some-end-requires g c =
                         (
                           made.rising,
                           (
-                            subst (λ ts. AreLastStates meaning.same_key ts c.args.outcomes.states.items) (sym is) made.last,
+                            subst (λ ts. AreLastStates meaning.same_key ts c.args.outcomes.now.states.items) (sym is) made.last,
                             made.sent ∙ sym (ap (λ (ts : List (Turn g.row.O-Record.Denot g.row.O-Key.Denot g.row.O-State.Denot)). sent_by ts) is),
                           ),
                         ),
@@ -77,17 +77,17 @@ returns-clause-same g c = λ entries held.
     let asked = c.requires.1.1.1.1 in
     let named = subst (λ (es : List (g.row.O-Key.Denot × g.row.O-State.Denot)). IfSome c.under_entries-expected.result (λ b. (length b.now ≡ length es) × (zip (keys_of es) b.now ≡ c.args.operand.now.states))) c.deref.ensures.value (c.under_entries-expected.ensures g.met.O.Operator.key_is_exact) in
     let none = (c.has_uncompared.ensures entries held).0 c.if-not-has_uncompared.false in
-    let told = told_where g.met.O.Key.Ord.total g.met.O.Operator.key_is_exact entries c.args.outcomes.states.items c.under_entries-expected.result c.args.operand.now.states asked.1.1.0.rising named none in
+    let told = told_where g.met.O.Key.Ord.total g.met.O.Operator.key_is_exact entries c.args.outcomes.now.states.items c.under_entries-expected.result c.args.operand.now.states asked.1.1.0.rising named none in
     let some : 0 < c.len-count.result = omega (arith, asked.1.0.some, c.len-count.ensures, c.args.operand.now.rows.ok.0) in
-    on_ok c.operate_some-end.result told.0 (c.operate_some-end.ensures.expected some entries held)
+    on_ok c.operate_some.result told.0 (c.operate_some.ensures.expected some entries held)
 
 pub returns-clause-changed : goal.returns-clause-changed
 returns-clause-changed g c = λ entries held is same.
     let asked = c.requires.1.1.1.1 in
     let named = subst (λ (es : List (g.row.O-Key.Denot × g.row.O-State.Denot)). IfSome c.under_entries-expected.result (λ b. (length b.now ≡ length es) × (zip (keys_of es) b.now ≡ c.args.operand.now.states))) c.deref.ensures.value (c.under_entries-expected.ensures g.met.O.Operator.key_is_exact) in
     let none = (c.has_uncompared.ensures entries held).0 c.if-not-has_uncompared.false in
-    let told = told_where g.met.O.Key.Ord.total g.met.O.Operator.key_is_exact entries c.args.outcomes.states.items c.under_entries-expected.result c.args.operand.now.states asked.1.1.0.rising named none in
-    c.operate_some-end.ensures.changed entries held is (told.1 same)
+    let told = told_where g.met.O.Key.Ord.total g.met.O.Operator.key_is_exact entries c.args.outcomes.now.states.items c.under_entries-expected.result c.args.operand.now.states asked.1.1.0.rising named none in
+    c.operate_some.ensures.changed entries held is (told.1 same)
 
 -- the keys of the last states are among those of the work
 pub under_entries-expected-requires : goal.under_entries-expected-requires
@@ -96,7 +96,7 @@ under_entries-expected-requires g c =
     let asked = c.requires.1.1.1.1 in
     let made = asked.1.1.0 in
     let meaning = g.O.Operator.meaning in
-    let places = last_have_places meaning g.met.O.Key.Ord.total g.met.O.Operator.key_is_exact g.met.O.Operator.same_key p.operator p.states p.rows.items c.args.outcomes.states.items asked.1.0.keyed made.last made.rising in
+    let places = last_have_places meaning g.met.O.Key.Ord.total g.met.O.Operator.key_is_exact g.met.O.Operator.same_key p.operator p.states p.rows.items c.args.outcomes.now.states.items asked.1.0.keyed made.last made.rising in
     record {
       rising = subst (λ (es : List (g.row.O-Key.Denot × g.row.O-State.Denot)). IsStrictlySortedBy g.O.Key.Ord.cmp (keys_of es)) (sym c.deref.ensures.value) made.rising;
       places = subst (λ (es : List (g.row.O-Key.Denot × g.row.O-State.Denot)). HavePlaces g.O.Key.Ord.cmp es p.states) (sym c.deref.ensures.value) places;
