@@ -23,7 +23,7 @@ use std::alloc::Global;
 use std::marker::Model;
 use std::sync::Wait;
 use std::sync::ledger::{Blank, Book, Ledger, Share};
-use worker_turns::{DoneBatch, Next, Workbench, claim_on, take_turn};
+use worker_turns::{Next, Workbench, claim_on, take_turn};
 
 /// So many turns are taken in one hold of the lock, at most.
 const TURNS_A_HOLD: u64 = 64;
@@ -294,19 +294,21 @@ impl<
         ensures bound { share.new.amount < 2 ^ 128 }
         ensures parts { share.new.parts ≡ share.old.parts }
     {
-        let Some(DoneBatch { place, done, ahead }) = bench.take_done() else {
+        let Some(done) = bench.take_done() else {
             self.audit(share);
             return (0, None);
         };
+        let place = bench.place();
         let records = done.records();
         if let Err(fault) = self.finish_with(share, done) {
+            let _ = bench.take_worked();
             self.finished(place.task, Err(fault), records);
             return (0, None);
         }
-        if ahead.is_empty() {
+        let Some(ahead) = bench.take_worked() else {
             let again = self.goes_on(place, records);
             return (records as u128, again);
-        }
+        };
         let (count, end) = self.accept_rows_with(share, place.task, place.input, ahead);
         let taken = records as u128 + count as u128;
         let all = u64::try_from(taken).unwrap_or(u64::MAX);

@@ -36,17 +36,6 @@ pub struct Workbench<O: Operator> {
     pub leavings: Leavings<O>,
 }
 
-/// What was done of a job, with the work on what comes behind it.
-#[derive(Drop)]
-pub struct DoneBatch<O: Operator> {
-    /// The input of the job's task.
-    pub place: Place,
-    /// What was done of the job.
-    pub done: Done<O>,
-    /// What was made of the work on the records behind the job's own.
-    pub ahead: Vec<Worked<O>>,
-}
-
 impl<O: Operator> Workbench<O> {
     /// Nothing. It takes no memory.
     pub fn new(alloc: Global) -> Workbench<O> {
@@ -122,14 +111,22 @@ impl<O: Operator> Workbench<O> {
         }
     }
 
+    /// The input of the job's task, or of the one whose job was done last.
+    pub fn place(&self) -> Place {
+        self.place
+    }
+
     /// What was done of a job, if there is something.
-    pub fn take_done(&mut self) -> Option<DoneBatch<O>> {
-        let done = self.done.take()?;
-        Some(DoneBatch {
-            place: self.place,
-            done,
-            ahead: replace(&mut self.worked, Vec::new(self.alloc)),
-        })
+    pub fn take_done(&mut self) -> Option<Done<O>> {
+        self.done.take()
+    }
+
+    /// What was made of the work on the records behind the job's own, if there is some.
+    pub fn take_worked(&mut self) -> Option<Vec<Worked<O>>> {
+        if self.worked.is_empty() {
+            return None;
+        }
+        Some(replace(&mut self.worked, Vec::new(self.alloc)))
     }
 
     /// The copy that was spelled, if there is one.

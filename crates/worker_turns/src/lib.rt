@@ -8,5 +8,5 @@
 mod bench;
 mod turn;
 
-pub use bench::{DoneBatch, Workbench};
+pub use bench::Workbench;
 pub use turn::{Next, claim_on, take_turn};
