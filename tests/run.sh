@@ -110,15 +110,16 @@ expect_example() {
   expect_run "$work/example" "examples/$1" job.json "${@:2}"
 }
 
-# expect_long_line LENGTH OUT|ERR TEXT: a line of so many bytes, all but a row's being spaces, and its end.
+# expect_long_line LENGTH OUT|ERR TEXT: a line of so many bytes, all but a row's being spaces, and its end, read by one, two and four workers.
 expect_long_line() {
+  local workers
   rm -rf "$work/long"
   mkdir "$work/long"
   printf '%b' "$3" > "$work/long/$2"
   [ "$2" = out ] || echo 1 > "$work/long/status"
   cp tests/runs/line_of_two_rows/job.json "$work/long/"
   python3 -c "print('{\"k\":\"a\",\"v\":1}'.ljust($1))" > "$work/long/0.jsonl"
-  expect_run "$work/long" "$work/long" job.json 0.jsonl
+  for workers in 1 2 4; do expect_run "$work/long" "$work/long" job.json 0.jsonl --workers $workers; done
 }
 
 # expect_batches WORD..: a count of 3,000 rows of three keys in one task, with these words, and claims of 1, 7 and 1,024 records.

@@ -1,10 +1,10 @@
 -- The rows of texts that stand one after the other.
-use Rattle.std.proofs.Common.{◌≡◌, ◌∙◌, ◌<◌, ℕ, zero, suc, Option, None, Some, IfSome, OnSome, Result, Ok, Err, OnOk, List, [], ◌∷◌, ◌++◌, All, length, refl, sym, ap, subst, arith, append_assoc, append-nil, ◌+◌, ◌-◌, get_or, length-append}
-use Rattle.std.proofs.lemmas.List.{get_or-append-add}
+use Rattle.std.proofs.Common.{◌≡◌, ◌∙◌, ◌<◌, ℕ, zero, suc, Option, None, Some, IfSome, OnSome, Result, Ok, Err, OnOk, List, [], ◌∷◌, ◌++◌, All, length, refl, sym, ap, subst, arith, append_assoc, append-nil, take, drop, take-append-drop, take_all, ◌≤◌, ◌+◌, ◌-◌, get_or, length-append}
+use Rattle.std.proofs.lemmas.List.{drop_all, get_or-append-add}
 use Rattle.std.proofs.lemmas.List.Elements.{All-nil, All-push, All-append}
 use Rattle.std.specs.Io.{IsEmptyOrEndsWith}
 use Rattle.std.specs.Io.BufRead.{take_through, drop_through}
-use Rattle.std.specs.Io.KnownBytes.{IsAtEnd, prepend_known}
+use Rattle.std.specs.Io.KnownBytes.{IsAtEnd, Keeps, prepend_known}
 use Rattle.abs_codec.specs.Spelling.{Fits}
 use Rattle.line_parts.specs.Lines.{items_of, BeginsWithLines}
 use Rattle.line_parts.proofs.Through.{take_front, drop_front, still_ends}
@@ -81,6 +81,19 @@ ends_append xs ys some ends more =
     let index : length (xs ++ ys) - 1 ≡ length xs + (length ys - 1) = omega (arith, length-append xs ys, some) in
     ap (λ k. get_or (xs ++ ys) k 0) index ∙ get_or-append-add xs ys (length ys - 1) 0 ∙ ends some
 
+-- a text at the front of what was read is put, and more is read
+pub front_put : (p count : ℕ) (a b : Option (List ℕ)) (text rest next : List ℕ) (old new : List (List Row)) → rest ≡ drop count text → IsEmptyOrEndsWith (take count text) 10 → Keeps (prepend_known rest a) (prepend_known next b) → PutsText p (take count text) old new
+    → PutsFront p (prepend_known text a) (prepend_known next b) old new
+front_put p count None b text rest next old new behind ends same puts = tt
+front_put p count (Some xs) None text rest next old new behind ends same puts = absurd same
+front_put p count (Some xs) (Some ys) text rest next old new behind ends same puts =
+    let front = take count text in (
+      front,
+      ap (λ l. l ++ xs) (sym (take-append-drop count text)) ∙ append_assoc front (drop count text) xs ∙ ap (λ l. front ++ l) (ap (λ l. l ++ xs) (sym behind) ∙ sym same),
+      puts,
+      λ some. ends,
+    )
+
 -- two texts, of which the second may be empty
 both_end : (xs ys zs : List ℕ) → (0 < length (ys ++ zs) → IsEmptyOrEndsWith xs 10) → (0 < length zs → IsEmptyOrEndsWith ys 10) → 0 < length zs → IsEmptyOrEndsWith (xs ++ ys) 10
 both_end xs [] zs first second some = subst (λ l. IsEmptyOrEndsWith l 10) (sym (append-nil xs)) (first some)
@@ -96,6 +109,21 @@ more_put p (Some xs) (Some ys) (Some zs) old mid new (front, is, text, ends) (ne
       is ∙ ap (λ l. front ++ l) same ∙ sym (append_assoc front next zs),
       joined p front next old mid new (λ some. behind_front (omega (arith, length-append next zs, some))) text more,
       both_end front next zs behind_front begins,
+    )
+
+-- all that was read is put, where no more can be
+pub last_put : (p : ℕ) (a b : Option (List ℕ)) (text now rest : List ℕ) (old mid new : List (List Row)) → OnSome a (IsAtEnd b) → PutsFront p (prepend_known text a) (prepend_known now b) old mid → (count : ℕ) → count ≡ length now → PutsText p (take count now) mid new
+    → rest ≡ drop count now → PutsFront p (prepend_known text a) (prepend_known rest b) old new
+last_put p None b text now rest old mid new end front count whole puts left = tt
+last_put p (Some xs) None text now rest old mid new end front count whole puts left = absurd front
+last_put p (Some xs) (Some ys) text now rest old mid new end front count whole puts left =
+    let within : length now ≤ count = omega (arith, whole) in
+    let none : rest ≡ [] = left ∙ drop_all count now within in
+    more_put p (Some (text ++ xs)) (Some (now ++ ys)) (Some (rest ++ ys)) old mid new front (
+      now,
+      ap (λ l. now ++ l) (sym (ap (λ l. l ++ ys) none)),
+      subst (λ l. PutsText p l mid new) (take_all count now within) puts,
+      λ some. absurd (omega (arith, some, ap length (ap (λ l. l ++ ys) none ∙ end))),
     )
 
 -- all is put where nothing is left

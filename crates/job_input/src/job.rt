@@ -66,7 +66,7 @@ fn numbered<'a, F: Drop>(
 
 /// Reads an input's rows, by so many threads.
 #[tactic(auto, using(crate::proofs::Putting::as_many))]
-fn read_input<'a, R: Threads + Sync, F: Read + Drop>(
+fn read_input<'a, R: Threads + Sync, F: Read + Drop + Send>(
     rt: &R,
     alloc: Global,
     pair: Numbered<'a, F>,
@@ -150,7 +150,7 @@ fn read_inputs<'a, R: Threads + Sync, F: Read + Drop + Send>(
 /// Reads a job and the rows of its inputs, one for each source task in task order, or answers the
 /// first fault: of the job, of the number of inputs, of the inputs in order. As many inputs as
 /// there are workers are read side by side, this thread included. Where there are fewer, each is
-/// read by its share of so many threads, and by three where that is two.
+/// read by its share of so many threads, and by four where that is two or three.
 pub fn judge<'a, R: Threads + Sync, J: Read + Drop, F: Read + Drop + Send>(
     rt: &R,
     alloc: Global,

@@ -1,6 +1,6 @@
 //! What is read of a file and not taken yet.
 
-ghost use Rattle.std.specs.Prelude.{◌≡◌, ◌≢◌, ◌+◌, ◌≤◌, ◌<◌, ◌^◌, ℕ, false, length, take, drop, slice_index, Ok, OnOk, OnSome};
+ghost use Rattle.std.specs.Prelude.{◌≡◌, ◌≢◌, ◌≤◌, ◌<◌, ℕ, false, length, take, drop, slice_index, Ok, OnOk, OnSome};
 ghost use Rattle.std.specs.Io.{IsEmptyOrEndsWith};
 ghost use Rattle.std.specs.Io.KnownBytes.{Keeps, IsAtEnd, prepend_known};
 
@@ -10,14 +10,13 @@ use std::io;
 use std::io::{BufRead, ErrorKind};
 use std::mem::swap;
 
-/// The bytes of a file that were read and not taken yet.
+/// The bytes of a file that were read and not taken yet, and what was taken last.
 #[derive(Drop)]
 pub struct LineBuffer {
-    /// The bytes, from the start of a line on.
+    /// The bytes that were not taken, from the start of a line on.
     pub text: Vec<u8>,
-    /// How many lines were taken.
-    pub lines: u64,
-    spare: Vec<u8>,
+    /// The bytes that were taken last.
+    pub taken: Vec<u8>,
 }
 
 /// Puts what the reader has ready last in the text. False: it is at its end.
@@ -43,36 +42,33 @@ fn append_ready<F: BufRead>(file: &mut F, text: &mut Vec<u8>) -> io::Result<bool
     Ok(count > 0)
 }
 
+/// Reads on into the text, once or more, until so many bytes are there. False: the file has no more.
+pub fn fill<F: BufRead>(file: &mut F, text: &mut Vec<u8>, least: usize) -> io::Result<bool>
+    ensures bytes { OnOk result (Keeps (prepend_known text.old.items (F.remaining file.old))
+        (prepend_known text.new.items (F.remaining file.new))) }
+    ensures end { result ≡ Ok false
+        → OnSome (F.remaining file.old) (IsAtEnd (F.remaining file.new)) }
+{
+    for _ in 0..u64::MAX {
+        if !append_ready(file, text)? {
+            return Ok(false);
+        }
+        if text.len() >= least {
+            return Ok(true);
+        }
+    }
+    Ok(true)
+}
+
 impl LineBuffer {
     /// A buffer with no bytes yet.
     pub fn new(alloc: Global) -> LineBuffer
         ensures text { length result.text.items ≡ 0 }
-        ensures lines { result.lines ≡ 0 }
     {
         LineBuffer {
             text: Vec::new(alloc),
-            lines: 0,
-            spare: Vec::new(alloc),
+            taken: Vec::new(alloc),
         }
-    }
-
-    /// Reads on until so many bytes are there. False: the file has no more.
-    pub fn fill<F: BufRead>(&mut self, file: &mut F, least: usize) -> io::Result<bool>
-        ensures bytes { OnOk result
-            (Keeps (prepend_known self.old.text.items (F.remaining file.old))
-            (prepend_known self.new.text.items (F.remaining file.new))) }
-        ensures end { result ≡ Ok false
-            → OnSome (F.remaining file.old) (IsAtEnd (F.remaining file.new)) }
-    {
-        for _ in 0..u64::MAX {
-            if self.text.len() >= least {
-                return Ok(true);
-            }
-            if !append_ready(file, &mut self.text)? {
-                return Ok(false);
-            }
-        }
-        Ok(true)
     }
 
     /// How many bytes the lines have that are there with their ends.
@@ -88,17 +84,16 @@ impl LineBuffer {
         }
     }
 
-    /// Takes so many bytes from the front, which are so many lines.
-    pub fn take_front(&mut self, count: usize, lines: u64) -> Result<(), AllocError>
+    /// Takes so many bytes from the front, in place of those that were taken before.
+    pub fn take_front(&mut self, count: usize) -> Result<(), AllocError>
         requires { count ≤ length self.old.text.items }
+        ensures taken { OnOk result (self.new.taken.items ≡ take count self.old.text.items) }
         ensures text { OnOk result (self.new.text.items ≡ drop count self.old.text.items) }
-        ensures lines { OnOk result (self.old.lines + lines < 2 ^ 64
-            → self.new.lines ≡ self.old.lines + lines) }
     {
-        self.spare.clear();
-        self.spare.extend_from_slice(&self.text[count..])?;
-        swap(&mut self.text, &mut self.spare);
-        self.lines = self.lines.saturating_add(lines);
+        self.taken.clear();
+        self.taken.extend_from_slice(&self.text[count..])?;
+        swap(&mut self.text, &mut self.taken);
+        self.taken.truncate(count);
         Ok(())
     }
 }

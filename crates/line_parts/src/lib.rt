@@ -11,7 +11,7 @@ mod part;
 mod reader;
 mod reading;
 
-pub use buffer::LineBuffer;
+pub use buffer::{LineBuffer, fill};
 pub use part::{Part, PartFault};
 pub use reader::LineReader;
 pub use reading::read_lines;

@@ -1,6 +1,6 @@
 //! What several threads read.
 
-ghost use Rattle.std.specs.Prelude.{◌≡◌, ◌+◌, ◌<◌, ◌≤◌, ◌++◌, is_none, length};
+ghost use Rattle.std.specs.Prelude.{◌≡◌, ◌<◌, ◌≤◌, ◌++◌, is_none, length};
 ghost use Rattle.std.specs.Io.{IsEmptyOrEndsWith};
 ghost use Rattle.std.specs.Thread.{IsSync};
 ghost use Rattle.line_parts.specs.Lines.{in_runs, ReadsLines};
@@ -39,20 +39,20 @@ pub fn read_lines<L: LineReader + Sync, R: Threads + Sync>(
     if threads < 2 || text.len() < LEAST {
         return read_part(alloc, reader, text);
     }
-    let few = threads / 2;
-    let (front, back) = cut(text, text.len() / threads * (threads - few));
+    let others = threads - 1;
+    let (front, back) = cut(text, text.len() / threads * others);
     let first = move || -> Part<L::Item, L::Fault>
-        requires { IsSync R.row × IsSync L.row × (2 ≤ threads) }
+        requires { IsSync R.row × IsSync L.row }
         ensures reads { ReadsLines (L.HasItem reader.entry.now) front.entry.now result.lines
             (in_runs result.runs.items) (is_none result.fault) }
         ensures bound { result.lines ≤ length front.entry.now }
-    { read_lines(rt, alloc, reader, front, threads - threads / 2) };
-    let second = move || -> Part<L::Item, L::Fault>
-        requires { IsSync R.row × IsSync L.row × (2 ≤ threads) }
+    { read_lines(rt, alloc, reader, front, others) };
+    let last = move || -> Part<L::Item, L::Fault>
         ensures reads { ReadsLines (L.HasItem reader.entry.now) back.entry.now result.lines
             (in_runs result.runs.items) (is_none result.fault) }
         ensures bound { result.lines ≤ length back.entry.now }
-    { read_lines(rt, alloc, reader, back, threads / 2) };
-    let (first, second) = join(rt, first, second);
-    first.and(second)
+    { read_part(alloc, reader, back) };
+    // Each thread but this one is begun by this one.
+    let (last, first) = join(rt, last, first);
+    first.and(last)
 }
