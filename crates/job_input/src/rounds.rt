@@ -277,7 +277,8 @@ fn put_whole_lines<R: Threads + Sync>(
 }
 
 /// Reads the rows of the lines that were taken as [`put_taken`] does, while another thread reads
-/// the next round of the file behind the text. Answers what came of both.
+/// the next round of the file behind the text. Answers what came of both. No thread is begun where
+/// nothing was taken.
 fn put_and_fill<F: BufRead + Send, R: Threads + Sync>(
     rt: &R,
     alloc: Global,
@@ -304,6 +305,11 @@ fn put_and_fill<F: BufRead + Send, R: Threads + Sync>(
     ensures end { result.0 ≡ Ok false
         → OnSome (F.remaining file.old) (IsAtEnd (F.remaining file.new)) }
 {
+    if taken.is_empty() {
+        let filled = next_round(file, text);
+        let put = put_taken(rt, alloc, log, partition, pending, taken, threads);
+        return (filled, put);
+    }
     let Pending { mut runs, next } = pending;
     let mut read_on = || -> Result<bool, LineFault>
         ensures bytes { OnOk result
