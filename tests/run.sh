@@ -134,6 +134,31 @@ JOB
   for batch in 1 7 1024; do expect_run "$work/batches" "$work/batches" job.json 0.jsonl "$@" --batch $batch; done
 }
 
+# expect_rounds: a count of 150,000 rows of three keys, three mebibytes whose last line has no end, by one worker and by several, who read such an input in
+# rounds; and the same with a line behind the 140,000th that is no row.
+expect_rounds() {
+  local workers
+  rm -rf "$work/rounds" "$work/refused"
+  mkdir "$work/rounds" "$work/refused"
+  python3 - "$work/rounds" "$work/refused" <<'ROUNDS'
+import sys
+rounds, refused = sys.argv[1:]
+job = '{"vertices":[{"name":"s","kind":"source"},{"name":"c","kind":"count"},{"name":"out","kind":"sink"}],"edges":[{"from":"s","to":"c"},{"from":"c","to":"out"}]}'
+rows = ['{"k":"k%d","v":%d}' % (row % 3, row) for row in range(150000)]
+counts = ['{"k":"k%d","v":%d}' % (row % 3, row // 3 + 1) for row in range(150000)]
+for folder, lines in (rounds, rows), (refused, rows[:140000] + ['{"k":"k0"}'] + rows[140000:]):
+    open(folder + '/job.json', 'w').write(job)
+    open(folder + '/0.jsonl', 'w').write('\n'.join(lines))
+open(rounds + '/out', 'w').write('sink 0 rows 150000\n' + ''.join(count + '\n' for count in counts))
+open(refused + '/err', 'w').write('input 0 line 140001: bad row\n')
+open(refused + '/status', 'w').write('1\n')
+ROUNDS
+  for workers in 1 2 3 4 7; do
+    expect_run "$work/rounds" "$work/rounds" job.json 0.jsonl --workers $workers --batch 1024
+    expect_run "$work/refused" "$work/refused" job.json 0.jsonl --workers $workers
+  done
+}
+
 # expect_full: rows that can't be written end with status 1, and that is said.
 expect_full() {
   local folder=tests/runs/line_of_two_rows ended
@@ -181,6 +206,7 @@ for program in "${programs[@]}"; do
   expect_long_line 1048577 err 'input 0 line 1: bad row\n'
   expect_long_line 50000000 err 'input 0 line 1: bad row\n'
   for workers in 1 4; do expect_batches --workers $workers; done
+  expect_rounds
   expect_full
 
   count_told tests/crashes.py "$program" tests/crashes/*.json
