@@ -64,7 +64,7 @@ pub struct HandedOut {
 }
 
 impl Node {
-    /// After so many records the ends are marked: about a batch for each, which counts as 32
+    /// After so many records the ends are marked: about a batch for each, which counts as 128
     /// records at least, and no fewer than there are ends, so that a mark costs the same however
     /// many there are.
     fn enough(&self, batch: usize) -> usize {
@@ -75,10 +75,10 @@ impl Node {
 
 /// So many records at least are sent to a task before it is asked for them, unless there is nothing
 /// else to do: else a task would be asked after each record, also in vain, where claims are of one.
-const TOLD_TOGETHER: usize = 32;
+const TOLD_TOGETHER: usize = 128;
 
 /// A source sends so many records in one turn, at most.
-const MOST_READS: u32 = 32;
+const MOST_READS: u32 = 128;
 
 /// Where claims are of one record, so many are read ahead of the claims that are held, until a task
 /// that sources send to has been found without a record.
