@@ -8,9 +8,11 @@ ghost use Rattle.channels.specs.Items.{item_copied, leading_records};
 use crate::item::Item;
 use crate::spaced_barrier::SpacedBarrier;
 use abs_codec::NoMemory;
+use core::mem::replace_with;
 use std::alloc::Global;
 use std::collections::VecDeque;
 use std::marker::Model;
+
 
 /// Room is taken for so many items at once, at least: few are sent one by one.
 const ROOM_AT_ONCE: usize = 8;
@@ -176,7 +178,7 @@ impl<R: Drop> Channel<R> {
         } }
         ensures room { self.old.room ≤ self.new.room }
     {
-        drop_first(&mut self.records, count);
+        take_away(&mut self.records, count);
         match self.barriers.front_mut() {
             Some(barrier) => barrier.gap -= count,
             None => self.behind -= count,
@@ -184,7 +186,21 @@ impl<R: Drop> Channel<R> {
     }
 }
 
-/// Takes away so many records of a queue, from its front.
+/// Takes away so many records of a queue, from its front. Where none is left, the next records lie
+/// from the first slot of its room on: few slots are used again and again, which a cache holds.
+fn take_away<R: Drop>(records: &mut VecDeque<R>, count: usize)
+    requires { count ≤ deque_len records.old }
+    ensures items { records.new.items ≡ drop count records.old.items }
+    ensures len { deque_len records.new + count ≡ deque_len records.old }
+    ensures capacity { deque_capacity records.new ≡ deque_capacity records.old }
+{
+    drop_first(records, count);
+    if records.is_empty() {
+        replace_with(records, (), from_first_slot);
+    }
+}
+
+/// Drops so many records of a queue, from its front.
 fn drop_first<R: Drop>(records: &mut VecDeque<R>, count: usize)
     requires { count ≤ deque_len records.old }
     ensures items { records.new.items ≡ drop count records.old.items }
@@ -194,4 +210,13 @@ fn drop_first<R: Drop>(records: &mut VecDeque<R>, count: usize)
     for _ in 0..count {
         let _ = records.pop_front();
     }
+}
+
+/// The same queue, whose records lie from the first slot of its room on.
+fn from_first_slot<R: Drop>(records: VecDeque<R>, _nothing: ()) -> (VecDeque<R>, ())
+    ensures items { result.0.items ≡ records.items }
+    ensures len { deque_len result.0 ≡ deque_len records }
+    ensures capacity { deque_capacity result.0 ≡ deque_capacity records }
+{
+    (VecDeque::from_vec(records.into_vec()), ())
 }

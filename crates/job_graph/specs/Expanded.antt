@@ -119,7 +119,11 @@ is_input task channel = channel.receiver == task
 abbrev pub is_output : ℕ → Channel → Bool
 is_output task channel = channel.sender == task
 
--- those of one port
+-- the channels of a port
+abbrev pub is_on : ℕ → Channel → Bool
+is_on port channel = channel.port == port
+
+-- those that a task sends on by one port
 abbrev pub is_outlet : ℕ → ℕ → Channel → Bool
 is_outlet task port channel = (channel.sender == task) && (channel.port == port)
 

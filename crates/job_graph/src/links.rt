@@ -1,8 +1,8 @@
 //! The channels of a task.
 
-ghost use Rattle.std.specs.Prelude.{◌≡◌, ◌<◌, ◌^◌, ◌&&◌, ◌==◌, IfOk, IsTrue, length, map};
+ghost use Rattle.std.specs.Prelude.{◌≡◌, ◌<◌, ◌^◌, IfOk, IsTrue, length, map, filter};
 ghost use Rattle.job_channels.specs.Channel.{channel_view};
-ghost use Rattle.job_graph.specs.Expanded.{meets, numbers_of, is_input, is_output, is_outlet};
+ghost use Rattle.job_graph.specs.Expanded.{meets, numbers_of, is_input, is_output, is_on};
 ghost use Rattle.job_graph.specs.Runs.{TakesSubtask, IsRun, AreRuns};
 ghost use Rattle.job_graph.specs.Tables.{AreLinks, IsTable};
 
@@ -37,12 +37,12 @@ fn leads_from(channels: &[Channel], number: u32, task: u32) -> bool
         .is_some_and(|c| c.sender == task)
 }
 
-fn leads_from_port(channels: &[Channel], number: u32, task: u32, port: u32) -> bool
-    ensures { result ≡ meets (is_outlet task port) (map channel_view channels.now) number }
+fn is_on_port(channels: &[Channel], number: u32, port: u32) -> bool
+    ensures { result ≡ meets (is_on port) (map channel_view channels.now) number }
 {
     channels
         .get(number as usize)
-        .is_some_and(|c| c.sender == task && c.port == port)
+        .is_some_and(|c| c.port == port)
 }
 
 /// How many channels there are.
@@ -73,18 +73,20 @@ fn outputs(alloc: Global, channels: &[Channel], task: u32) -> Result<Vec<u32>, A
         .collect(alloc)
 }
 
-fn outlets(
+/// Of these channels, those of a port.
+fn of_port(
     alloc: Global,
     channels: &[Channel],
-    task: u32,
+    numbers: &[u32],
     port: u32,
 ) -> Result<Vec<u32>, AllocError>
-    requires { length channels.now < 2 ^ 32 }
-    ensures { IfOk result (λ v. v.items ≡ numbers_of (is_outlet task port)
-        (map channel_view channels.now)) }
+    ensures { IfOk result (λ v. v.items
+        ≡ filter (meets (is_on port) (map channel_view channels.now)) numbers.now) }
 {
-    (0..count_of(channels))
-        .filter(|c| leads_from_port(channels, *c, task, port))
+    numbers
+        .iter()
+        .copied()
+        .filter(|number| is_on_port(channels, *number, port))
         .collect(alloc)
 }
 
@@ -156,11 +158,12 @@ fn links_of(alloc: Global, channels: &[Channel], task: u32) -> Result<Links, All
     requires { length channels.now < 2 ^ 32 }
     ensures { IfOk result (AreLinks (map channel_view channels.now) task) }
 {
-    let first = outlets(alloc, channels, task, 0)?;
-    let second = outlets(alloc, channels, task, 1)?;
+    let outputs = outputs(alloc, channels, task)?;
+    let first = of_port(alloc, channels, &outputs, 0)?;
+    let second = of_port(alloc, channels, &outputs, 1)?;
     Ok(Links {
         inputs: inputs(alloc, channels, task)?,
-        outputs: outputs(alloc, channels, task)?,
+        outputs,
         first_runs: runs_of(alloc, channels, &first)?,
         second_runs: runs_of(alloc, channels, &second)?,
         first,

@@ -65,17 +65,27 @@ pub struct HandedOut {
 
 impl Node {
     /// After so many records the ends are marked: about a batch for each, which counts as 128
-    /// records at least, and no fewer than there are ends, so that a mark costs the same however
-    /// many there are.
+    /// records at least, but no more than four batches or 512 records in all, so that what waits in
+    /// channels stays small however many there are; and no fewer than there are ends, so that a
+    /// mark costs the same.
     fn enough(&self, batch: usize) -> usize {
-        let batch = batch.max(TOLD_TOGETHER);
-        self.ends.len().max(self.spread.saturating_mul(batch))
+        let of_ends = self.spread.saturating_mul(batch.max(TOLD_TOGETHER));
+        let most = batch.saturating_mul(MOST_BATCHES).max(MOST_UNTOLD);
+        self.ends.len().max(of_ends.min(most))
     }
 }
 
 /// So many records at least are sent to a task before it is asked for them, unless there is nothing
 /// else to do: else a task would be asked after each record, also in vain, where claims are of one.
 const TOLD_TOGETHER: usize = 128;
+
+/// A task sends so many batches before those that it sends to are asked for them, at most, where
+/// these are more than 512 records.
+const MOST_BATCHES: usize = 4;
+
+/// A task sends so many records before those that it sends to are asked for them, at most, where
+/// four batches are fewer.
+const MOST_UNTOLD: usize = 512;
 
 /// A source sends so many records in one turn, at most.
 const MOST_READS: u32 = 128;
