@@ -13,7 +13,6 @@ use std::alloc::Global;
 use std::collections::VecDeque;
 use std::marker::Model;
 
-
 /// Room is taken for so many items at once, at least: few are sent one by one.
 const ROOM_AT_ONCE: usize = 8;
 
