@@ -187,8 +187,8 @@ impl<O: Operator, S: SnapshotStore, X: Transactions, P: Partitions<Record = O::R
         engine.read(task)
     }
 
-    /// Source `task` sends its next records, one after another and so many at most, as so many calls
-    /// of `read`, until one is refused: how many it has sent, and why no more.
+    /// Source `task` sends its next records, one after another and so many at most, as so many
+    /// calls of `read`, until one is refused: how many it has sent, and why no more.
     pub fn read_some(&mut self, task: u32, most: u32) -> (u32, Result<(), CoreFault>)
         requires { 0 < most }
         ensures ends { ReadsSome ⟦<O as Rules>⟧.all self.old.engine self.new.engine task most

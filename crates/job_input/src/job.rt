@@ -103,7 +103,8 @@ fn read_group<'a, R: Threads + Sync, F: Read + Drop + Send>(
     Ok(group)
 }
 
-/// Puts the partitions of these inputs behind those of a log, in their order, up to the first fault.
+/// Puts the partitions of these inputs behind those of a log, in their order, up to the first
+/// fault.
 fn append_group<'a>(
     log: &mut MemoryLog<Row>,
     group: Vec<Result<InputRows, InputFault<'a>>>,

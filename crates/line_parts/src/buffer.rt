@@ -42,7 +42,8 @@ fn append_ready<F: BufRead>(file: &mut F, text: &mut Vec<u8>) -> io::Result<bool
     Ok(count > 0)
 }
 
-/// Reads on into the text, once or more, until so many bytes are there. False: the file has no more.
+/// Reads on into the text, once or more, until so many bytes are there. False: the file has no
+/// more.
 pub fn fill<F: BufRead>(file: &mut F, text: &mut Vec<u8>, least: usize) -> io::Result<bool>
     ensures bytes { OnOk result (Keeps (prepend_known text.old.items (F.remaining file.old))
         (prepend_known text.new.items (F.remaining file.new))) }

@@ -660,8 +660,8 @@ impl Schedule {
         records < self.most(task) as u64 && !self.is_pending()
     }
 
-    /// Whether a task whose claim has ended would be the next to claim from this input: nothing else
-    /// comes before it. Then it goes on with the claim that it has, as the schedule sees it.
+    /// Whether a task whose claim has ended would be the next to claim from this input: nothing
+    /// else comes before it. Then it goes on with the claim that it has, as the schedule sees it.
     pub(crate) fn goes_on(&mut self, place: Place) -> bool {
         let Some(node) = self.nodes.get(place.task as usize) else {
             return false;
