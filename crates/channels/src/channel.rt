@@ -169,6 +169,7 @@ impl<R: Drop> Channel<R> {
     }
 
     /// Takes away so many of the records that stand before the first barrier. Their room is left.
+    #[inline(always)]
     pub fn skip(&mut self, count: usize)
         requires { count ≤ length (leading_records self.old.items) }
         ensures rest { self.new ≡ record self.old {
@@ -187,6 +188,7 @@ impl<R: Drop> Channel<R> {
 
 /// Takes away so many records of a queue, from its front. Where none is left, the next records lie
 /// from the first slot of its room on: few slots are used again and again, which a cache holds.
+#[inline(always)]
 fn take_away<R: Drop>(records: &mut VecDeque<R>, count: usize)
     requires { count ≤ deque_len records.old }
     ensures items { records.new.items ≡ drop count records.old.items }
@@ -195,8 +197,19 @@ fn take_away<R: Drop>(records: &mut VecDeque<R>, count: usize)
 {
     drop_first(records, count);
     if records.is_empty() {
-        replace_with(records, (), from_first_slot);
+        start_anew(records);
     }
+}
+
+/// The next records of an empty queue lie from the first slot of its room on. It is seldom called,
+/// and would else stand in every place where a record is taken.
+#[inline(never)]
+fn start_anew<R: Drop>(records: &mut VecDeque<R>)
+    ensures items { records.new.items ≡ records.old.items }
+    ensures len { deque_len records.new ≡ deque_len records.old }
+    ensures capacity { deque_capacity records.new ≡ deque_capacity records.old }
+{
+    replace_with(records, (), from_first_slot);
 }
 
 /// Drops so many records of a queue, from its front.

@@ -163,6 +163,7 @@ pub(crate) fn take_head<R: Drop>(channels: &mut [Channel<R>], channel: u32) -> O
 
 /// Takes away so many of the records that stand first in a channel, before a barrier. Their room is
 /// left.
+#[inline(always)]
 pub(crate) fn skip<R: Drop>(channels: &mut [Channel<R>], channel: u32, count: usize)
     requires { count ≤ length (leading_records (items_at (contents_items channels.old) channel)) }
     ensures rest { contents_items channels.new
