@@ -1,11 +1,12 @@
 //! Several entries that are put into a map at once where each key has the state that is expected of
 //! it, or none of them.
 
-ghost use Rattle.std.specs.Prelude.{◌≡◌, ◌↔◌, Err, IsTrue, IfErr, count_by, is_none, option_map, slice_get, take, OnOk, OnErr};
+ghost use Rattle.std.specs.Prelude.{◌≡◌, ◌↔◌, Err, IsTrue, IfErr, IfSome, IfNone, count_by, is_none, option_map, slice_get, take, OnOk, OnErr};
 ghost use Rattle.std.specs.List.Sorted.{IsStrictlySortedBy};
 ghost use Rattle.std.specs.Map.{keys_of};
 ghost use Rattle.std.specs.BTreeMap.{insert_entry};
 ghost use Rattle.std.specs.Option.{option_copied};
+ghost use Rattle.std.specs.Arc.{arc_value};
 ghost use Rattle.abs_codec.specs.Entries.{value_at};
 ghost use Rattle.abs_codec.specs.Same.{EqualIsSame};
 ghost use Rattle.keyed_state.specs.Comparing.{HaveStates};
@@ -13,12 +14,13 @@ ghost use Rattle.keyed_state.specs.Overlay.{put_over};
 ghost use Rattle.keyed_state.specs.Putting.{note_of, notes_of, undone};
 ghost use Rattle.keyed_state.specs.declared.comparing.SetFault.TheVariants as SetFault;
 
-use crate::lending::Lendable;
+use crate::lending::{Kept, Lendable};
 use crate::putting::{make_ready, put_back, taken};
 use abs_codec::{Codec, Map, NoMemory};
 use std::alloc::{AllocError, Global};
 use std::collections::BTreeMap;
-use std::mem::swap;
+use std::mem::{replace, swap};
+use std::sync::Arc;
 
 /// Why states are not set.
 #[derive(Clone, Copy, Debug, PartialEq, Eq)]
@@ -72,6 +74,25 @@ pub(crate) fn count_none<S>(states: &[Option<S>]) -> usize
     count
 }
 
+/// Gives a key that has no state yet a copy of this one.
+#[inline(never)]
+fn put_first<K: Codec + Ord, S: Codec>(
+    map: &mut BTreeMap<K, S>,
+    key: &K,
+    state: &S,
+) -> Result<(), SetFault>
+    ensures ok { OnOk result (map.new.entries
+        ≡ insert_entry K.Ord.cmp map.old.entries key.now state.now) }
+    ensures err { IfErr result (λ fault. (fault ≡ SetFault.Memory)
+        × (map.new.entries ≡ map.old.entries)) }
+{
+    let (own, first) = (key.copied()?, state.copied()?);
+    match map.insert(own, first) {
+        Ok(_) => Ok(()),
+        Err(_) => Err(SetFault::Memory),
+    }
+}
+
 /// Gives an entry's key its state where it has the expected one, which the entry takes for its own.
 /// A key that has none, as is expected of it, is given a copy.
 fn exchange_one<K: Codec + Ord, S: Codec + Eq>(
@@ -97,11 +118,7 @@ fn exchange_one<K: Codec + Ord, S: Codec + Eq>(
         if expected.is_some() {
             return Err(SetFault::Changed);
         }
-        let (own, first) = (key.copied()?, state.copied()?);
-        return match map.insert(own, first) {
-            Ok(_) => Ok(()),
-            Err(_) => Err(SetFault::Memory),
-        };
+        return put_first(map, key, state);
     };
     if !is_expected(Some(&*seen), expected) {
         return Err(SetFault::Changed);
@@ -202,10 +219,57 @@ fn exchange_all<K: Codec + Ord, S: Codec + Eq>(
     Ok(())
 }
 
-/// Gives each of these keys, which rise, its state, or none of them where memory is refused or a
-/// state is not the expected one. What is left in the list is to be let go. The map itself is not
-/// copied where nobody reads it, and is left ready to be lent.
-pub(crate) fn exchange_all_in<K: Codec + Ord, S: Codec + Eq>(
+/// The same, in a map that holds them.
+fn exchange_in<K: Codec + Ord, S: Codec + Eq>(
+    alloc: Global,
+    map: &mut Map<K, S>,
+    entries: &mut Vec<(K, S)>,
+    expected: &[Option<S>],
+) -> Result<(), SetFault>
+    requires exact { EqualIsSame S.Eq.eq }
+    requires rising { IsStrictlySortedBy K.Ord.cmp (keys_of entries.old.items) }
+    ensures ok { OnOk result (map.new ≡ put_over K.Ord.cmp map.old entries.old.items) }
+    ensures expected { OnOk result (HaveStates K.Ord.cmp map.old (keys_of entries.old.items)
+        expected.now) }
+    ensures changed { result ≡ Err SetFault.Changed
+        → ¬ HaveStates K.Ord.cmp map.old (keys_of entries.old.items) expected.now }
+    ensures err { OnErr result (map.new ≡ map.old) }
+{
+    let mut tree = replace(map, Map::new(alloc)).into_btree_map();
+    let done = exchange_all(&mut tree, entries, expected);
+    *map = Map::from_btree_map(alloc, tree);
+    done
+}
+
+/// The same, in a map that is ready to be lent, where nobody reads it. Else nothing changes.
+fn exchange_unread<K: Codec + Ord, S: Codec + Eq>(
+    alloc: Global,
+    map: &mut Arc<Map<K, S>, Global>,
+    entries: &mut Vec<(K, S)>,
+    expected: &[Option<S>],
+) -> Option<Result<(), SetFault>>
+    requires exact { EqualIsSame S.Eq.eq }
+    requires rising { IsStrictlySortedBy K.Ord.cmp (keys_of entries.old.items) }
+    ensures ok { IfSome result (λ done. OnOk done (arc_value map.new
+        ≡ put_over K.Ord.cmp (arc_value map.old) entries.old.items)) }
+    ensures expected { IfSome result (λ done. OnOk done (HaveStates K.Ord.cmp
+        (arc_value map.old) (keys_of entries.old.items) expected.now)) }
+    ensures changed { IfSome result (λ done. done ≡ Err SetFault.Changed
+        → ¬ HaveStates K.Ord.cmp (arc_value map.old) (keys_of entries.old.items)
+        expected.now) }
+    ensures err { IfSome result (λ done. OnErr done (arc_value map.new ≡ arc_value map.old)) }
+    ensures none { IfNone result ((arc_value map.new ≡ arc_value map.old)
+        × (entries.new.items ≡ entries.old.items)) }
+{
+    match Arc::get_mut(map) {
+        Some(seen) => Some(exchange_in(alloc, seen, entries, expected)),
+        None => None,
+    }
+}
+
+/// The same, in a map that others may read: that is copied then. It is left ready to be lent.
+#[inline(never)]
+fn exchange_apart<K: Codec + Ord, S: Codec + Eq>(
     alloc: Global,
     map: &mut Lendable<Map<K, S>>,
     entries: &mut Vec<(K, S)>,
@@ -228,4 +292,30 @@ pub(crate) fn exchange_all_in<K: Codec + Ord, S: Codec + Eq>(
     map.put(Map::from_btree_map(alloc, tree));
     make_ready(alloc, map);
     done
+}
+
+/// Gives each of these keys, which rise, its state, or none of them where memory is refused or a
+/// state is not the expected one. What is left in the list is to be let go. The map itself is not
+/// copied where nobody reads it, and is left ready to be lent.
+pub(crate) fn exchange_all_in<K: Codec + Ord, S: Codec + Eq>(
+    alloc: Global,
+    map: &mut Lendable<Map<K, S>>,
+    entries: &mut Vec<(K, S)>,
+    expected: &[Option<S>],
+) -> Result<(), SetFault>
+    requires exact { EqualIsSame S.Eq.eq }
+    requires rising { IsStrictlySortedBy K.Ord.cmp (keys_of entries.old.items) }
+    ensures ok { OnOk result (map.new ≡ put_over K.Ord.cmp map.old entries.old.items) }
+    ensures expected { OnOk result (HaveStates K.Ord.cmp map.old (keys_of entries.old.items)
+        expected.now) }
+    ensures changed { result ≡ Err SetFault.Changed
+        → ¬ HaveStates K.Ord.cmp map.old (keys_of entries.old.items) expected.now }
+    ensures err { OnErr result (map.new ≡ map.old) }
+{
+    if let Kept::Shared(shared) = &mut map.kept {
+        if let Some(done) = exchange_unread(alloc, shared, entries, expected) {
+            return done;
+        }
+    }
+    exchange_apart(alloc, map, entries, expected)
 }

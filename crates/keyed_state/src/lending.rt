@@ -10,7 +10,7 @@ use std::sync::Arc;
 
 /// A value that is this owner's alone, or that may be lent.
 #[derive(Drop)]
-enum Kept<T> {
+pub(crate) enum Kept<T> {
     Alone(T),
     Shared(Arc<T, Global>),
 }
@@ -18,7 +18,7 @@ enum Kept<T> {
 /// A value that may be lent to readers once it is made ready for that.
 #[derive(Drop)]
 pub(crate) struct Lendable<T> {
-    kept: Kept<T>,
+    pub(crate) kept: Kept<T>,
 }
 
 impl<T> Model for Lendable<T> {
