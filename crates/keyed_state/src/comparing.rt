@@ -136,7 +136,6 @@ fn expected_at<S>(expected: &[Option<S>], index: usize) -> Option<&Option<S>>
 
 /// Exchanges each of these entries, whose keys rise, as [`exchange_one`] does. At an `Err`, how many
 /// were exchanged, and why no more.
-#[inline(never)]
 fn exchange_each<K: Codec + Ord, S: Codec + Eq>(
     map: &mut BTreeMap<K, S>,
     entries: &mut [(K, S)],
@@ -196,6 +195,7 @@ fn exchange_back<K: Ord + Drop, S: Drop>(
 
 /// Gives each of these keys, which rise, its state, or none of them where memory is refused or a
 /// state is not the expected one. What is left in the list is to be let go.
+#[inline(never)]
 fn exchange_all<K: Codec + Ord, S: Codec + Eq>(
     map: &mut BTreeMap<K, S>,
     entries: &mut Vec<(K, S)>,

@@ -44,6 +44,8 @@ pub(crate) struct Node {
     pub(crate) spread: usize,
     /// How many records it has worked or read since the ends were marked.
     pub(crate) sent: usize,
+    /// After so many the ends are marked, in the present run.
+    pub(crate) enough: usize,
     /// Whether it holds a claim.
     pub(crate) is_busy: bool,
     /// Whether a source sends to it.
@@ -64,11 +66,11 @@ pub struct HandedOut {
 }
 
 impl Node {
-    /// After so many records the ends are marked: about a batch for each, which counts as 128
-    /// records at least, but no more than four batches or 512 records in all, so that what waits in
-    /// channels stays small however many there are; and no fewer than there are ends, so that a
-    /// mark costs the same.
-    fn enough(&self, batch: usize) -> usize {
+    /// After so many records the ends are marked, where claims are of so many: about a batch for
+    /// each, which counts as 128 records at least, but no more than four batches or 512 records in
+    /// all, so that what waits in channels stays small however many there are; and no fewer than
+    /// there are ends, so that a mark costs the same.
+    fn enough_of(&self, batch: usize) -> usize {
         let of_ends = self.spread.saturating_mul(batch.max(TOLD_TOGETHER));
         let most = batch.saturating_mul(MOST_BATCHES).max(MOST_UNTOLD);
         self.ends.len().max(of_ends.min(most))
@@ -175,6 +177,9 @@ impl Schedule {
     {
         self.every = every;
         self.batch = batch;
+        for node in self.nodes.iter_mut() {
+            node.enough = node.enough_of(batch as usize);
+        }
         self.went_down();
     }
 
@@ -472,17 +477,16 @@ impl Schedule {
     }
 
     /// A task may have sent for so many records. The ends of its channels are marked once there may
-    /// be a batch at each.
+    /// be a batch at each. Who has sent already is among the senders.
     fn sent(&mut self, task: u32, records: u64) {
-        let batch = self.batch as usize;
         let Some(node) = self.nodes.get_mut(task as usize) else {
             return;
         };
-        node.sent = node.sent.saturating_add(records as usize);
-        if node.sent >= node.enough(batch) {
+        let (before, rank) = (node.sent, node.rank);
+        node.sent = before.saturating_add(records as usize);
+        if node.sent >= node.enough {
             self.mark_ends(task);
-        } else {
-            let rank = node.rank;
+        } else if before == 0 {
             self.senders.insert(rank);
         }
     }
@@ -675,16 +679,16 @@ impl Schedule {
     /// Whether a step of a record comes next, if there is one. A piece of a copy that gives way has
     /// given way then.
     fn records_come_next(&mut self) -> bool {
-        if self.round.next().is_none() {
+        if self.round.is_none() || self.round.next().is_none() {
             return !self.is_due();
         }
         self.awaits_records() || self.round.gives_way()
     }
 
-    /// A task that goes on holds a claim of so many records of its only input. That is left out
-    /// where the claim has all that it had, and no barrier may follow.
+    /// An operator's task that goes on holds a claim of so many records of its only input. That is
+    /// left out where the claim has all that it had, and no barrier may follow.
     pub(crate) fn claimed_on(&mut self, task: u32, records: u64) {
-        if self.takes_all(task, records) {
+        if records < self.batch as u64 && !self.is_pending() {
             self.drop_first(task);
             self.judge(task);
         }

@@ -43,6 +43,7 @@ fn nodes_of(alloc: Global, graph: &Graph) -> Result<Vec<Node>, AllocError> {
             ends: ends_of(alloc, graph, &places, task)?,
             spread: spread_of(graph, task),
             sent: 0,
+            enough: 0,
             is_busy: false,
             is_fed: false,
             is_sink: graph.role(task).is_some_and(|role| role.is_sink()),
