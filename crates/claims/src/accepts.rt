@@ -127,6 +127,7 @@ fn accept_outcomes<O: Operator>(
 
 /// A sink puts bytes, which spell the record at the head of its input, last in its open
 /// transaction, which is this one.
+#[inline(always)]
 pub(crate) fn put_in<O: Operator, X: Transactions>(
     attempt: &mut Attempt<O>,
     transactions: &mut X,

@@ -44,11 +44,12 @@ pub fn channel_of(graph: &Graph, task: u32, input: u32) -> Option<u32>
 }
 
 /// Whether this is the operator of a number.
+#[inline(always)]
 fn is_operator<O: Operator>(operators: &[O], number: u32, operator: &O) -> bool
     ensures { IsTrue result ↔ (slice_get operators.now number ≡ Some operator.now) }
 {
     match operator_of(operators, number) {
-        Some(found) => found == operator,
+        Some(found) => found.eq(operator),
         None => false,
     }
 }
@@ -71,6 +72,7 @@ fn is_first<O: Operator>(
 }
 
 /// Whether this record stands at a place of a channel, with no barrier before it.
+#[inline(always)]
 fn is_record<O: Operator>(attempt: &Attempt<O>, channel: u32, index: usize, row: &O::Record) -> bool
     ensures { IsTrue result
         ↔ (slice_get (leading_records (items_at attempt.now.channels channel)) index
@@ -83,6 +85,7 @@ fn is_record<O: Operator>(attempt: &Attempt<O>, channel: u32, index: usize, row:
 }
 
 /// Whether these records stand first in a channel, with no barrier before one of them.
+#[inline(always)]
 fn has_records<O: Operator>(attempt: &Attempt<O>, channel: u32, rows: &[O::Record]) -> bool
     ensures { IsTrue result ↔ StandFirst channel rows.now attempt.now }
 {
@@ -171,6 +174,7 @@ pub(crate) fn has_states<O: Operator>(
 
 /// The channel from which a task is to take an operator's records, where that work is due if the
 /// task has the states that it was given.
+#[inline(always)]
 pub(crate) fn records_channel<O: Operator>(
     attempt: &Attempt<O>,
     graph: &Graph,

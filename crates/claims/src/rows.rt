@@ -49,6 +49,7 @@ fn place_of_sink<O: Operator>(
 }
 
 /// Whether this record stands first in a channel.
+#[inline(always)]
 fn is_head<O: Operator>(attempt: &Attempt<O>, channel: u32, row: &O::Record) -> bool
     ensures { IsTrue result
         ↔ (slice_get (items_at attempt.now.channels channel) 0 ≡ Some (Item.Record row.now)) }

@@ -183,6 +183,7 @@ impl<O: Operator, S: SnapshotStore, X: Transactions, P: Partitions<Record = O::R
             attempt,
             serial,
             worked,
+            ..
         } = done;
         let (at, claim) = self.ticket(attempt, serial)?;
         let Core { engine, claims, .. } = self;

@@ -30,7 +30,10 @@ impl<O: Operator> Model for Job<O> {
 pub struct Done<O: Operator> {
     pub(crate) attempt: u64,
     pub(crate) serial: u64,
+    /// How many records the claim is on.
+    records: u64,
     pub(crate) worked: Worked<O>,
+    ghost counted: { records ≡ records_of (given_of worked) },
 }
 
 impl<O: Operator> Job<O> {
@@ -68,9 +71,11 @@ impl<O: Operator> Job<O> {
             alloc,
             work,
         } = self;
+        let records = work.records() as u64;
         Done {
             attempt,
             serial,
+            records,
             worked: work.run(alloc),
         }
     }
@@ -95,6 +100,6 @@ impl<O: Operator> Done<O> {
     pub fn records(&self) -> u64
         ensures { result ≡ records_of (given_of self.now.worked) }
     {
-        self.worked.records() as u64
+        self.records
     }
 }

@@ -25,6 +25,7 @@ fn takes_all(graph: &Graph, number: u32) -> bool
 
 /// Of a run of the task's channels, the one that takes this record, if one does. Its lane is
 /// reckoned only where it matters.
+#[inline(always)]
 pub(crate) fn target<O: Operator>(
     graph: &Graph,
     numbers: &[u32],
@@ -67,6 +68,7 @@ pub(crate) fn sole_run(graph: &Graph, task: u32, port: u32) -> Option<&[u32]>
 
 /// The one channel that a record goes into when a task sends it on a port; `None` where none
 /// takes it, or where the channels of the port are more than one run.
+#[inline(always)]
 pub fn sole_target<O: Operator>(graph: &Graph, task: u32, port: u32, row: &O::Record) -> Option<u32>
     ensures { IfSome result (λ number. deliveries_of O.meaning graph.now task
         ((port, row.now) ∷ []) ≡ (number, Record row.now) ∷ []) }

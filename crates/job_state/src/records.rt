@@ -159,6 +159,7 @@ impl<O: Operator> Attempt<O> {
 
     /// Logs a copy of the record at the head of an input, which is this channel, where the task's
     /// gate logs the input.
+    #[inline(always)]
     pub fn log_head(&mut self, task: u32, input: u32, channel: u32) -> Result<(), NoMemory>
         requires within { input < length (gate_at self.old task).inputs }
         requires logs { channel < length self.old.logs }
@@ -188,6 +189,7 @@ impl<O: Operator> Attempt<O> {
     }
 
     /// Takes the first item of a channel. It takes no memory.
+    #[inline(always)]
     pub fn take(&mut self, channel: u32)
         ensures { self.new ≡ record self.old { channels = without_head channel self.old.channels } }
     {

@@ -89,8 +89,12 @@ impl Patience {
         passed
     }
 
-    /// The lock is had, which was asked for.
+    /// The lock is had, which was asked for. A worker that is alone did not wait for it.
     pub(crate) fn has_lock<R: Clock>(&mut self, rt: &R) {
+        if self.is_alone {
+            self.until = None;
+            return;
+        }
         let waited = self.passed(rt);
         self.waited = self.waited.saturating_add(waited);
     }
