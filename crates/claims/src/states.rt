@@ -227,7 +227,7 @@ fn copied_states<K: Codec + Ord, S: Codec, E: Entries<K, S>>(
 }
 
 /// The states that a task has under these keys. They are copied where they are not lent.
-pub(crate) fn states_of<O: Operator>(
+fn lent_or_copied<O: Operator>(
     alloc: Global,
     attempt: &Attempt<O>,
     task: u32,
@@ -252,9 +252,28 @@ pub(crate) fn states_of<O: Operator>(
     Ok(States { kept })
 }
 
+/// The same, where no state is asked for if there is no key.
+pub(crate) fn states_of<O: Operator>(
+    alloc: Global,
+    attempt: &Attempt<O>,
+    task: u32,
+    keys: Vec<O::Key>,
+) -> Result<States<O::Key, O::State>, NoMemory>
+    ensures { IfOk result (λ states. (entries : List (O.Key × O.State))
+        → slice_get attempt.now.tasks task ≡ Some (Holding.Operator entries)
+        → states ≡ states_under O.Key.cmp entries keys.items) }
+{
+    if keys.is_empty() {
+        return Ok(States::none(alloc));
+    }
+    lent_or_copied(alloc, attempt, task, keys)
+}
+
 impl<K: Codec + Ord, S: Codec> States<K, S> {
     /// No states. It takes no memory.
-    pub(crate) fn none(alloc: Global) -> Self {
+    pub(crate) fn none(alloc: Global) -> Self
+        ensures { result ≡ [] }
+    {
         let copies = Copies {
             keys: Vec::new(alloc),
             states: Vec::new(alloc),

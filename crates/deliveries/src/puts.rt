@@ -3,6 +3,8 @@
 ghost use Rattle.std.specs.Prelude.{◌≡◌, ◌++◌, ◌∷◌, ℕ, [], IsTrue, length, filter, take, drop, OnOk, IfOk, IfSome};
 ghost use Rattle.std.specs.Option.{option_to_list};
 ghost use Rattle.channels.specs.declared.item.Item.TheVariants.{Record};
+ghost use Rattle.dataflow_model.specs.Graph.{takes_lane};
+ghost use Rattle.job_channels.specs.Channel.{route_view};
 ghost use Rattle.job_graph.specs.Expanded.{meets, takes, outlets_of};
 ghost use Rattle.job_graph.specs.Runs.{IsRun};
 ghost use Rattle.deliveries.specs.Deliveries.{deliveries_of_one, deliveries_of, barriers_of};
@@ -13,12 +15,25 @@ use job_graph::{Graph, Route};
 use operators::Operator;
 use std::alloc::Global;
 
+/// Whether a route takes each record, whatever its lane is: there is no choice, or one lane.
+fn takes_any(route: Route) -> bool
+    ensures { IsTrue result → (lane : ℕ) → IsTrue (takes_lane (route_view route) lane) }
+{
+    match route {
+        Route::Every => true,
+        Route::Lanes {
+            parallelism,
+            subtask,
+        } => parallelism == 1 && subtask == 0,
+    }
+}
+
 /// Whether a channel takes each record, whatever its lane is.
 fn takes_all(graph: &Graph, number: u32) -> bool
     ensures { IsTrue result → (lane : ℕ) → IsTrue (meets (takes lane) graph.now.channels number) }
 {
     match graph.channel(number) {
-        Some(channel) => channel.route == Route::Every,
+        Some(channel) => takes_any(channel.route),
         None => false,
     }
 }

@@ -6,6 +6,7 @@ ghost use Rattle.abs_codec.specs.Entries.{value_at};
 ghost use Rattle.abs_codec.specs.Same.{EqualIsSame};
 ghost use Rattle.commit_sink.specs.Sink.{Sinking};
 ghost use Rattle.dataflow_model.specs.Machine.{kept_under};
+ghost use Rattle.keyed_state.specs.Comparing.{HaveStates};
 ghost use Rattle.keyed_state.specs.declared.comparing.SetFault.TheVariants as SetFault;
 ghost use Rattle.task_part.specs.declared.part.Part.TheVariants as Part;
 ghost use Rattle.job_state.specs.declared.holding.Holding.TheVariants as Holding;
@@ -51,6 +52,31 @@ impl<R: Codec, K: Codec + Ord, S: Codec> Model for Task<R, K, S> {
     ghost view = { λ t. standing_of t.kind t.bytes.items };
 }
 
+/// Gives each of these keys, which rise, its state where each has the one that is expected of it,
+/// or none of them. For no keys the states are not even asked for.
+fn exchange_all<K: Codec + Ord, S: Codec + Eq>(
+    kept: &mut OperatorState<K, S>,
+    states: &mut Vec<(K, S)>,
+    expected: &[Option<S>],
+) -> Result<(), SetFault>
+    requires exact { EqualIsSame S.Eq.eq }
+    requires rising { IsStrictlySortedBy K.Ord.cmp (keys_of states.old.items) }
+    ensures states { OnOk result ((q : K) → value_at K.Ord.cmp kept.new.entries q
+        ≡ option_or (value_at K.Ord.cmp states.old.items q)
+        (value_at K.Ord.cmp kept.old.entries q)) }
+    ensures expected { OnOk result (HaveStates K.Ord.cmp kept.old.entries
+        (keys_of states.old.items) expected.now) }
+    ensures changed { result ≡ Err SetFault.Changed → ¬ HaveStates K.Ord.cmp
+        kept.old.entries (keys_of states.old.items) expected.now }
+    ensures copy { kept.new.copy ≡ kept.old.copy }
+    ensures err { OnErr result (kept.new ≡ kept.old) }
+{
+    if states.is_empty() && expected.is_empty() {
+        return Ok(());
+    }
+    kept.compare_and_set_all(states, expected)
+}
+
 /// Gives each of these keys, which rise, its state. It gives none where memory is refused, or where
 /// a key has another state than the one that is expected, if any are. What is left in the list is
 /// to be let go.
@@ -73,7 +99,7 @@ fn set_expected<K: Codec + Ord, S: Codec + Eq>(
     ensures err { OnErr result (kept.new ≡ kept.old) }
 {
     match expected {
-        Some(former) => kept.compare_and_set_all(states, former),
+        Some(former) => exchange_all(kept, states, former),
         None => Ok(kept.set_all(replace(states, Vec::new(alloc)))?),
     }
 }

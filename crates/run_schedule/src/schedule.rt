@@ -672,7 +672,7 @@ impl Schedule {
         };
         let is_next = node.is_operator
             && node.inputs.is_only(place.input)
-            && self.ready.greatest().is_none_or(|rank| rank < node.rank);
+            && self.ready.is_below(node.rank);
         is_next && !self.is_down && self.records_come_next()
     }
 

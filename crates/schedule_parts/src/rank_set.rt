@@ -31,6 +31,19 @@ impl RankSet {
         self.words = [0; 4];
     }
 
+    /// Whether each number of the set is below this one.
+    pub fn is_below(&self, rank: u32) -> bool {
+        let [first, second, third, fourth] = self.words;
+        let (word, above) = match rank / 64 {
+            0 => (first, second | third | fourth),
+            1 => (second, third | fourth),
+            2 => (third, fourth),
+            3 => (fourth, 0),
+            _ => (0, 0),
+        };
+        above == 0 && word.wrapping_shr(rank % 64) == 0
+    }
+
     /// The greatest, if there is one.
     pub fn greatest(&self) -> Option<u32> {
         let [first, second, third, fourth] = self.words;

@@ -3,10 +3,10 @@ use Rattle.keyed_state.proofs.Compared.{told_on}
 use Rattle.job_state.proofs.task.set_expected.Goals as goal
 
 pub returns-in-Some-clause-expected : goal.returns-in-Some-clause-expected
-returns-in-Some-clause-expected g c = rw c.in-Some.is c.compare_and_set_all.ensures.expected
+returns-in-Some-clause-expected g c = rw c.in-Some.is c.exchange_all.ensures.expected
 
 pub returns-in-Some-clause-changed : goal.returns-in-Some-clause-changed
-returns-in-Some-clause-changed g c = rw c.in-Some.is c.compare_and_set_all.ensures.changed
+returns-in-Some-clause-changed g c = rw c.in-Some.is c.exchange_all.ensures.changed
 
 pub returns-in_ok-set_all-in-None-clause-expected : goal.returns-in_ok-set_all-in-None-clause-expected
 returns-in_ok-set_all-in-None-clause-expected g c = rw c.in-None.is tt

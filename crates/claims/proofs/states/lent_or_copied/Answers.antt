@@ -3,8 +3,8 @@ use Rattle.abs_codec.specs.Entries.{value_at}
 use Rattle.claims.specs.Keys.{states_kept, states_under}
 use Rattle.claims.proofs.Copies.{copied, copies_rise}
 use Rattle.claims.proofs.InTurn.{same_entries}
-use Rattle.claims.proofs.states.states_of.Goals.{in-Some, in-None+in_ok-states-in-None}
-use Rattle.claims.proofs.states.states_of.Goals as goal
+use Rattle.claims.proofs.states.lent_or_copied.Goals.{in-Some, in-None+in_ok-states-in-None}
+use Rattle.claims.proofs.states.lent_or_copied.Goals as goal
 
 pub invariant_of-kept : goal.invariant_of-kept
 invariant_of-kept g c =
