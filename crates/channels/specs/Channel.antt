@@ -5,5 +5,5 @@ use Rattle.channels.specs.declared.item.Item.{Item}
 pub record Contents (R : Type 0) : Type 0 where
   -- what was sent and not yet taken, in the order of sending
   pub items : List (Item R)
-  -- how many items more the channel takes without memory
+  -- for how many items more room was taken: the channel takes them without memory
   pub room : ℕ

@@ -13,8 +13,8 @@ use std::alloc::Global;
 use std::collections::VecDeque;
 use std::marker::Model;
 
-/// Room is taken for so many items at once, at least: few are sent one by one.
-const ROOM_AT_ONCE: usize = 8;
+/// Memory is taken for so many items more than are asked for: few are sent one by one.
+const ROOM_AT_ONCE: usize = 7;
 
 /// What was sent to a task and not yet taken, in the order of sending.
 #[derive(Drop)]
@@ -24,6 +24,8 @@ pub struct Channel<R: Drop> {
     /// How many records stand behind the last barrier.
     behind: usize,
     /// How many items more each queue takes without memory.
+    spare: usize,
+    /// For how many items of these room was taken.
     room: usize,
 }
 
@@ -41,9 +43,10 @@ impl<R: Drop> Model for Channel<R> {
     } };
 
     ghost invariant = { λ c. (gaps c.barriers.items + c.behind ≡ deque_len c.records)
-        × (deque_len c.records + c.room ≤ deque_capacity c.records)
-        × (deque_len c.barriers + c.room ≤ deque_capacity c.barriers)
-        × (deque_len c.records + deque_len c.barriers + c.room < 2 ^ 64) };
+        × (deque_len c.records + c.spare ≤ deque_capacity c.records)
+        × (deque_len c.barriers + c.spare ≤ deque_capacity c.barriers)
+        × (deque_len c.records + deque_len c.barriers + c.spare < 2 ^ 64)
+        × (c.room ≤ c.spare) };
 }
 
 impl<R: Drop> Channel<R> {
@@ -55,6 +58,7 @@ impl<R: Drop> Channel<R> {
             records: VecDeque::new(alloc),
             barriers: VecDeque::new(alloc),
             behind: 0,
+            spare: 0,
             room: 0,
         }
     }
@@ -71,25 +75,30 @@ impl<R: Drop> Channel<R> {
         self.len() == 0
     }
 
-    /// Takes room for so many items, those included for which there is room already, and for some
-    /// more.
+    /// Takes room for so many items more.
     pub fn reserve(&mut self, count: usize) -> Result<(), NoMemory>
-        ensures room { OnOk result (count ≤ self.new.room) }
-        ensures refused { OnErr result (self.old.room < count) }
-        ensures grows { self.old.room ≤ self.new.room }
-        ensures same { self.new ≡ record self.old { room = self.new.room } }
+        ensures ok { OnOk result (self.new ≡ record self.old { room = self.old.room + count }) }
+        ensures err { OnErr result (self.new ≡ self.old) }
     {
-        if count <= self.room {
-            return Ok(());
+        let room = self.room.checked_add(count).ok_or(NoMemory)?;
+        if self.spare < room {
+            let spare = room.saturating_add(ROOM_AT_ONCE);
+            if self.len().checked_add(spare).is_none() {
+                return Err(NoMemory);
+            }
+            self.records.reserve(spare)?;
+            self.barriers.reserve(spare)?;
+            self.spare = spare;
         }
-        let room = count.max(ROOM_AT_ONCE);
-        if self.len().checked_add(room).is_none() {
-            return Err(NoMemory);
-        }
-        self.records.reserve(room)?;
-        self.barriers.reserve(room)?;
         self.room = room;
         Ok(())
+    }
+
+    /// Leaves the room that was taken.
+    pub fn release(&mut self)
+        ensures { self.new ≡ record self.old { room = 0 } }
+    {
+        self.room = 0;
     }
 
     /// Sends an item. It takes no memory.
@@ -113,6 +122,7 @@ impl<R: Drop> Channel<R> {
                 self.behind = 0;
             }
         }
+        self.spare -= 1;
         self.room -= 1;
     }
 
@@ -147,14 +157,10 @@ impl<R: Drop> Channel<R> {
         }
     }
 
-    /// Takes the item that was sent first. Its room is left.
+    /// Takes the item that was sent first.
     pub fn pop(&mut self) -> Option<Item<R>>
         ensures taken { result ≡ slice_get self.old.items 0 }
-        ensures rest { self.new ≡ record self.old {
-          items = drop 1 self.old.items;
-          room = self.new.room;
-        } }
-        ensures room { self.old.room ≤ self.new.room }
+        ensures rest { self.new ≡ record self.old { items = drop 1 self.old.items } }
     {
         if self.before_barrier() == 0 {
             let barrier = self.barriers.pop_front()?;
@@ -168,15 +174,11 @@ impl<R: Drop> Channel<R> {
         Some(Item::Record(record))
     }
 
-    /// Takes away so many of the records that stand before the first barrier. Their room is left.
+    /// Takes away so many of the records that stand before the first barrier.
     #[inline(always)]
     pub fn skip(&mut self, count: usize)
         requires { count ≤ length (leading_records self.old.items) }
-        ensures rest { self.new ≡ record self.old {
-          items = drop count self.old.items;
-          room = self.new.room;
-        } }
-        ensures room { self.old.room ≤ self.new.room }
+        ensures { self.new ≡ record self.old { items = drop count self.old.items } }
     {
         take_away(&mut self.records, count);
         match self.barriers.front_mut() {

@@ -1,9 +1,9 @@
 -- What a task sends, by the channels that it goes into.
-use Rattle.std.specs.Prelude.{ℕ, List, [], ◌∷◌, map, flat_map, Option, Some, None}
+use Rattle.std.specs.Prelude.{◌≡◌, ℕ, List, [], ◌∷◌, length, map, flat_map, slice_index, IsTrue, Option, Some, None}
 use Rattle.channels.specs.declared.item.Item.{Item}
 use Rattle.channels.specs.declared.item.Item.TheVariants.{Record, Barrier}
-use Rattle.dataflow_model.specs.Graph.{Meaning}
-use Rattle.job_graph.specs.Expanded.{Expanded, targets_of, outputs_of}
+use Rattle.dataflow_model.specs.Graph.{Channel, Meaning}
+use Rattle.job_graph.specs.Expanded.{Expanded, meets, takes, targets_of, outputs_of}
 
 module _ {R : Type 0} where
   -- the barrier that a task sends into each of its outputs
@@ -22,3 +22,7 @@ module _ {R K S O : Type 0} where
 
   abbrev pub deliveries_of : Meaning R K S O → Expanded → ℕ → List (ℕ × R) → List (ℕ × Item R)
   deliveries_of meaning graph task sent = flat_map (deliveries_of_one meaning graph task) sent
+
+-- where there is one channel alone, it takes each record, whatever its lane is
+abbrev pub TakesEach : List Channel → List ℕ → Type 0
+TakesEach channels numbers = length numbers ≡ 1 → (lane : ℕ) → IsTrue (meets (takes lane) channels (slice_index numbers 0))

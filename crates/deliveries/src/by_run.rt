@@ -1,11 +1,12 @@
-//! What a task sends on channels that are one run: each record goes into one of them at most.
+//! What a task sends on channels that are one run: each record goes into one of them.
 
-ghost use Rattle.std.specs.Prelude.{◌≡◌, ◌↔◌, All, IfSome, IsTrue, length};
-ghost use Rattle.deliveries.specs.Deliveries.{deliveries_of_one, delivered_last};
+ghost use Rattle.std.specs.Prelude.{◌≡◌, ◌↔◌, ◌∷◌, [], All, IfSome, IsTrue, length};
+ghost use Rattle.channels.specs.declared.item.Item.TheVariants.{Record};
+ghost use Rattle.deliveries.specs.Deliveries.{deliveries_of_one, TakesEach};
 ghost use Rattle.job_graph.specs.Expanded.{outlets_of};
 ghost use Rattle.job_graph.specs.Runs.{IsRun};
 
-use crate::puts::{sole_run, target};
+use crate::puts::{sole_run, takes_all};
 use job_graph::Graph;
 use operators::Operator;
 
@@ -16,30 +17,43 @@ fn are_first<R>(sent: &[(u32, R)]) -> bool
     sent.iter().all(|each| each.0 == 0)
 }
 
-/// The channels of a task's first port, where they are one run and each of these records is sent on
-/// that port; `None` where they are not. `run_target` tells which of them a record goes into.
+/// Whether each record goes into one of these channels, which are one run.
+fn takes_each(graph: &Graph, numbers: &[u32]) -> bool
+    requires { IsRun graph.now.channels numbers.now 0 (length numbers.now) }
+    ensures { IsTrue result → TakesEach graph.now.channels numbers.now }
+{
+    numbers.len() > 1 || takes_all(graph, numbers[0])
+}
+
+/// The channels of a task's first port, where they are one run, each record goes into one of them,
+/// and each of these records is sent on that port; `None` where it is otherwise. `run_target` tells
+/// which of them a record goes into.
 pub fn only_run<'a, R>(graph: &'a Graph, task: u32, sent: &[(u32, R)]) -> Option<&'a [u32]>
     ensures are { IfSome result (λ numbers. numbers.now ≡ outlets_of graph.now task 0) }
     ensures run { IfSome result (λ numbers. IsRun graph.now.channels numbers.now 0
         (length numbers.now)) }
+    ensures each { IfSome result (λ numbers. TakesEach graph.now.channels numbers.now) }
     ensures first { IfSome result (λ _. All (λ s. s.0 ≡ 0) sent.now) }
 {
     let numbers = sole_run(graph, task, 0)?;
-    if are_first(sent) { Some(numbers) } else { None }
+    if takes_each(graph, numbers) && are_first(sent) {
+        Some(numbers)
+    } else {
+        None
+    }
 }
 
 /// The channel that a record goes into when a task sends it on its first port, whose channels are
-/// these, one run; `None` where none takes it.
-pub fn run_target<O: Operator>(
-    graph: &Graph,
-    task: u32,
-    numbers: &[u32],
-    row: &O::Record,
-) -> Option<u32>
+/// these, one run, one of which takes it.
+pub fn run_target<O: Operator>(graph: &Graph, task: u32, numbers: &[u32], row: &O::Record) -> u32
     requires are { numbers.now ≡ outlets_of graph.now task 0 }
     requires run { IsRun graph.now.channels numbers.now 0 (length numbers.now) }
+    requires each { TakesEach graph.now.channels numbers.now }
     ensures { deliveries_of_one O.meaning graph.now task (0, row.now)
-        ≡ delivered_last row.now result }
+        ≡ (result, Record row.now) ∷ [] }
 {
-    target::<O>(graph, numbers, 0, numbers.len(), row)
+    if numbers.len() == 1 {
+        return numbers[0];
+    }
+    numbers[(O::lane(row) % numbers.len() as u64) as usize]
 }

@@ -29,7 +29,7 @@ fn takes_any(route: Route) -> bool
 }
 
 /// Whether a channel takes each record, whatever its lane is.
-fn takes_all(graph: &Graph, number: u32) -> bool
+pub(crate) fn takes_all(graph: &Graph, number: u32) -> bool
     ensures { IsTrue result → (lane : ℕ) → IsTrue (meets (takes lane) graph.now.channels number) }
 {
     match graph.channel(number) {
@@ -41,7 +41,7 @@ fn takes_all(graph: &Graph, number: u32) -> bool
 /// Of a run of the task's channels, the one that takes this record, if one does. Its lane is
 /// reckoned only where it matters.
 #[inline(always)]
-pub(crate) fn target<O: Operator>(
+fn target<O: Operator>(
     graph: &Graph,
     numbers: &[u32],
     place: usize,

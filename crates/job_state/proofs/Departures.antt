@@ -1,9 +1,8 @@
 -- What a task sends, where there is room for it.
-use Rattle.std.proofs.Common.{◌≡◌, ◌<◌, ◌≤◌, ℕ, List, [], ◌∷◌, ◌++◌, length, map, take, get_or, Some, All, subst, sym, ap, ◌∙◌, arith}
-use Rattle.std.proofs.lemmas.List.{append-nil}
+use Rattle.std.proofs.Common.{◌≡◌, ◌<◌, ◌≤◌, ℕ, List, [], ◌∷◌, ◌+◌, ◌++◌, length, map, take, drop, get_or, slice_set, Some, All, subst, sym, ap, ◌∙◌, arith}
+use Rattle.std.proofs.lemmas.List.{append-nil, get_or_default, map-append, length-map, length-set, get_or-map, take-map, take_more, take_more_set, drop_more, drop-set}
 use Rattle.std.proofs.lemmas.List.Concat.{flat_map-append}
 use Rattle.std.proofs.lemmas.List.Elements.{All-filter, All-map}
-use Rattle.channels.specs.Channel.{Contents}
 use Rattle.channels.specs.Items.{leading_records}
 use Rattle.channels.specs.declared.item.Item.{Item}
 use Rattle.channels.specs.declared.item.Item.TheVariants.{Record, Barrier}
@@ -11,9 +10,7 @@ use Rattle.dataflow_model.specs.Graph.{Meaning}
 use Rattle.deliveries.specs.Deliveries.{deliveries_of, deliveries_of_one, delivered_last}
 use Rattle.job_graph.specs.Expanded.{Expanded, meets, takes, is_outlet, outlets_of, targets_of}
 use Rattle.job_graph.proofs.Targets.{targets_are}
-use Rattle.job_state.specs.Sending.{room_at, put_into, IsReady}
-use Rattle.job_state.specs.declared.ready.Ready.{Ready}
-use Rattle.job_state.proofs.Putting.{put_into_append}
+use Rattle.job_state.specs.Sending.{as_puts}
 use Rattle.job_state.proofs.Received.{numbers_below}
 
 -- records that stand first stand before the first barrier
@@ -22,6 +19,20 @@ leads [] items first = omega arith
 leads (row ∷ rows) [] first = absurd cc
 leads (row ∷ rows) (Record r ∷ items) first = let rest : take (length rows) items ≡ map Record rows = cc in omega (arith, leads rows items rest)
 leads (row ∷ rows) (Barrier n ∷ items) first = absurd cc
+
+module _ {R : Type 0} where
+  -- a record with its channel, as the item that comes next
+  pub next_put : (rows : List (ℕ × R)) (i : ℕ) (row : ℕ × R) → i < length rows → row ≡ get_or rows i row → (i < length (as_puts rows)) × ((row.0, Record row.1) ≡ get_or (as_puts rows) i (row.0, Record row.1))
+  next_put rows i row within is =
+      let put : ℕ × R → ℕ × Item R = λ r. (r.0, Record r.1) in
+      (omega (arith, within, length-map rows put), ap put is ∙ sym (get_or-map put rows i row (row.0, Record row.1) within))
+
+  pub puts_so_far : (rows yielded : List (ℕ × R)) → yielded ≡ take (length yielded) rows → as_puts yielded ≡ take (length yielded) (as_puts rows)
+  puts_so_far rows yielded so_far = let put : ℕ × R → ℕ × Item R = λ r. (r.0, Record r.1) in ap as_puts so_far ∙ sym (take-map put (length yielded) rows)
+
+  -- one record more is put
+  pub one_put_more : (rows : List (ℕ × R)) (row : ℕ × R) → as_puts (rows ++ row ∷ []) ≡ as_puts rows ++ (row.0, Record row.1) ∷ []
+  one_put_more rows row = let put : ℕ × R → ℕ × Item R = λ r. (r.0, Record r.1) in map-append put rows (row ∷ [])
 
 module _ {R K S O : Type 0} (meaning : Meaning R K S O) (graph : Expanded) (task : ℕ) where
   pub outlets_below : (port : ℕ) → All (λ n. n < length graph.channels) (outlets_of graph task port)
@@ -39,24 +50,26 @@ module _ {R K S O : Type 0} (meaning : Meaning R K S O) (graph : Expanded) (task
   sent_more : (sent : List (ℕ × R)) (one : ℕ × R) → deliveries_of meaning graph task (sent ++ one ∷ []) ≡ deliveries_of meaning graph task sent ++ deliveries_of_one meaning graph task one
   sent_more sent one = flat_map-append (deliveries_of_one meaning graph task) sent (one ∷ []) ∙ ap (λ l. deliveries_of meaning graph task sent ++ l) (append-nil (deliveries_of_one meaning graph task one))
 
-  -- what goes into a channel once one record more is sent
-  pub put_more : (sent : List (ℕ × R)) (one : ℕ × R) (puts : List (ℕ × Item R)) (number : ℕ) → deliveries_of_one meaning graph task one ≡ puts →
-      put_into number (deliveries_of meaning graph task sent) ++ put_into number puts ≡ put_into number (deliveries_of meaning graph task (sent ++ one ∷ []))
-  put_more sent one puts number goes =
-      sym (ap (put_into number) (sent_more sent one ∙ ap (λ l. deliveries_of meaning graph task sent ++ l) goes) ∙ put_into_append number (deliveries_of meaning graph task sent) puts)
+  -- the first record that was not told its channel yet is told it
+  pub row_told : (rows old : List (ℕ × R)) (i number : ℕ) (seen was : ℕ × R) → i < length rows → i < length old → drop i rows ≡ drop i old → seen ≡ get_or rows i seen → was ≡ get_or rows i was → All (λ s. s.0 ≡ 0) old →
+      deliveries_of_one meaning graph task (0, seen.1) ≡ (number, Record seen.1) ∷ [] → as_puts (take i rows) ≡ deliveries_of meaning graph task (take i old) →
+      as_puts (take (i + 1) (slice_set rows i (number, was.1))) ≡ deliveries_of meaning graph task (take (i + 1) old)
+  row_told rows old i number seen was inside within others is was_is first goes told =
+      let same : get_or old i seen ≡ seen = ap (λ l. get_or l 0 seen) (sym (drop_more old i seen within) ∙ sym others ∙ drop_more rows i seen inside) ∙ sym is in
+      let one : was ≡ seen = was_is ∙ get_or_default rows i was seen inside ∙ sym is in
+      let port : seen.0 ≡ 0 = ap (λ s. s.0) (sym same) ∙ first i seen within in
+      let sent : (number, Record seen.1) ∷ [] ≡ deliveries_of_one meaning graph task (get_or old i seen) =
+      sym goes ∙ ap (λ n. deliveries_of_one meaning graph task (n, seen.1)) (sym port) ∙ ap (deliveries_of_one meaning graph task) (sym same) in
+      ap as_puts (take_more_set rows i (number, was.1) inside)
+      ∙ map-append (λ p. (p.0, Record p.1)) (take i rows) ((number, was.1) ∷ [])
+      ∙ ap (λ l. l ++ (number, Record was.1) ∷ []) told
+      ∙ ap (λ s. deliveries_of meaning graph task (take i old) ++ (number, Record s.1) ∷ []) one
+      ∙ ap (λ l. deliveries_of meaning graph task (take i old) ++ l) sent
+      ∙ sym (sent_more (take i old) (get_or old i seen))
+      ∙ ap (deliveries_of meaning graph task) (sym (take_more old i seen within))
 
-  -- where room was taken, or left
-  pub ready_kept : (old new : List (Contents R)) (sent : List (ℕ × R)) (ready : Ready R) → ((number : ℕ) → room_at old number ≤ room_at new number) → IsReady meaning graph task old sent ready → IsReady meaning graph task new sent ready
-  ready_kept old new sent (Ready.One number row) grows is = (is.0, omega (arith, is.1, grows number))
-  ready_kept old new sent (Ready.Run rows) grows is = (
-    is.0,
-    record {
-      first = is.1.first;
-      run = is.1.run;
-      room = λ k d h. omega (arith, is.1.room k d h, grows (get_or (outlets_of graph task 0) k d));
-    },
-  )
-  ready_kept old new sent (Ready.Each puts) grows is = (is.0, λ k d h. omega (arith, is.1 k d h, grows (get_or puts.items k d).0))
-
-  pub ready_at : {channels was : List (Contents R)} (sent : List (ℕ × R)) (ready : Ready R) → channels ≡ was → IsReady meaning graph task was sent ready → IsReady meaning graph task channels sent ready
-  ready_at sent ready same is = subst (λ l. IsReady meaning graph task l sent ready) (sym same) is
+-- what was not told yet is as it was, behind the one that is told
+pub left_behind : {X : Type 0} (rows old : List X) (i : ℕ) (d x : X) → i < length rows → i < length old → drop i rows ≡ drop i old → drop (i + 1) (slice_set rows i x) ≡ drop (i + 1) old
+left_behind rows old i d x inside within others =
+    ap (λ l. drop 1 l) (sym (drop_more (slice_set rows i x) i d (omega (arith, inside, length-set rows i x))) ∙ drop-set rows i x inside)
+    ∙ ap (λ l. drop 1 l) (sym (drop_more rows i d inside) ∙ others ∙ drop_more old i d within)

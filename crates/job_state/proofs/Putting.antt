@@ -1,8 +1,8 @@
 -- Channels, as items are put into them.
-use Rattle.std.proofs.Common.{◌≡◌, ◌<◌, ◌≤◌, ◌+◌, ◌-◌, ◌==◌, ℕ, zero, suc, List, [], ◌∷◌, ◌++◌, length, map, filter, take, drop, get_or, Some, slice_get, slice_set, unwrap_or, All, subst, sym, ap, ◌∙◌, arith, inl, inr}
+use Rattle.std.proofs.Common.{◌≡◌, ◌<◌, ◌≤◌, ◌+◌, ◌-◌, ◌==◌, ℕ, zero, suc, List, [], ◌∷◌, ◌++◌, length, map, filter, take, drop, get_or, Some, slice_get, slice_set, unwrap_or, refl, subst, sym, ap, ◌∙◌, arith, inl, inr}
 use Rattle.std.specs.Option.{option_map, option_map_or}
 use Rattle.std.proofs.lemmas.Bool.Decides.{eqb_tells}
-use Rattle.std.proofs.lemmas.List.{map-set, map-append, append-nil, take_all, set_past, length-map, length-set, length-append, set-set}
+use Rattle.std.proofs.lemmas.List.{map-set, map-append, append-nil, set_past, get_or_default, length-map, length-set, length-append, set-set, take_more, take-append-drop}
 use Rattle.std.proofs.lemmas.List.Elements.{filter-append}
 use Rattle.std.proofs.lemmas.Option.{slice_get-map}
 use Rattle.channels.specs.Channel.{Contents}
@@ -102,16 +102,82 @@ module _ {R : Type 0} where
   pub is_there : (count : ℕ) (puts : List (ℕ × Item R)) (i : ℕ) (p : ℕ × Item R) → AreChannels count puts → i < length puts → p ≡ get_or puts i p → p.0 < count
   is_there count puts i p all within is = omega (arith, all i p within, ap (λ q. q.0) is)
 
-  pub room_pushed : (channels : List (Contents R)) (n : ℕ) (was new : Contents R) (item : Item R) → n < length channels → slice_get channels n ≡ Some was → 0 < was.room → new ≡ record { items = was.items ++ item ∷ []; room = was.room - 1 } → (k : ℕ) → room_at channels k ≤ room_at (slice_set channels n new) k + 1
-  room_pushed channels n was new item within is room pushed = room_moved channels n was new 1 within is (omega (arith, room, ap (λ c. c.room) pushed))
+  -- how many of one item go into a channel
+  into_here : (n : ℕ) (item : Item R) → length (put_into n ((n, item) ∷ [])) ≡ 1
+  into_here n item = elim (eqb_tells n n) [ inl h ↦ rw h.0 refl | inr h ↦ absurd (h.1 refl) ]
 
-  pub has_room : (channels : List (Contents R)) (met : ℕ) (puts : List (ℕ × Item R)) (p : ℕ × Item R) (was : Contents R) → All (λ q. length puts ≤ room_at channels q.0 + met) puts → met < length puts → p ≡ get_or puts met p → slice_get channels p.0 ≡ Some was → 0 < was.room
-  has_room channels met puts p was room within is here = omega (arith, room met p within, ap (λ q. room_at channels q.0) is, room_here channels p.0 was here)
+  into_other : (n k : ℕ) (item : Item R) → (n ≡ k → ⊥) → length (put_into k ((n, item) ∷ [])) ≡ 0
+  into_other n k item other = elim (eqb_tells n k) [ inl h ↦ absurd (other h.1) | inr h ↦ rw h.0 refl ]
+
+  -- an item was put last into one channel, for which there was room
+  pub room_pushed : (channels : List (Contents R)) (n : ℕ) (was new : Contents R) (item : Item R) → n < length channels → slice_get channels n ≡ Some was → 0 < was.room → new ≡ record { items = was.items ++ item ∷ []; room = was.room - 1 } →
+      (k : ℕ) → room_at channels k ≤ room_at (slice_set channels n new) k + length (put_into k ((n, item) ∷ []))
+  room_pushed channels n was new item within is room pushed k =
+      elim (eqb_tells n k) [
+        | inl h ↦
+            omega (
+              arith,
+              room,
+              into_here n item,
+              ap (λ j. length (put_into j ((n, item) ∷ []))) h.1,
+              room_moved channels n was new 1 within is (omega (arith, room, ap (λ c. c.room) pushed)) k,
+            )
+        | inr h ↦ omega (arith, into_other n k item h.1, ap (λ o. option_map_or (λ c. c.room) o 0) (get_set_other channels n k new (λ e. h.1 (sym e))))
+      ]
+
+  -- room was taken in one channel for one item
+  pub room_reserved : (channels : List (Contents R)) (n : ℕ) (was new : Contents R) (item : Item R) → n < length channels → slice_get channels n ≡ Some was → new ≡ record was { room = was.room + 1 } →
+      (k : ℕ) → room_at channels k + length (put_into k ((n, item) ∷ [])) ≤ room_at (slice_set channels n new) k
+  room_reserved channels n was new item within is reserved k =
+      elim (eqb_tells n k) [
+        | inl h ↦
+            omega (
+              arith,
+              into_here n item,
+              ap (λ j. length (put_into j ((n, item) ∷ []))) h.1,
+              ap (room_at channels) h.1,
+              ap (room_at (slice_set channels n new)) h.1,
+              room_here channels n was is,
+              room_here (slice_set channels n new) n new (get_set_same channels n new within),
+              ap (λ c. c.room) reserved,
+            )
+        | inr h ↦ omega (arith, into_other n k item h.1, ap (λ o. option_map_or (λ c. c.room) o 0) (get_set_other channels n k new (λ e. h.1 (sym e))))
+      ]
+
+  -- the items put so far are the first of all
+  put_first : (k : ℕ) (puts : List (ℕ × Item R)) (i : ℕ) → length (put_into k (take i puts)) ≤ length (put_into k puts)
+  put_first k puts i =
+      omega (
+        arith,
+        ap (λ l. length (put_into k l)) (take-append-drop i puts),
+        ap (λ l. length l) (put_into_append k (take i puts) (drop i puts)),
+        length-append (put_into k (take i puts)) (put_into k (drop i puts)),
+      )
+
+  -- for one item more
+  pub put_more_of : (k : ℕ) (puts : List (ℕ × Item R)) (i : ℕ) (p : ℕ × Item R) → i < length puts → p ≡ get_or puts i p → length (put_into k (take (i + 1) puts)) ≡ length (put_into k (take i puts)) + length (put_into k (p ∷ []))
+  put_more_of k puts i p within is =
+      ap (λ l. length (put_into k l)) (take_more puts i p within ∙ ap (λ q. take i puts ++ q ∷ []) (sym is)) ∙ ap (λ l. length l) (put_into_append k (take i puts) (p ∷ [])) ∙ length-append (put_into k (take i puts)) (put_into k (p ∷ []))
+
+  -- there is room for the item that comes next
+  pub has_room : (channels : List (Contents R)) (met : ℕ) (puts : List (ℕ × Item R)) (p : ℕ × Item R) (was : Contents R) → ((k : ℕ) → length (put_into k puts) ≤ room_at channels k + length (put_into k (take met puts))) → met < length puts → p ≡ get_or puts met p → slice_get channels p.0 ≡ Some was → 0 < was.room
+  has_room channels met puts p was room within is here =
+      omega (arith, room p.0, put_first p.0 puts (met + 1), put_more_of p.0 puts met p within is, into_here p.0 p.1, room_here channels p.0 was here)
+
+  pub room_for_one : (channels : List (Contents R)) (n : ℕ) (item : Item R) → 1 ≤ room_at channels n → HasRoom channels ((n, item) ∷ [])
+  room_for_one channels n item room k =
+      elim (eqb_tells n k) [
+        | inl h ↦ omega (arith, room, into_here n item, ap (λ j. length (put_into j ((n, item) ∷ []))) h.1, ap (room_at channels) h.1)
+        | inr h ↦ omega (arith, into_other n k item h.1)
+      ]
+
+  -- where there is room there are channels
+  pub room_there : (channels : List (Contents R)) (puts : List (ℕ × Item R)) → HasRoom channels puts → AreChannels (length channels) puts
+  room_there channels puts room k d within =
+      let p = get_or puts k d in
+      room_within channels p.0 (omega (arith, room p.0, put_first p.0 puts (k + 1), put_more_of p.0 puts k p within (get_or_default puts k d p within), into_here p.0 p.1))
 
 -- of one alone, that one is taken
 pub popped_alone : {X : Type 0} (old new : List X) (x y : X) → old ≡ x ∷ [] → old ≡ new ++ y ∷ [] → x ≡ y
 popped_alone old [] x y one is = let e : x ∷ [] ≡ y ∷ [] = sym one ∙ is in cc
 popped_alone old (n ∷ ns) x y one is = absurd (omega (arith, ap length one, ap length is, length-append ns (y ∷ [])))
-
-pub all_of_take : {X : Type 0} (P : X → Type 0) (xs : List X) (i : ℕ) → length xs ≤ i → All P (take i xs) → All P xs
-all_of_take P xs i past all = subst (All P) (take_all i xs past) all

@@ -6,8 +6,7 @@ use Rattle.channels.specs.declared.item.Item.{Item}
 use Rattle.channels.specs.declared.item.Item.TheVariants.{Barrier, Record}
 use Rattle.dataflow_model.specs.Graph.{Channel, Meaning}
 use Rattle.deliveries.specs.Deliveries.{deliveries_of}
-use Rattle.job_graph.specs.Expanded.{Expanded, outlets_of}
-use Rattle.job_graph.specs.Runs.{IsRun}
+use Rattle.job_graph.specs.Expanded.{Expanded}
 use Rattle.job_state.specs.declared.ready.Ready.{Ready}
 
 module _ {R : Type 0} where
@@ -35,9 +34,13 @@ module _ {R : Type 0} where
   abbrev pub room_at : List (Contents R) → ℕ → ℕ
   room_at channels number = option_map_or (λ c. c.room) (slice_get channels number) 0
 
-  -- all of these can be put into their channels, in any order, without memory
+  -- each channel has room for those of these that are for it
   abbrev pub HasRoom : List (Contents R) → List (ℕ × Item R) → Type 0
-  HasRoom channels puts = All (λ p. length puts ≤ room_at channels p.0) puts
+  HasRoom channels puts = (number : ℕ) → length (put_into number puts) ≤ room_at channels number
+
+  -- records, each with the channel that it is put into, as items
+  abbrev pub as_puts : List (ℕ × R) → List (ℕ × Item R)
+  as_puts rows = map (λ p. (p.0, Record p.1)) rows
 
   abbrev pub AreChannels : ℕ → List (ℕ × Item R) → Type 0
   AreChannels count puts = All (λ p. p.0 < count) puts
@@ -55,15 +58,9 @@ GoesInto meaning graph task number row = deliveries_of meaning graph task ((0, r
 abbrev pub IsOneInto : {R K S O : Type 0} → Meaning R K S O → Expanded → ℕ → ℕ → List (ℕ × R) → Type 0
 IsOneInto {R} meaning graph task number sent = (port : ℕ) × (row : R) × (sent ≡ (port, row) ∷ []) × (deliveries_of meaning graph task sent ≡ (number, Record row) ∷ [])
 
-module _ {R : Type 0} (graph : Expanded) (task : ℕ) where
-  -- all of these are sent on the task's first port, whose channels are one run, and each of those has room for all
-  pub record IsRunReady (channels : List (Contents R)) (sent : List (ℕ × R)) : Type 0 where
-    pub first : All (λ s. s.0 ≡ 0) sent
-    pub run : IsRun graph.channels (outlets_of graph task 0) 0 (length (outlets_of graph task 0))
-    pub room : All (λ number. length sent ≤ room_at channels number) (outlets_of graph task 0)
-
--- what the task sends can be put into its channels without memory
-abbrev pub IsReady : {R K S O : Type 0} → Meaning R K S O → Expanded → ℕ → List (Contents R) → List (ℕ × R) → Ready R → Type 0
-IsReady meaning graph task channels sent (Ready.One number row) = (deliveries_of meaning graph task sent ≡ (number, Record row) ∷ []) × (1 ≤ room_at channels number)
-IsReady meaning graph task channels sent (Ready.Run rows) = (rows.items ≡ sent) × IsRunReady graph task channels sent
-IsReady meaning graph task channels sent (Ready.Each puts) = (puts.items ≡ deliveries_of meaning graph task sent) × HasRoom channels puts.items
+module _ {R : Type 0} where
+  -- what a task sends, each with the channel that it is put into
+  abbrev pub puts_of : Ready R → List (ℕ × Item R)
+  puts_of (Ready.One number row) = (number, Record row) ∷ []
+  puts_of (Ready.Rows rows) = as_puts rows.items
+  puts_of (Ready.Each puts) = puts.items

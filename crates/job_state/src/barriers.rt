@@ -7,7 +7,7 @@ ghost use Rattle.alignment.specs.Table.{IsFor};
 use crate::attempt::Attempt;
 use crate::gates::note_barrier;
 use crate::logs::close;
-use crate::sending::{pass_on, reserve_barriers, send_barriers, take_head};
+use crate::sending::{pass_on, release_all, reserve_barriers, send_barriers, take_head};
 use crate::tasks::{copy_names, copy_offset, copy_states};
 use abs_codec::{Items, NoMemory};
 use commit_sink::Sink;
@@ -77,7 +77,10 @@ impl<O: Operator> Attempt<O> {
         ensures err { OnErr result (self.new ≡ self.old) }
     {
         let puts = reserve_barriers(self.alloc, &mut self.channels, graph, task, checkpoint)?;
-        copy_states(&mut self.tasks, task)?;
+        let Ok(()) = copy_states(&mut self.tasks, task) else {
+            release_all(&mut self.channels);
+            return Err(NoMemory);
+        };
         let _ = pass_on(&mut self.channels, channel, puts);
         note_barrier(&mut self.gates, task, input, checkpoint);
         close(&mut self.logs, channel);

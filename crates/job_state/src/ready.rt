@@ -1,10 +1,12 @@
 //! What a task sends, once there is room for it.
 
 ghost use Rattle.std.specs.Prelude.{◌≡◌, ◌<◌, ◌≤◌, ◌++◌, ℕ, List, All, length, OnOk, IfOk, IfSome};
-ghost use Rattle.deliveries.specs.Deliveries.{deliveries_of};
-ghost use Rattle.job_state.specs.Sending.{contents_items, items_at, put_into, room_at, IsOneInto, IsReady, IsRunReady};
+ghost use Rattle.deliveries.specs.Deliveries.{deliveries_of, TakesEach};
+ghost use Rattle.job_graph.specs.Expanded.{outlets_of};
+ghost use Rattle.job_graph.specs.Runs.{IsRun};
+ghost use Rattle.job_state.specs.Sending.{contents_items, items_at, put_into, as_puts, room_at, HasRoom, IsOneInto, puts_of};
 
-use crate::sending::{push_all, reserve_deliveries};
+use crate::sending::{push_all, release_all, reserve_deliveries};
 use abs_codec::NoMemory;
 use channels::{Channel, Item};
 use deliveries::{only_run, run_target, sole_target};
@@ -18,8 +20,8 @@ use std::mem::replace;
 pub(crate) enum Ready<R> {
     /// One record, with the one channel that it goes into.
     One(u32, R),
-    /// Records that are all sent on the first port, whose channels are one run.
-    Run(Vec<(u32, R)>),
+    /// Records, each with the one channel that it goes into.
+    Rows(Vec<(u32, R)>),
     /// Items, each with its channel.
     Each(Vec<(u32, Item<R>)>),
 }
@@ -34,18 +36,32 @@ fn reserve_one<R: Drop>(channels: &mut [Channel<R>], number: u32) -> Result<(), 
     Ok(())
 }
 
-/// Takes room for so many items in each of these channels.
-fn reserve_each<R: Drop>(
-    channels: &mut [Channel<R>],
+/// Tells each record that a task sends the channel that it goes into, in place of its port, and
+/// takes the room for it there. All are sent on the first port, whose channels are these, one run.
+fn reserve_rows<O: Operator>(
+    channels: &mut [Channel<O::Record>],
+    graph: &Graph,
+    task: u32,
     numbers: &[u32],
-    count: usize,
+    rows: &mut Vec<(u32, O::Record)>,
 ) -> Result<(), NoMemory>
-    requires { All (λ n. n < length channels.old) numbers.now }
-    ensures room { OnOk result (All (λ n. count ≤ room_at channels.new n) numbers.now) }
+    requires channels { length channels.old ≡ length graph.now.channels }
+    requires are { numbers.now ≡ outlets_of graph.now task 0 }
+    requires run { IsRun graph.now.channels numbers.now 0 (length numbers.now) }
+    requires each { TakesEach graph.now.channels numbers.now }
+    requires first { All (λ s. s.0 ≡ 0) rows.old.items }
+    ensures puts { OnOk result (as_puts rows.new.items
+        ≡ deliveries_of O.meaning graph.now task rows.old.items) }
+    ensures room { OnOk result (HasRoom channels.new (as_puts rows.new.items)) }
     ensures same { contents_items channels.new ≡ contents_items channels.old }
 {
-    for number in numbers {
-        channels[*number as usize].reserve(count)?;
+    for place in 0..rows.len() {
+        let number = run_target::<O>(graph, task, numbers, &rows[place].1);
+        let Ok(()) = channels[number as usize].reserve(1) else {
+            release_all(channels);
+            return Err(NoMemory);
+        };
+        rows[place].0 = number;
     }
     Ok(())
 }
@@ -73,7 +89,9 @@ pub(crate) fn make_ready<O: Operator>(
     sent: &mut Vec<(u32, O::Record)>,
 ) -> Result<Ready<O::Record>, NoMemory>
     requires { length channels.old ≡ length graph.now.channels }
-    ensures ready { IfOk result (IsReady O.meaning graph.now task channels.new sent.old.items) }
+    ensures puts { IfOk result (λ ready. puts_of ready
+        ≡ deliveries_of O.meaning graph.now task sent.old.items) }
+    ensures room { IfOk result (λ ready. HasRoom channels.new (puts_of ready)) }
     ensures same { contents_items channels.new ≡ contents_items channels.old }
 {
     if let Some(number) = target_of_one::<O>(graph, task, sent) {
@@ -91,59 +109,42 @@ fn make_all_ready<O: Operator>(
     channels: &mut [Channel<O::Record>],
     graph: &Graph,
     task: u32,
-    sent: Vec<(u32, O::Record)>,
+    mut sent: Vec<(u32, O::Record)>,
 ) -> Result<Ready<O::Record>, NoMemory>
     requires { length channels.old ≡ length graph.now.channels }
-    ensures ready { IfOk result (IsReady O.meaning graph.now task channels.new sent.items) }
+    ensures puts { IfOk result (λ ready. puts_of ready
+        ≡ deliveries_of O.meaning graph.now task sent.items) }
+    ensures room { IfOk result (λ ready. HasRoom channels.new (puts_of ready)) }
     ensures same { contents_items channels.new ≡ contents_items channels.old }
 {
     if let Some(numbers) = only_run(graph, task, &sent) {
-        reserve_each(channels, numbers, sent.len())?;
-        return Ok(Ready::Run(sent));
+        reserve_rows::<O>(channels, graph, task, numbers, &mut sent)?;
+        return Ok(Ready::Rows(sent));
     }
     let puts = reserve_deliveries::<O>(alloc, channels, graph, task, sent)?;
     Ok(Ready::Each(puts))
 }
 
-/// Puts records that are all sent on a task's first port, whose channels are one run, last in the
-/// channels that take them. It takes no memory.
-fn push_run<O: Operator>(
-    channels: &mut [Channel<O::Record>],
-    graph: &Graph,
-    task: u32,
-    sent: Vec<(u32, O::Record)>,
-)
-    requires channels { length channels.old ≡ length graph.now.channels }
-    requires ready { IsRunReady graph.now task channels.old sent.items }
+/// Puts each record last in its channel. It takes no memory.
+fn push_rows<R: Drop>(channels: &mut [Channel<R>], rows: Vec<(u32, R)>)
+    requires { HasRoom channels.old (as_puts rows.items) }
     ensures { (number : ℕ) → items_at (contents_items channels.new) number
-        ≡ items_at (contents_items channels.old) number
-        ++ put_into number (deliveries_of O.meaning graph.now task sent.items) }
+        ≡ items_at (contents_items channels.old) number ++ put_into number (as_puts rows.items) }
 {
-    let numbers = graph.outlets(task, 0);
-    for (_, row) in sent {
-        if let Some(number) = run_target::<O>(graph, task, numbers, &row) {
-            channels[number as usize].push_reserved(Item::Record(row));
-        }
+    for (number, row) in rows {
+        channels[number as usize].push_reserved(Item::Record(row));
     }
 }
 
 /// Puts what a task sends last in its channels. It takes no memory.
-pub(crate) fn push_ready<O: Operator>(
-    channels: &mut [Channel<O::Record>],
-    graph: &Graph,
-    task: u32,
-    ready: Ready<O::Record>,
-)
-    ghost sent: { List (ℕ × O.Record) }
-    requires channels { length channels.old ≡ length graph.now.channels }
-    requires ready { IsReady O.meaning graph.now task channels.old sent ready }
+pub(crate) fn push_ready<R: Drop>(channels: &mut [Channel<R>], ready: Ready<R>)
+    requires { HasRoom channels.old (puts_of ready) }
     ensures { (number : ℕ) → items_at (contents_items channels.new) number
-        ≡ items_at (contents_items channels.old) number
-        ++ put_into number (deliveries_of O.meaning graph.now task sent) }
+        ≡ items_at (contents_items channels.old) number ++ put_into number (puts_of ready) }
 {
     match ready {
         Ready::One(number, row) => channels[number as usize].push_reserved(Item::Record(row)),
-        Ready::Run(rows) => push_run::<O>(channels, graph, task, rows),
+        Ready::Rows(rows) => push_rows(channels, rows),
         Ready::Each(puts) => push_all(channels, puts),
     }
 }

@@ -10,7 +10,7 @@ use crate::gates::is_logged;
 use crate::logs::{drop_last, log_copy, log_taken, reserve_log};
 use crate::ready::make_ready;
 use crate::sending::{
-    before_barrier, first, pass_on, reserve_deliveries, send_record, skip, take_head,
+    before_barrier, first, pass_on, release_all, reserve_deliveries, send_record, skip, take_head,
 };
 use crate::taking::pass_on_all;
 use crate::tasks::{advance, keep, keep_all};
@@ -90,7 +90,10 @@ impl<O: Operator> Attempt<O> {
         let logged = is_logged(&self.gates, task, input);
         reserve_log(&mut self.logs, channel, logged, 1)?;
         let puts = reserve_deliveries::<O>(self.alloc, &mut self.channels, graph, task, sent)?;
-        keep::<O>(&mut self.tasks, task, key, state)?;
+        let Ok(()) = keep::<O>(&mut self.tasks, task, key, state) else {
+            release_all(&mut self.channels);
+            return Err(NoMemory);
+        };
         let taken = pass_on(&mut self.channels, channel, puts);
         log_taken(&mut self.logs, channel, logged, taken);
         Ok(())
@@ -143,12 +146,13 @@ impl<O: Operator> Attempt<O> {
         let logged = is_logged(&self.gates, task, input);
         reserve_log(&mut self.logs, channel, logged, count)?;
         let ready = make_ready::<O>(self.alloc, &mut self.channels, graph, task, sent)?;
-        keep_all(self.alloc, &mut self.tasks, task, states, expected)?;
-        pass_on_all::<O>(
+        if let Err(fault) = keep_all(self.alloc, &mut self.tasks, task, states, expected) {
+            release_all(&mut self.channels);
+            return Err(fault);
+        }
+        pass_on_all(
             &mut self.channels,
             &mut self.logs,
-            graph,
-            task,
             channel,
             logged,
             count,

@@ -16,6 +16,17 @@ use job_graph::Graph;
 use operators::Operator;
 use std::alloc::Global;
 
+/// Leaves the room that was taken in any channel.
+#[inline(never)]
+pub(crate) fn release_all<R: Drop>(channels: &mut [Channel<R>])
+    ensures room { (number : ℕ) → room_at channels.new number ≡ 0 }
+    ensures same { contents_items channels.new ≡ contents_items channels.old }
+{
+    for number in 0..channels.len() {
+        channels[number].release();
+    }
+}
+
 /// Takes the room for all of these.
 pub(crate) fn reserve_all<R: Drop>(
     channels: &mut [Channel<R>],
@@ -26,7 +37,10 @@ pub(crate) fn reserve_all<R: Drop>(
     ensures same { contents_items channels.new ≡ contents_items channels.old }
 {
     for put in puts {
-        channels[put.0 as usize].reserve(puts.len())?;
+        let Ok(()) = channels[put.0 as usize].reserve(1) else {
+            release_all(channels);
+            return Err(NoMemory);
+        };
     }
     Ok(())
 }
@@ -145,7 +159,7 @@ pub(crate) fn record_at<R: Drop>(channels: &[Channel<R>], channel: u32, index: u
     channels.get(channel as usize)?.record(index)
 }
 
-/// Takes the first item of a channel, if there is one. Its room is left.
+/// Takes the first item of a channel, if there is one.
 #[inline(always)]
 pub(crate) fn take_head<R: Drop>(channels: &mut [Channel<R>], channel: u32) -> Option<Item<R>>
     ensures taken { result ≡ slice_get (items_at (contents_items channels.old) channel) 0 }
@@ -161,8 +175,7 @@ pub(crate) fn take_head<R: Drop>(channels: &mut [Channel<R>], channel: u32) -> O
     }
 }
 
-/// Takes away so many of the records that stand first in a channel, before a barrier. Their room is
-/// left.
+/// Takes away so many of the records that stand first in a channel, before a barrier.
 #[inline(always)]
 pub(crate) fn skip<R: Drop>(channels: &mut [Channel<R>], channel: u32, count: usize)
     requires { count ≤ length (leading_records (items_at (contents_items channels.old) channel)) }

@@ -4,18 +4,15 @@ ghost use Rattle.std.specs.Prelude.{◌≡◌, ◌<◌, ◌≤◌, ℕ, List, tr
 ghost use Rattle.backedge_log.specs.Recorded.{log_at};
 ghost use Rattle.channels.specs.Items.{leading_records};
 ghost use Rattle.channels.specs.declared.item.Item.TheVariants.{Record};
-ghost use Rattle.deliveries.specs.Deliveries.{deliveries_of};
 ghost use Rattle.job_state.specs.AtOnce.{without_first, log_with_all};
 ghost use Rattle.job_state.specs.Inside.{came_of, records_of};
-ghost use Rattle.job_state.specs.Sending.{contents_items, items_at, put_into, room_at, IsReady, Puts};
+ghost use Rattle.job_state.specs.Sending.{contents_items, items_at, put_into, room_at, HasRoom, Puts, puts_of};
 
 use crate::logs::log_taken;
 use crate::ready::{Ready, push_ready};
 use crate::sending::{skip, take_head};
 use backedge_log::Logs;
 use channels::Channel;
-use job_graph::Graph;
-use operators::Operator;
 
 /// Takes the first records of a channel, and logs them, if they are to be logged. It takes no
 /// memory.
@@ -49,30 +46,26 @@ fn take_all<R: Drop>(
 
 /// Takes the first records of a channel, logs them, if they are to be logged, and puts what the
 /// task sends last in its channels. It takes no memory.
-pub(crate) fn pass_on_all<O: Operator>(
-    channels: &mut [Channel<O::Record>],
-    logs: &mut Logs<O::Record>,
-    graph: &Graph,
-    task: u32,
+pub(crate) fn pass_on_all<R: Drop>(
+    channels: &mut [Channel<R>],
+    logs: &mut Logs<R>,
     channel: u32,
     is_logged: bool,
     count: usize,
-    ready: Ready<O::Record>,
+    ready: Ready<R>,
 )
-    ghost sent: { List (ℕ × O.Record) }
-    requires channels { length channels.old ≡ length graph.now.channels }
     requires within { channel < length logs.old }
     requires spare { is_logged ≡ true → count ≤ (log_at logs.old channel).room }
     requires records { count ≤ length (leading_records (items_at (contents_items channels.old)
         channel)) }
-    requires ready { IsReady O.meaning graph.now task channels.old sent ready }
-    ensures puts { Puts (λ number. put_into number (deliveries_of O.meaning graph.now task sent))
+    requires room { HasRoom channels.old (puts_of ready) }
+    ensures puts { Puts (λ number. put_into number (puts_of ready))
         (without_first count channel (contents_items channels.old)) (contents_items channels.new) }
     ensures came { came_of logs.new ≡ came_of logs.old }
-    ensures logged { (rows : List O.Record) → count ≡ length rows
+    ensures logged { (rows : List R) → count ≡ length rows
         → take count (items_at (contents_items channels.old) channel) ≡ map Record rows
         → records_of logs.new ≡ log_with_all is_logged channel rows (records_of logs.old) }
 {
     take_all(channels, logs, channel, is_logged, count);
-    push_ready::<O>(channels, graph, task, ready);
+    push_ready(channels, ready);
 }

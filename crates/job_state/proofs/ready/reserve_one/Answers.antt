@@ -9,14 +9,14 @@ returns-in_err-reserve-clause-same g c =
     let channels = c.args.channels.now in
     let n = c.args.number in
     let was = get_or channels n c.index-channels-number.result in
-    items_kept channels n was c.reserve.new.self (slice_get-get_or channels n c.index-channels-number.result (omega (arith, c.requires))) (ap (λ r. r.items) c.reserve.ensures.same)
+    items_kept channels n was c.reserve.new.self (slice_get-get_or channels n c.index-channels-number.result (omega (arith, c.requires))) (ap (λ r. r.items) c.in_err-reserve.ensures.err)
 
 pub returns-clause-same : goal.returns-clause-same
 returns-clause-same g c =
     let channels = c.args.channels.now in
     let n = c.args.number in
     let was = get_or channels n c.index-channels-number.result in
-    items_kept channels n was c.reserve.new.self (slice_get-get_or channels n c.index-channels-number.result (omega (arith, c.requires))) (ap (λ r. r.items) c.reserve.ensures.same)
+    items_kept channels n was c.reserve.new.self (slice_get-get_or channels n c.index-channels-number.result (omega (arith, c.requires))) (ap (λ r. r.items) c.in_ok-reserve.ensures.ok)
 
 pub returns-clause-room : goal.returns-clause-room
 returns-clause-room g c =
@@ -25,4 +25,4 @@ returns-clause-room g c =
     let new = c.reserve.new.self in
     let next = slice_set channels n new in
     let within : n < length channels = omega (arith, c.requires) in
-    omega (arith, room_here next n new (get_set_same channels n new within), c.in_ok-reserve.ensures.room)
+    omega (arith, room_here next n new (get_set_same channels n new within), ap (λ r. r.room) c.in_ok-reserve.ensures.ok)

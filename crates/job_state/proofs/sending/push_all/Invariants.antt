@@ -1,4 +1,4 @@
-use Rattle.std.proofs.Common.{◌≡◌, ◌≤◌, ◌+◌, ◌++◌, ℕ, All, length}
+use Rattle.std.proofs.Common.{◌≡◌, ◌≤◌, ◌+◌, ◌++◌, ℕ, length}
 use Rattle.job_state.specs.Sending.{contents_items, items_at, put_into, room_at}
 use Rattle.job_state.proofs.sending.push_all.Given as goal
 
@@ -7,5 +7,5 @@ abbrev pub invariant-loop-number : goal.invariant-loop-number
 invariant-loop-number g l = record {
   puts : (k : ℕ) → items_at (contents_items l.channels) k ≡ items_at (contents_items l.fn.channels) k ++ put_into k l.yielded;
   same_length : length l.channels ≡ length l.fn.channels;
-  room : All (λ p. length l.fn.puts.items ≤ room_at l.channels p.0 + length l.yielded) l.fn.puts.items;
+  room : (k : ℕ) → length (put_into k l.fn.puts.items) ≤ room_at l.channels k + length (put_into k l.yielded);
 }

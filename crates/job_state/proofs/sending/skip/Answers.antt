@@ -15,11 +15,11 @@ pub returns-then-place-channels-clause-rest : goal.returns-then-place-channels-c
 returns-then-place-channels-clause-rest g c =
     let channels = c.args.channels.now in
     let was = get_or channels c.args.channel c.index-channels-place.result in
-    first_skipped c.args.count channels c.args.channel was c.skip.new.self (slice_get-get_or channels c.args.channel c.index-channels-place.result (omega arith)) (ap (λ r. r.items) c.skip.ensures.rest)
+    first_skipped c.args.count channels c.args.channel was c.skip.new.self (slice_get-get_or channels c.args.channel c.index-channels-place.result (omega arith)) (ap (λ r. r.items) c.skip.ensures)
 
 pub returns-then-place-channels-clause-room : goal.returns-then-place-channels-clause-room
 returns-then-place-channels-clause-room g c =
     let channels = c.args.channels.now in
     let was = get_or channels c.args.channel c.index-channels-place.result in
-    let moved = room_moved channels c.args.channel was c.skip.new.self 0 (omega arith) (slice_get-get_or channels c.args.channel c.index-channels-place.result (omega arith)) (omega (arith, c.skip.ensures.room)) in
+    let moved = room_moved channels c.args.channel was c.skip.new.self 0 (omega arith) (slice_get-get_or channels c.args.channel c.index-channels-place.result (omega arith)) (omega (arith, ap (λ r. r.room) c.skip.ensures)) in
     λ (number : ℕ). omega (arith, moved number)

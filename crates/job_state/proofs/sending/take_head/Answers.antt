@@ -13,5 +13,5 @@ pub returns-then-place-channels-clause-room : goal.returns-then-place-channels-c
 returns-then-place-channels-clause-room g c =
     let channels = c.args.channels.now in
     let was = get_or channels c.args.channel c.index-channels-place.result in
-    let moved = room_moved channels c.args.channel was c.pop.new.self 0 (omega arith) (slice_get-get_or channels c.args.channel c.index-channels-place.result (omega arith)) (omega (arith, c.pop.ensures.room)) in
+    let moved = room_moved channels c.args.channel was c.pop.new.self 0 (omega arith) (slice_get-get_or channels c.args.channel c.index-channels-place.result (omega arith)) (omega (arith, ap (λ r. r.room) c.pop.ensures.rest)) in
     λ (number : ℕ). omega (arith, moved number)

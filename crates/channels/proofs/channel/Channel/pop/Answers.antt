@@ -20,7 +20,7 @@ invariant_of-self-then-before_barrier-eq0 g c =
     let kept : gaps rest ≡ gaps barriers = gaps_popped c.in_ok-barrier.barrier rest barriers c.in_ok-barrier.ensures.items popped.0 in
     let fewer = c.in_ok-barrier.ensures.cases in
     let capacity = c.in_ok-barrier.ensures.capacity in
-    (omega arith, omega arith, omega arith, omega arith)
+    (omega arith, omega arith, omega arith, omega arith, omega arith)
 
 pub returns-then-before_barrier-eq0-clause-taken : goal.returns-then-before_barrier-eq0-clause-taken
 returns-then-before_barrier-eq0-clause-taken g c =

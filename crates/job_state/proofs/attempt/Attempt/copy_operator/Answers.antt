@@ -8,7 +8,7 @@ use Rattle.job_state.specs.Inside.{gate_in, holdings_of, copies_of}
 use Rattle.job_state.specs.Sending.{contents_items, without_head, put_into}
 use Rattle.job_state.proofs.Putting.{are_channels, has_room_at}
 use Rattle.job_state.proofs.Received.{barriers_put}
-use Rattle.job_state.proofs.Holds.{on_err, held_kept, puts_at, copies_from}
+use Rattle.job_state.proofs.Holds.{held_kept, puts_at, copies_from}
 use Rattle.job_state.proofs.Standings.{holder_within}
 use Rattle.job_state.proofs.attempt.Attempt.copy_operator.Goals as goal
 
@@ -18,17 +18,17 @@ copy_states-requires g c =
     let holds = ap (λ l. slice_get (holdings_of l) c.args.task) c.deref_mut-2.ensures.value ∙ (ap (λ h. slice_get h.tasks c.args.task) c.self.view_is ∙ c.requires.holds.1) in
     record { there = holder_within c.deref_mut-2.result.now c.args.task _ holds; holds = (c.requires.holds.0, holds) }
 
-pub returns-in_err-copy_states-clause-err : goal.returns-in_err-copy_states-clause-err
-returns-in_err-copy_states-clause-err g c =
+pub returns-in_default-clause-err : goal.returns-in_default-clause-err
+returns-in_default-clause-err g c =
     let items = with_items_is c.self.inside.channels c.reserve_barriers.new.channels (omega arith) in
     let tasks = with_items_is c.self.inside.tasks c.copy_states.new.tasks (omega arith) in
     let stands = c.deref_mut-2.ensures.value in
-    on_err c.from_residual-in_err-copy_states.result _
+    let left = with_items_is (with_items c.self.inside.channels c.reserve_barriers.new.channels) c.release_all.new.channels (omega arith) in
     (held_kept _ c.args.self.now _ _ _ _ _ c.self.view_is
     (ap (λ l. holdings_of l) tasks ∙ c.copy_states.ensures.holdings ∙ ap (λ l. holdings_of l) stands)
-    (ap (λ l. contents_items l) items ∙ c.in_ok-puts.ensures.same ∙ ap (λ l. contents_items l) c.deref_mut.ensures.value)
+    (ap (λ l. contents_items l) left ∙ c.release_all.ensures.same ∙ ap (λ l. contents_items l) (c.deref_mut-in_default.ensures.value ∙ items) ∙ c.in_ok-puts.ensures.same ∙ ap (λ l. contents_items l) c.deref_mut.ensures.value)
     refl refl
-    (ap (λ l. copies_of l) tasks ∙ c.in_err-copy_states.ensures.err ∙ ap (λ l. copies_of l) stands))
+    (ap (λ l. copies_of l) tasks ∙ c.in_default.ensures.err ∙ ap (λ l. copies_of l) stands))
 
 -- there is room for the barriers
 pub pass_on-requires : goal.pass_on-requires
@@ -54,5 +54,5 @@ returns-clause-ok g c =
     (gates ∙ c.note_barrier.ensures ∙ ap (λ l. slice_set l task (after (effect_of (gate_in l task) c.args.input) c.args.checkpoint (with_barrier (gate_in l task).inputs c.args.input))) c.deref_mut-4.ensures.value)
     c.close.ensures.came c.close.ensures.logged
     (ap (λ l. holdings_of l) tasks ∙ c.copy_states.ensures.holdings ∙ ap (λ l. holdings_of l) stands)
-    (ap (λ l. copies_of l) tasks ∙ c.in_ok-copy_states.ensures.ok entries holds ∙ ap (λ l. slice_set (copies_of l) task (Some (Part.Operator entries []))) stands)
+    (ap (λ l. copies_of l) tasks ∙ c.in-Ok.ensures.ok entries holds ∙ ap (λ l. slice_set (copies_of l) task (Some (Part.Operator entries []))) stands)
     refl

@@ -1,18 +1,17 @@
-use Rattle.std.proofs.Common.{◌≡◌, ◌<◌, ◌≤◌, Err, take, length, slice_get, slice_set, refl, sym, subst, ap, ◌∙◌, arith}
+use Rattle.std.proofs.Common.{◌≡◌, take, length, slice_get, slice_set, refl, sym, ap, ◌∙◌, arith}
 use Rattle.std.proofs.lemmas.List.{with_items_is, length-map}
 use Rattle.std.specs.Vec.{with_items}
 use Rattle.alignment.specs.Table.{is_logged}
 use Rattle.keyed_state.specs.declared.comparing.SetFault.TheVariants as SetFault
 use Rattle.keyed_state.proofs.Compared.{told_on}
-use Rattle.channels.specs.Items.{leading_records}
-use Rattle.deliveries.specs.Deliveries.{deliveries_of}
 use Rattle.job_state.specs.AtOnce.{without_first, log_with_all}
 use Rattle.job_state.specs.Batch.{rows_of}
 use Rattle.job_state.specs.Inside.{gate_in, records_of, holdings_of, copies_of}
-use Rattle.job_state.specs.Sending.{contents_items, items_at, put_into, IsReady}
+use Rattle.job_state.specs.Sending.{contents_items, items_at, put_into, puts_of}
 use Rattle.job_state.proofs.AtOnce.{keeps_in_turn, equal_keys, operates_all_from}
 use Rattle.job_state.proofs.Batches.{all_are_each, none_is_each}
-use Rattle.job_state.proofs.Departures.{leads, ready_at}
+use Rattle.job_state.proofs.Departures.{leads}
+use Rattle.job_state.proofs.Putting.{has_room_at}
 use Rattle.job_state.proofs.Received.{received_is_put}
 use Rattle.job_state.proofs.Holds.{on_err, held_kept, puts_at}
 use Rattle.job_state.proofs.Standings.{holder_within}
@@ -43,16 +42,15 @@ returns-in_err-ready-clause-changed g c = λ entries at is have.
     absurd (cc)
 
 -- a state is not the expected one
-pub returns-in_err-keep_all-clause-changed : goal.returns-in_err-keep_all-clause-changed
-returns-in_err-keep_all-clause-changed g c = λ entries at is have.
-    let fault = told_on c.from_residual-in_err-keep_all.result c.in_err-keep_all.field-0.0 SetFault.Changed c.from_residual-in_err-keep_all.ensures.1 is in
+pub returns-in-Err-clause-changed : goal.returns-in-Err-clause-changed
+returns-in-Err-clause-changed g c = λ entries at is have.
     let holds = ap (λ l. slice_get (holdings_of l) c.args.task) c.deref_mut-2.ensures.value ∙ (ap (λ h. slice_get h.tasks c.args.task) c.self.view_is ∙ at) in
-    c.keep_all.ensures.changed entries holds (c.in_err-keep_all.was ∙ ap (λ f. Err f) fault) have
+    c.keep_all.ensures.changed entries holds (c.in-Err.is ∙ is) have
 
 pub returns-clause-expected : goal.returns-clause-expected
 returns-clause-expected g c = λ some entries at.
     let holds = ap (λ l. slice_get (holdings_of l) c.args.task) c.deref_mut-2.ensures.value ∙ (ap (λ h. slice_get h.tasks c.args.task) c.self.view_is ∙ at) in
-    c.in_ok-keep_all.ensures.expected entries holds
+    c.in_default.ensures.expected entries holds
 
 pub keep_all-requires-clause-exact : goal.keep_all-requires-clause-exact
 keep_all-requires-clause-exact g c = g.met.O.Operator.state_is_exact
@@ -70,14 +68,14 @@ keep_all-requires-clause-holds g c =
     let holds = ap (λ l. slice_get (holdings_of l) c.args.task) c.deref_mut-2.ensures.value ∙ (ap (λ h. slice_get h.tasks c.args.task) c.self.view_is ∙ was.1) in
     (was.0, holds)
 
-pub returns-in_err-keep_all-clause-err : goal.returns-in_err-keep_all-clause-err
-returns-in_err-keep_all-clause-err g c =
+pub returns-in-Err-clause-err : goal.returns-in-Err-clause-err
+returns-in-Err-clause-err g c =
     let items = with_items_is c.self.inside.channels c.make_ready.new.channels (omega arith) in
     let tasks = with_items_is c.self.inside.tasks c.keep_all.new.tasks (omega arith) in
-    on_err c.from_residual-in_err-keep_all.result _
+    let left = with_items_is (with_items c.self.inside.channels c.make_ready.new.channels) c.release_all.new.channels (omega arith) in
     (held_kept _ c.args.self.now _ _ _ _ _ c.self.view_is
-    (ap (λ l. holdings_of l) tasks ∙ c.in_err-keep_all.ensures.err ∙ ap (λ l. holdings_of l) c.deref_mut-2.ensures.value)
-    (ap (λ l. contents_items l) items ∙ c.in_ok-ready.ensures.same ∙ ap (λ l. contents_items l) c.deref_mut.ensures.value)
+    (ap (λ l. holdings_of l) tasks ∙ c.in-Err.ensures.err ∙ ap (λ l. holdings_of l) c.deref_mut-2.ensures.value)
+    (ap (λ l. contents_items l) left ∙ c.release_all.ensures.same ∙ ap (λ l. contents_items l) (c.deref_mut-in-Err.ensures.value ∙ items) ∙ c.in_ok-ready.ensures.same ∙ ap (λ l. contents_items l) c.deref_mut.ensures.value)
     c.reserve_log.ensures.came c.reserve_log.ensures.logged
     (ap (λ l. copies_of l) tasks ∙ c.keep_all.ensures.copies ∙ ap (λ l. copies_of l) c.deref_mut-2.ensures.value))
 
@@ -90,12 +88,8 @@ returns-in_err-ready-clause-err g c =
     c.reserve_log.ensures.came c.reserve_log.ensures.logged refl)
 
 pub pass_on_all-requires : goal.pass_on_all-requires
-pass_on_all-requires g c = λ lifetimes lives.
+pass_on_all-requires g c =
     let given = c.requires.1.1.1.1.1.1 in
-    let sends = given.1.1.1.1.1.1 in
-    let meaning = g.O.Operator.meaning in
-    let graph = c.args.graph.now in
-    let task = c.args.task in
     let rows = rows_of g.turns in
     let channels = c.deref_mut-3.result.now in
     let stands = items_at (contents_items channels) c.args.channel in
@@ -104,12 +98,12 @@ pass_on_all-requires g c = λ lifetimes lives.
     let stood = ap (λ l. contents_items l) passed ∙ (c.in_ok-ready.ensures.same ∙ ap (λ l. contents_items l) c.deref_mut.ensures.value) ∙ ap (λ h. h.channels) c.self.view_is in
     let many : c.args.count ≡ length rows = given.1.1.0 ∙ sym (length-map g.turns (λ t. t.row)) in
     let first = ap (λ l. take (length rows) (items_at l c.args.channel)) stood ∙ given.1.1.1.0 in
-    let there : length channels ≡ length graph.channels = omega (arith, given.1.0, ap (λ l. length l) stood, length-map channels (λ r. r.items)) in
-    let within : c.args.channel < length c.reserve_log.new.logs =
-    omega (arith, given.0, ap (λ l. length l) c.reserve_log.ensures.logged, length-map c.reserve_log.new.logs (λ l. l.records), length-map c.self.inside.logs (λ l. l.records), ap (λ h. length h.logs) c.self.view_is) in
-    let records : c.args.count ≤ length (leading_records stands) = omega (arith, many, leads rows stands first) in
-    let ready = subst (λ sent. IsReady meaning graph task channels sent c.in_ok-ready.ready) sends (ready_at meaning graph task c.args.sent.now.items c.in_ok-ready.ready passed c.in_ok-ready.ensures.ready) in
-    (lives.0, (lives.1.0, (lives.1.1.0, (lives.1.1.1, (there, (within, (c.in_ok-reserve_log.ensures.room, (records, ready))))))))
+    record {
+      within = omega (arith, given.0, ap (λ l. length l) c.reserve_log.ensures.logged, length-map c.reserve_log.new.logs (λ l. l.records), length-map c.self.inside.logs (λ l. l.records), ap (λ h. length h.logs) c.self.view_is);
+      spare = c.in_ok-reserve_log.ensures.room;
+      records = omega (arith, many, leads rows stands first);
+      room = has_room_at (puts_of c.in_ok-ready.ready) passed c.in_ok-ready.ensures.room;
+    }
 
 pub returns-clause-ok : goal.returns-clause-ok
 returns-clause-ok g c =
@@ -127,7 +121,7 @@ returns-clause-ok g c =
     let passed = with_items_is (with_items c.self.inside.channels c.make_ready.new.channels) c.pass_on_all.new.channels (omega arith) in
     let tasks = with_items_is c.self.inside.tasks c.keep_all.new.tasks (omega arith) in
     let stands = c.deref_mut-2.ensures.value in
-    let kept = c.in_ok-keep_all.ensures.ok in
+    let kept = c.in_default.ensures.ok in
     let stood = ap (λ l. contents_items l) (c.deref_mut-3.ensures.value ∙ items) ∙ (c.in_ok-ready.ensures.same ∙ ap (λ l. contents_items l) c.deref_mut.ensures.value) in
     let many : c.args.count ≡ length rows = counted ∙ sym (length-map g.turns (λ t. t.row)) in
     let first = ap (λ l. take c.args.count (items_at l channel)) (stood ∙ ap (λ h. h.channels) c.self.view_is) ∙ ap (λ n. take n (items_at c.args.self.now.channels channel)) many ∙ stands_first in
@@ -138,7 +132,7 @@ returns-clause-ok g c =
     (ap (λ l. slice_get (holdings_of l) c.args.task) (sym stands) ∙ kept.2) kept.4
     (keeps_in_turn order meaning.same_key g.met.O.Operator.same_key g.turns c.args.states.now.items kept.4.entries kept.4.kept rising last kept.4.keeps)
     counted sends
-    (puts_at _ _ (ap (λ l. without_first c.args.count channel l) stood) (ap (λ l. contents_items l) (sym passed)) (λ k. ap (λ l. put_into k (deliveries_of meaning c.args.graph.now c.args.task l)) (sym sends) ∙ received_is_put meaning c.args.graph.now c.args.task c.args.sent.now.items k) c.pass_on_all.ensures.puts)
+    (puts_at _ _ (ap (λ l. without_first c.args.count channel l) stood) (ap (λ l. contents_items l) (sym passed)) (λ k. ap (put_into k) c.in_ok-ready.ensures.puts ∙ received_is_put meaning c.args.graph.now c.args.task c.args.sent.now.items k) c.pass_on_all.ensures.puts)
     (c.pass_on_all.ensures.came ∙ c.reserve_log.ensures.came)
     (c.pass_on_all.ensures.logged rows many first ∙ ap (λ l. log_with_all c.is_logged-logged.result channel rows l) c.reserve_log.ensures.logged ∙ ap (λ b. log_with_all b channel rows (records_of c.self.inside.logs)) logs_it)
     (ap (λ l. holdings_of l) tasks ∙ kept.3 ∙ ap (λ l. slice_set (holdings_of l) c.args.task kept.1) stands)
