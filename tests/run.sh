@@ -79,11 +79,11 @@ expect_made() {
   expect "$1 of ${4::60}" "$work/made" "$1" "$work/made.json"
 }
 
-# expect_run WANTED FOLDER WORD..: `absflow run` with these words, in this folder, comes to the files of WANTED.
+# expect_run WANTED FOLDER WORD..: `absflow run` with these words, in this folder, comes to the files of WANTED. It has so many KiB of memory as `memory` says.
 expect_run() {
   local wanted=$1 folder=$2 status=0 out=/dev/null err=/dev/null order=cat
   shift 2
-  (cd "$folder" && "$program" run "$@") > "$work/out" 2> "$work/err"
+  (cd "$folder" && ulimit -v "${memory:-unlimited}" && "$program" run "$@") > "$work/out" 2> "$work/err"
   local ended=$?
   [ ! -e "$wanted/any-order" ] || order=sort
   [ ! -e "$wanted/status" ] || status=$(cat "$wanted/status")
@@ -159,6 +159,23 @@ ROUNDS
   done
 }
 
+# expect_little_memory: 20,000 rows from 32 adds to 32 filters by broadcast, of which each passes the last, in 200 MB of memory: a channel takes room for what
+# goes into it, and not for all that its task sends.
+expect_little_memory() {
+  rm -rf "$work/wide"
+  mkdir "$work/wide"
+  python3 - "$work/wide" <<'WIDE'
+import json, sys
+vertices = [{"name": "s", "kind": "source"}, {"name": "a", "kind": "add", "n": 1, "parallelism": 32},
+            {"name": "f", "kind": "filter_ge", "n": 20000, "parallelism": 32}, {"name": "out", "kind": "sink", "parallelism": 32}]
+edges = [{"from": "s", "to": "a", "route": "hash"}, {"from": "a", "to": "f", "route": "broadcast"}, {"from": "f", "to": "out"}]
+json.dump({"vertices": vertices, "edges": edges}, open(sys.argv[1] + '/job.json', 'w'))
+open(sys.argv[1] + '/0.jsonl', 'w').writelines('{"k":"k%d","v":%d}\n' % (row % 640, row) for row in range(20000))
+open(sys.argv[1] + '/out', 'w').writelines('sink %d rows 1\n{"k":"k159","v":20000}\n' % sink for sink in range(32))
+WIDE
+  memory=200000 expect_run "$work/wide" "$work/wide" job.json 0.jsonl --batch 1024 --every 0
+}
+
 # expect_full: rows that can't be written end with status 1, and that is said.
 expect_full() {
   local folder=tests/runs/line_of_two_rows ended
@@ -207,6 +224,7 @@ for program in "${programs[@]}"; do
   expect_long_line 50000000 err 'input 0 line 1: bad row\n'
   for workers in 1 4; do expect_batches --workers $workers; done
   expect_rounds
+  expect_little_memory
   expect_full
 
   count_told tests/crashes.py "$program" tests/crashes/*.json
