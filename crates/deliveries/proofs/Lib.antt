@@ -1,2 +1,3 @@
 pub mod Delivered
 pub mod Runs
+pub mod Masks

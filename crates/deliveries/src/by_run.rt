@@ -7,6 +7,7 @@ ghost use Rattle.job_graph.specs.Expanded.{outlets_of};
 ghost use Rattle.job_graph.specs.Runs.{IsRun};
 
 use crate::puts::{sole_run, takes_all};
+use crate::turns::turn;
 use job_graph::Graph;
 use operators::Operator;
 
@@ -55,5 +56,5 @@ pub fn run_target<O: Operator>(graph: &Graph, task: u32, numbers: &[u32], row: &
     if numbers.len() == 1 {
         return numbers[0];
     }
-    numbers[(O::lane(row) % numbers.len() as u64) as usize]
+    numbers[turn(O::lane(row), numbers.len())]
 }

@@ -4,6 +4,7 @@
 
 mod by_run;
 mod puts;
+mod turns;
 
 pub use by_run::{only_run, run_target};
 pub use puts::{barriers, deliver, deliver_row, fixed_target, sole_target};

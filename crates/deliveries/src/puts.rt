@@ -9,6 +9,7 @@ ghost use Rattle.job_graph.specs.Expanded.{meets, takes, outlets_of};
 ghost use Rattle.job_graph.specs.Runs.{IsRun};
 ghost use Rattle.deliveries.specs.Deliveries.{deliveries_of_one, deliveries_of, barriers_of};
 
+use crate::turns::turn;
 use abs_codec::{Codec, NoMemory};
 use channels::Item;
 use job_graph::{Graph, Route};
@@ -53,7 +54,7 @@ fn target<O: Operator>(
         (take run (drop place numbers.now)) ≡ option_to_list result }
 {
     if run > 1 {
-        return Some(numbers[place + (O::lane(row) % run as u64) as usize]);
+        return Some(numbers[place + turn(O::lane(row), run)]);
     }
     let number = numbers[place];
     if takes_all(graph, number) || graph.takes(number, O::lane(row)) {

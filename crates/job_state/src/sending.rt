@@ -47,8 +47,7 @@ pub(crate) fn reserve_all<R: Drop>(
 
 /// Puts each last in its channel. It takes no memory.
 pub(crate) fn push_all<R: Drop>(channels: &mut [Channel<R>], puts: Vec<(u32, Item<R>)>)
-    requires there { AreChannels (length channels.old) puts.items }
-    requires room { HasRoom channels.old puts.items }
+    requires { HasRoom channels.old puts.items }
     ensures { (number : ℕ) → items_at (contents_items channels.new) number
         ≡ items_at (contents_items channels.old) number ++ put_into number puts.items }
 {
@@ -85,7 +84,6 @@ pub(crate) fn reserve_deliveries<O: Operator>(
     requires { length channels.old ≡ length graph.now.channels }
     ensures puts { IfOk result (λ puts. puts.items
         ≡ deliveries_of O.meaning graph.now task sent.items) }
-    ensures there { IfOk result (λ puts. AreChannels (length channels.old) puts.items) }
     ensures room { IfOk result (λ puts. HasRoom channels.new puts.items) }
     ensures same { contents_items channels.new ≡ contents_items channels.old }
 {
@@ -105,7 +103,6 @@ fn reserve_row<O: Operator>(
     requires { length channels.old ≡ length graph.now.channels }
     ensures puts { IfOk result (λ puts. puts.items
         ≡ deliveries_of O.meaning graph.now task ((0, row) ∷ [])) }
-    ensures there { IfOk result (λ puts. AreChannels (length channels.old) puts.items) }
     ensures room { IfOk result (λ puts. HasRoom channels.new puts.items) }
     ensures same { contents_items channels.new ≡ contents_items channels.old }
 {
@@ -124,7 +121,6 @@ pub(crate) fn reserve_barriers<R: Drop>(
 ) -> Result<Vec<(u32, Item<R>)>, NoMemory>
     requires { length channels.old ≡ length graph.now.channels }
     ensures puts { IfOk result (λ puts. puts.items ≡ barriers_of graph.now task checkpoint) }
-    ensures there { IfOk result (λ puts. AreChannels (length channels.old) puts.items) }
     ensures room { IfOk result (λ puts. HasRoom channels.new puts.items) }
     ensures same { contents_items channels.new ≡ contents_items channels.old }
 {
@@ -196,8 +192,7 @@ pub(crate) fn pass_on<R: Drop>(
     channel: u32,
     puts: Vec<(u32, Item<R>)>,
 ) -> Option<Item<R>>
-    requires there { AreChannels (length channels.old) puts.items }
-    requires room { HasRoom channels.old puts.items }
+    requires { HasRoom channels.old puts.items }
     ensures taken { result ≡ slice_get (items_at (contents_items channels.old) channel) 0 }
     ensures puts { Puts (λ number. put_into number puts.items)
         (without_head channel (contents_items channels.old)) (contents_items channels.new) }

@@ -36,6 +36,4 @@ pub push_rows-requires : goal.push_rows-requires
 push_rows-requires g c = subst (λ r. HasRoom c.args.channels.now (puts_of r)) c.in-Rows.is c.requires
 
 pub push_all-requires : goal.push_all-requires
-push_all-requires g c =
-    let room = subst (λ r. HasRoom c.args.channels.now (puts_of r)) c.in-Each.is c.requires in
-    record { there = room_there c.args.channels.now c.in-Each.puts.items room; room = room }
+push_all-requires g c = subst (λ r. HasRoom c.args.channels.now (puts_of r)) c.in-Each.is c.requires

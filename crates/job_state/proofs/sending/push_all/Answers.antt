@@ -5,8 +5,18 @@ use Rattle.std.proofs.lemmas.List.{map-id, length-set, length-append}
 use Rattle.std.proofs.lemmas.Option.{slice_get-get_or}
 use Rattle.channels.specs.declared.item.Item.{Item}
 use Rattle.job_state.specs.Sending.{items_at, contents_items, put_into}
-use Rattle.job_state.proofs.Putting.{items_pushed, put_into_append, room_pushed, is_there, has_room}
+use Rattle.job_state.proofs.Putting.{items_pushed, put_into_append, room_pushed, is_there, has_room, room_there}
 use Rattle.job_state.proofs.sending.push_all.Goals as goal
+
+pub bounds-channels-number : goal.bounds-channels-number
+bounds-channels-number g c =
+    let n = c.in-Some.number in
+    let p : ℕ × Item _ = (n, c.in-Some.item) in
+    let puts = c.args.puts.items in
+    let b = c.into_iter-number-iterator.ensures.into_iter_gives in
+    let road = YieldsList-from_vec {s = c.into_iter-number-iterator.result} puts b.0 (b.1 ∙ c.args.puts.ok.0) in
+    let t = YieldsList-turn road c.loop-number.yielded c.loop-number.number-iterator c.loop-number.yielded_by c.next.result c.next.new.self p c.in-Some.is c.next.ensures.steps in
+    omega (arith, is_there (length c.args.channels.now) puts (length c.loop-number.yielded) p (room_there c.args.channels.now puts c.requires) t.0 t.1, c.loop-number.invariant.same_length)
 
 pub push_reserved-requires : goal.push_reserved-requires
 push_reserved-requires g c =
@@ -18,7 +28,7 @@ push_reserved-requires g c =
     let road = YieldsList-from_vec {s = c.into_iter-number-iterator.result} puts b.0 (b.1 ∙ c.args.puts.ok.0) in
     let t = YieldsList-turn road c.loop-number.yielded c.loop-number.number-iterator c.loop-number.yielded_by c.next.result c.next.new.self p c.in-Some.is c.next.ensures.steps in
     let so_far : c.loop-number.yielded ≡ take (length c.loop-number.yielded) puts = sym (map-id c.loop-number.yielded) ∙ YieldsList-so_far road c.loop-number.yielded c.loop-number.number-iterator c.loop-number.yielded_by in
-    let within : n < length channels = omega (arith, is_there (length c.args.channels.now) puts (length c.loop-number.yielded) p c.requires.there t.0 t.1) in
+    let within : n < length channels = omega (arith, is_there (length c.args.channels.now) puts (length c.loop-number.yielded) p (room_there c.args.channels.now puts c.requires) t.0 t.1) in
     let was = get_or channels n c.index-channels-number.result in
     let is = slice_get-get_or channels n c.index-channels-number.result within in
     has_room channels (length c.loop-number.yielded) puts p was (λ k. omega (arith, c.loop-number.invariant.room k, ap (λ l. length (put_into k l)) so_far)) t.0 t.1 is
@@ -34,7 +44,7 @@ loop-number-preserved g c =
     let t = YieldsList-turn road c.loop-number.yielded c.loop-number.number-iterator c.loop-number.yielded_by c.next.result c.next.new.self p c.in-Some.is c.next.ensures.steps in
     let so_far : c.loop-number.yielded ≡ take (length c.loop-number.yielded) puts = sym (map-id c.loop-number.yielded) ∙ YieldsList-so_far road c.loop-number.yielded c.loop-number.number-iterator c.loop-number.yielded_by in
     let new = c.push_reserved.new.self in
-    let within : n < length channels = omega (arith, is_there (length c.args.channels.now) puts (length c.loop-number.yielded) p c.requires.there t.0 t.1) in
+    let within : n < length channels = omega (arith, is_there (length c.args.channels.now) puts (length c.loop-number.yielded) p (room_there c.args.channels.now puts c.requires) t.0 t.1) in
     let was = get_or channels n c.index-channels-number.result in
     let is = slice_get-get_or channels n c.index-channels-number.result within in
     let room = has_room channels (length c.loop-number.yielded) puts p was (λ k. omega (arith, c.loop-number.invariant.room k, ap (λ l. length (put_into k l)) so_far)) t.0 t.1 is in

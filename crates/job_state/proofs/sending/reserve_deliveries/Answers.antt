@@ -5,6 +5,3 @@ use Rattle.job_state.proofs.sending.reserve_deliveries.Goals as goal
 
 pub reserve_all-requires : goal.reserve_all-requires
 reserve_all-requires g c = are_channels (c.deref.ensures.value ∙ c.in_ok-puts.ensures) c.requires (deliveries_are_put g.O.Operator.meaning c.args.graph.now c.args.task c.args.sent.items)
-
-pub returns-clause-there : goal.returns-clause-there
-returns-clause-there g c = are_channels c.in_ok-puts.ensures c.requires (deliveries_are_put g.O.Operator.meaning c.args.graph.now c.args.task c.args.sent.items)

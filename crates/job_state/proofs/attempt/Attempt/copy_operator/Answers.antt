@@ -1,4 +1,4 @@
-use Rattle.std.proofs.Common.{[], Some, length, slice_get, slice_set, refl, sym, ap, ◌∙◌, arith}
+use Rattle.std.proofs.Common.{[], Some, slice_get, slice_set, refl, sym, ap, ◌∙◌, arith}
 use Rattle.std.proofs.lemmas.List.{with_items_is}
 use Rattle.std.specs.Vec.{with_items}
 use Rattle.alignment.specs.Inputs.{with_barrier}
@@ -6,7 +6,7 @@ use Rattle.alignment.specs.Table.{after, effect_of}
 use Rattle.task_part.specs.declared.part.Part.TheVariants as Part
 use Rattle.job_state.specs.Inside.{gate_in, holdings_of, copies_of}
 use Rattle.job_state.specs.Sending.{contents_items, without_head, put_into}
-use Rattle.job_state.proofs.Putting.{are_channels, has_room_at}
+use Rattle.job_state.proofs.Putting.{has_room_at}
 use Rattle.job_state.proofs.Received.{barriers_put}
 use Rattle.job_state.proofs.Holds.{held_kept, puts_at, copies_from}
 use Rattle.job_state.proofs.Standings.{holder_within}
@@ -34,8 +34,7 @@ returns-in_default-clause-err g c =
 pub pass_on-requires : goal.pass_on-requires
 pass_on-requires g c =
     let items = with_items_is c.self.inside.channels c.reserve_barriers.new.channels (omega arith) in
-    let stood = c.deref_mut-3.ensures.value ∙ items in
-    record { there = are_channels refl (omega (arith, ap (λ l. length l) stood)) c.in_ok-puts.ensures.there; room = has_room_at c.in_ok-puts.puts.items stood c.in_ok-puts.ensures.room }
+    has_room_at c.in_ok-puts.puts.items (c.deref_mut-3.ensures.value ∙ items) c.in_ok-puts.ensures.room
 
 pub returns-clause-ok : goal.returns-clause-ok
 returns-clause-ok g c =

@@ -1,10 +1,10 @@
-use Rattle.std.proofs.Common.{◌≡◌, length, slice_get, slice_set, refl, sym, subst, ap, ◌∙◌, arith}
+use Rattle.std.proofs.Common.{slice_get, slice_set, refl, sym, ap, ◌∙◌, arith}
 use Rattle.std.proofs.lemmas.List.{with_items_is}
 use Rattle.std.specs.Vec.{with_items}
 use Rattle.alignment.specs.Table.{is_logged}
 use Rattle.job_state.specs.Held.{log_with}
 use Rattle.job_state.specs.Inside.{gate_in, records_of, holdings_of, copies_of}
-use Rattle.job_state.specs.Sending.{contents_items, items_at, without_head, put_into, AreChannels}
+use Rattle.job_state.specs.Sending.{contents_items, items_at, without_head, put_into}
 use Rattle.job_state.proofs.Putting.{has_room_at}
 use Rattle.job_state.proofs.Received.{received_is_put}
 use Rattle.job_state.proofs.Holds.{held_kept, puts_at, operates_from}
@@ -28,14 +28,8 @@ returns-in_default-clause-err g c =
     c.reserve_log.ensures.came c.reserve_log.ensures.logged
     (ap (λ l. copies_of l) tasks ∙ c.keep.ensures.copies ∙ ap (λ l. copies_of l) c.deref_mut-2.ensures.value))
 
-pub pass_on-taken-requires-clause-there : goal.pass_on-taken-requires-clause-there
-pass_on-taken-requires-clause-there g c =
-    let items = with_items_is c.self.inside.channels c.reserve_deliveries.new.channels (omega arith) in
-    let same : length c.deref_mut.result.now ≡ length c.deref_mut-3.result.now = omega (arith, ap (λ l. length l) (c.deref_mut-3.ensures.value ∙ items)) in
-    subst (λ n. AreChannels n c.in_ok-puts.puts.items) same c.in_ok-puts.ensures.there
-
-pub pass_on-taken-requires-clause-room : goal.pass_on-taken-requires-clause-room
-pass_on-taken-requires-clause-room g c =
+pub pass_on-taken-requires : goal.pass_on-taken-requires
+pass_on-taken-requires g c =
     let items = with_items_is c.self.inside.channels c.reserve_deliveries.new.channels (omega arith) in
     has_room_at c.in_ok-puts.puts.items (c.deref_mut-3.ensures.value ∙ items) c.in_ok-puts.ensures.room
 
