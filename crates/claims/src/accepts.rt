@@ -86,6 +86,7 @@ fn operate<O: Operator>(
         &mut outcomes.states,
         expected,
         &mut outcomes.sent,
+        &outcomes.lanes,
     )
 }
 

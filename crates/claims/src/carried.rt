@@ -1,6 +1,7 @@
 //! Work, and what was made of it.
 
 ghost use Rattle.std.specs.Prelude.{◌≡◌, ◌++◌, List, IfOk, OnOk};
+ghost use Rattle.job_state.specs.Sending.{AreLanes};
 ghost use Rattle.claims.specs.declared.parts.Given.TheVariants as Given;
 ghost use Rattle.claims.specs.Carried.{HasItsState, IsOperand, IsOutcome, given_of, records_of};
 ghost use Rattle.claims.specs.Left.{AllGood, WorksRow, made_of, state_left};
@@ -134,11 +135,30 @@ fn work_row<O: Operator>(
     Ok(())
 }
 
+/// The lanes of what is sent, where they are asked for, and what is sent is several records.
+fn lanes_of<O: Operator>(
+    alloc: Global,
+    sent: &[(u32, O::Record)],
+    by_lane: bool,
+) -> Result<Vec<u64>, NoMemory>
+    ensures { IfOk result (λ lanes. AreLanes O.meaning sent.now lanes.items) }
+{
+    if !by_lane || sent.len() < 2 {
+        return Ok(Vec::new(alloc));
+    }
+    let mut lanes = Vec::with_capacity(alloc, sent.len())?;
+    for each in sent {
+        lanes.push(O::lane(&each.1))?;
+    }
+    Ok(lanes)
+}
+
 /// What an operator makes of its records, from the first to the last, each in the state that the
 /// former left under its key.
 fn outcomes_of<O: Operator>(
     alloc: Global,
     operand: &Operand<O, O::Key, O::State, O::Record>,
+    by_lane: bool,
 ) -> Result<Outcomes<O::Key, O::State, O::Record>, NoMemory>
     requires { IsOperand ⟦<O as Rules>⟧.all operand.now }
     ensures { IfOk result (IsOutcome O.meaning O.Key.cmp operand.now) }
@@ -160,7 +180,12 @@ fn outcomes_of<O: Operator>(
         work_row(alloc, operand, row, guess, &mut left, &mut sent)?;
     }
     let states = entries_of(alloc, left)?;
-    Ok(Outcomes { states, sent })
+    let lanes = lanes_of::<O>(alloc, &sent, by_lane)?;
+    Ok(Outcomes {
+        states,
+        sent,
+        lanes,
+    })
 }
 
 /// The same work, with states of its own where there is memory for that.
@@ -182,7 +207,7 @@ fn worked_operand<O: Operator>(
     ensures { given_of result ≡ Given.Operator load }
 {
     let own = settled(alloc, load);
-    match outcomes_of(alloc, own.get()) {
+    match outcomes_of(alloc, own.get(), own.is_by_lane()) {
         Ok(outcomes) => Worked {
             made: Made::Operator(own.solved(outcomes)),
         },

@@ -132,10 +132,18 @@ fn operand_of<O: Operator>(
     })
 }
 
+/// Whether it is told by a record's lane where it goes that a task sends on its first port.
+fn goes_by_lane(graph: &Graph, task: u32) -> bool {
+    let outlets = graph.outlets(task, 0).len();
+    let run = graph.runs(task, 0).first();
+    outlets > 1 && run.is_some_and(|run| *run as usize == outlets)
+}
+
 /// The same, behind an owner.
 fn load_of<O: Operator>(
     alloc: Global,
     attempt: &Attempt<O>,
+    graph: &Graph,
     operator: &O,
     task: u32,
     channel: u32,
@@ -152,7 +160,7 @@ fn load_of<O: Operator>(
         → IsCarried O.meaning O.Key.cmp entries load) }
 {
     let operand = operand_of(alloc, attempt, operator, task, channel, count, room)?;
-    let load = Load::new(alloc, operand)?;
+    let load = Load::new(alloc, operand, count > 1 && goes_by_lane(graph, task))?;
     Ok(load)
 }
 
@@ -187,7 +195,7 @@ pub fn offer<O: Operator>(
                 return Err(CoreFault::NoSuchTask);
             };
             let count = free_records(attempt, task, input, channel)?.min(most);
-            let operand = load_of(alloc, attempt, operator, task, channel, count, room)?;
+            let operand = load_of(alloc, attempt, graph, operator, task, channel, count, room)?;
             Ok(Work {
                 given: Given::Operator(operand),
             })

@@ -19,18 +19,20 @@ pub struct Operand<O, K: Ord, S, R> {
 }
 
 /// What an operator makes of its records, one after another: the last state of each key, by rising
-/// keys, and all records that are sent, each with its port.
+/// keys, and all records that are sent, each with its port; and their lanes, or none of them.
 #[derive(Drop)]
 pub struct Outcomes<K, S, R> {
     pub states: Vec<(K, S)>,
     pub sent: Vec<(u32, R)>,
+    pub lanes: Vec<u64>,
 }
 
-/// An operator's work, and what is made of it.
+/// An operator's work, and what is made of it. The lanes of what is sent may be asked for.
 #[derive(Drop)]
 pub struct Sheet<O, K: Ord, S, R> {
     pub operand: Operand<O, K, S, R>,
     pub outcomes: Outcomes<K, S, R>,
+    pub by_lane: bool,
 }
 
 /// An operator's work behind an owner, with a place for what will be made of it: it is handed on as
@@ -49,14 +51,24 @@ impl<O, K: Ord, S, R> Model for Load<O, K, S, R> {
 }
 
 impl<O: Drop, K: Ord + Drop, S: Drop, R: Drop> Load<O, K, S, R> {
-    pub(crate) fn new(alloc: Global, operand: Operand<O, K, S, R>) -> Result<Self, NoMemory>
+    pub(crate) fn new(
+        alloc: Global,
+        operand: Operand<O, K, S, R>,
+        by_lane: bool,
+    ) -> Result<Self, NoMemory>
         ensures { IfOk result (λ load. load ≡ operand) }
     {
         let outcomes = Outcomes {
             states: Vec::new(alloc),
             sent: Vec::new(alloc),
+            lanes: Vec::new(alloc),
         };
-        let sheet = Box::new(alloc, Sheet { operand, outcomes })?;
+        let sheet = Sheet {
+            operand,
+            outcomes,
+            by_lane,
+        };
+        let sheet = Box::new(alloc, sheet)?;
         Ok(Load { sheet })
     }
 }
@@ -66,6 +78,11 @@ impl<O, K: Ord, S, R> Load<O, K, S, R> {
         ensures { result.now ≡ self.now }
     {
         &self.sheet.operand
+    }
+
+    /// Whether the lanes of what is sent are asked for.
+    pub(crate) fn is_by_lane(&self) -> bool {
+        self.sheet.by_lane
     }
 }
 

@@ -44,17 +44,36 @@ pub fn only_run<'a, R>(graph: &'a Graph, task: u32, sent: &[(u32, R)]) -> Option
     }
 }
 
+/// A record's lane, which may be known.
+#[inline(always)]
+fn lane_of<O: Operator>(row: &O::Record, known: Option<u64>) -> u64
+    requires { IfSome known (λ lane. lane ≡ O.meaning.lane row.now) }
+    ensures { result ≡ O.meaning.lane row.now }
+{
+    match known {
+        Some(lane) => lane,
+        None => O::lane(row),
+    }
+}
+
 /// The channel that a record goes into when a task sends it on its first port, whose channels are
-/// these, one run, one of which takes it.
-pub fn run_target<O: Operator>(graph: &Graph, task: u32, numbers: &[u32], row: &O::Record) -> u32
+/// these, one run, one of which takes it. Its lane may be known.
+pub fn run_target<O: Operator>(
+    graph: &Graph,
+    task: u32,
+    numbers: &[u32],
+    row: &O::Record,
+    known: Option<u64>,
+) -> u32
     requires are { numbers.now ≡ outlets_of graph.now task 0 }
     requires run { IsRun graph.now.channels numbers.now 0 (length numbers.now) }
     requires each { TakesEach graph.now.channels numbers.now }
+    requires known { IfSome known (λ lane. lane ≡ O.meaning.lane row.now) }
     ensures { deliveries_of_one O.meaning graph.now task (0, row.now)
         ≡ (result, Record row.now) ∷ [] }
 {
     if numbers.len() == 1 {
         return numbers[0];
     }
-    numbers[turn(O::lane(row), numbers.len())]
+    numbers[turn(lane_of::<O>(row, known), numbers.len())]
 }

@@ -1,7 +1,9 @@
 -- What a task sends, where there is room for it.
-use Rattle.std.proofs.Common.{◌≡◌, ◌<◌, ◌≤◌, ℕ, List, [], ◌∷◌, ◌+◌, ◌++◌, length, map, take, drop, get_or, slice_set, Some, All, subst, sym, ap, ◌∙◌, arith}
+use Rattle.std.proofs.Common.{◌≡◌, ◌<◌, ◌≤◌, ℕ, List, [], ◌∷◌, ◌+◌, ◌++◌, length, map, take, drop, get_or, slice_get, slice_set, Option, None, Some, All, refl, subst, sym, ap, ◌∙◌, arith, inl, inr}
+use Rattle.std.specs.Prelude.{IfSome, option_map}
 use Rattle.std.proofs.lemmas.List.{append-nil, get_or_default, map-append, length-map, length-set, get_or-map, take-map, take_more, take_more_set, drop_more, drop-set}
 use Rattle.std.proofs.lemmas.List.Concat.{flat_map-append}
+use Rattle.std.proofs.lemmas.Option.{slice_get-get_or, slice_get-map}
 use Rattle.std.proofs.lemmas.List.Elements.{All-filter, All-map}
 use Rattle.channels.specs.Items.{leading_records}
 use Rattle.channels.specs.declared.item.Item.{Item}
@@ -10,7 +12,7 @@ use Rattle.dataflow_model.specs.Graph.{Meaning}
 use Rattle.deliveries.specs.Deliveries.{deliveries_of, deliveries_of_one, delivered_last}
 use Rattle.job_graph.specs.Expanded.{Expanded, meets, takes, is_outlet, outlets_of, targets_of}
 use Rattle.job_graph.proofs.Targets.{targets_are}
-use Rattle.job_state.specs.Sending.{as_puts}
+use Rattle.job_state.specs.Sending.{as_puts, AreLanes}
 use Rattle.job_state.proofs.Received.{numbers_below}
 
 -- records that stand first stand before the first barrier
@@ -50,12 +52,38 @@ module _ {R K S O : Type 0} (meaning : Meaning R K S O) (graph : Expanded) (task
   sent_more : (sent : List (ℕ × R)) (one : ℕ × R) → deliveries_of meaning graph task (sent ++ one ∷ []) ≡ deliveries_of meaning graph task sent ++ deliveries_of_one meaning graph task one
   sent_more sent one = flat_map-append (deliveries_of_one meaning graph task) sent (one ∷ []) ∙ ap (λ l. deliveries_of meaning graph task sent ++ l) (append-nil (deliveries_of_one meaning graph task one))
 
+  -- a record that was not told its channel yet is as it was
+  still_there : (rows old : List (ℕ × R)) (i : ℕ) (seen : ℕ × R) → i < length rows → i < length old → drop i rows ≡ drop i old → seen ≡ get_or rows i seen → get_or old i seen ≡ seen
+  still_there rows old i seen inside within others is =
+      ap (λ l. get_or l 0 seen) (sym (drop_more old i seen within) ∙ sym others ∙ drop_more rows i seen inside) ∙ sym is
+
+  -- a lane that is told at its place is its own
+  pub lane_known : (rows old : List (ℕ × R)) (lanes : List ℕ) (i : ℕ) (seen : ℕ × R) (known : Option ℕ) → i < length rows → i < length old → drop i rows ≡ drop i old → seen ≡ get_or rows i seen → AreLanes meaning old lanes → known ≡ slice_get lanes i →
+      IfSome known (λ lane. lane ≡ meaning.lane seen.1)
+  lane_known rows old lanes i seen known inside within others is told at = subst (λ k. IfSome k (λ lane. lane ≡ meaning.lane seen.1)) (sym at) (by (slice_get lanes i) refl)
+    where
+      lane : ℕ × R → ℕ
+      lane s = meaning.lane s.1
+
+      there : slice_get old i ≡ Some seen
+      there = slice_get-get_or old i seen within ∙ ap Some (still_there rows old i seen inside within others is)
+
+      by : (k : Option ℕ) → slice_get lanes i ≡ k → IfSome k (λ l. l ≡ meaning.lane seen.1)
+      by None e = tt
+      by (Some l) e =
+          elim told [
+            | inl none ↦ absurd (let nothing : ◌≡◌ {A = Option ℕ} (slice_get [] i) (Some l) = subst (λ (ls : List ℕ). slice_get ls i ≡ Some l) none e in cc)
+            | inr all ↦
+                let same : ◌≡◌ {A = Option ℕ} (Some (meaning.lane seen.1)) (Some l) = sym (slice_get-map lane old i ∙ ap (option_map lane) there) ∙ sym (ap (λ ls. slice_get ls i) all) ∙ e in
+                cc
+          ]
+
   -- the first record that was not told its channel yet is told it
   pub row_told : (rows old : List (ℕ × R)) (i number : ℕ) (seen was : ℕ × R) → i < length rows → i < length old → drop i rows ≡ drop i old → seen ≡ get_or rows i seen → was ≡ get_or rows i was → All (λ s. s.0 ≡ 0) old →
       deliveries_of_one meaning graph task (0, seen.1) ≡ (number, Record seen.1) ∷ [] → as_puts (take i rows) ≡ deliveries_of meaning graph task (take i old) →
       as_puts (take (i + 1) (slice_set rows i (number, was.1))) ≡ deliveries_of meaning graph task (take (i + 1) old)
   row_told rows old i number seen was inside within others is was_is first goes told =
-      let same : get_or old i seen ≡ seen = ap (λ l. get_or l 0 seen) (sym (drop_more old i seen within) ∙ sym others ∙ drop_more rows i seen inside) ∙ sym is in
+      let same : get_or old i seen ≡ seen = still_there rows old i seen inside within others is in
       let one : was ≡ seen = was_is ∙ get_or_default rows i was seen inside ∙ sym is in
       let port : seen.0 ≡ 0 = ap (λ s. s.0) (sym same) ∙ first i seen within in
       let sent : (number, Record seen.1) ∷ [] ≡ deliveries_of_one meaning graph task (get_or old i seen) =

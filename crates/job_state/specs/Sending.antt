@@ -1,5 +1,5 @@
 -- What stands in channels, and what is put into them.
-use Rattle.std.specs.Prelude.{◌≡◌, ◌≤◌, ◌<◌, ◌==◌, ℕ, List, [], ◌∷◌, ◌++◌, All, length, drop, map, filter, slice_get, slice_set, Option, Some, None, unwrap_or, if◌then◌else◌}
+use Rattle.std.specs.Prelude.{◌≡◌, ◌⊎◌, ◌≤◌, ◌<◌, ◌==◌, ℕ, List, [], ◌∷◌, ◌++◌, All, length, drop, map, filter, slice_get, slice_set, Option, Some, None, unwrap_or, if◌then◌else◌}
 use Rattle.std.specs.Option.{option_map_or}
 use Rattle.channels.specs.Channel.{Contents}
 use Rattle.channels.specs.declared.item.Item.{Item}
@@ -53,6 +53,10 @@ module _ {R : Type 0} where
 -- a record that the task sends on its first port goes into this channel, and no other
 abbrev pub GoesInto : {R K S O : Type 0} → Meaning R K S O → Expanded → ℕ → ℕ → R → Type 0
 GoesInto meaning graph task number row = deliveries_of meaning graph task ((0, row) ∷ []) ≡ (number, Record row) ∷ []
+
+-- the lanes of what is sent, one for each record, or none: then nothing is told of them
+abbrev pub AreLanes : {R K S O : Type 0} → Meaning R K S O → List (ℕ × R) → List ℕ → Type 0
+AreLanes meaning sent lanes = (lanes ≡ []) ⊎ (lanes ≡ map (λ s. meaning.lane s.1) sent)
 
 -- what the task sends is one record, which goes into this channel, and no other
 abbrev pub IsOneInto : {R K S O : Type 0} → Meaning R K S O → Expanded → ℕ → ℕ → List (ℕ × R) → Type 0

@@ -1,10 +1,10 @@
 //! What a task sends, once there is room for it.
 
-ghost use Rattle.std.specs.Prelude.{◌≡◌, ◌<◌, ◌≤◌, ◌++◌, ℕ, List, All, length, OnOk, IfOk, IfSome};
+ghost use Rattle.std.specs.Prelude.{◌≡◌, ◌<◌, ◌≤◌, ◌++◌, ℕ, List, All, length, slice_get, OnOk, IfOk, IfSome};
 ghost use Rattle.deliveries.specs.Deliveries.{deliveries_of, TakesEach};
 ghost use Rattle.job_graph.specs.Expanded.{outlets_of};
 ghost use Rattle.job_graph.specs.Runs.{IsRun};
-ghost use Rattle.job_state.specs.Sending.{contents_items, items_at, put_into, as_puts, room_at, HasRoom, IsOneInto, puts_of};
+ghost use Rattle.job_state.specs.Sending.{contents_items, items_at, put_into, as_puts, room_at, AreLanes, HasRoom, IsOneInto, puts_of};
 
 use crate::sending::{push_all, release_all, reserve_deliveries};
 use abs_codec::NoMemory;
@@ -36,27 +36,39 @@ fn reserve_one<R: Drop>(channels: &mut [Channel<R>], number: u32) -> Result<(), 
     Ok(())
 }
 
+/// The lane that stands at a place, if one does.
+#[inline(always)]
+fn lane_at(lanes: &[u64], place: usize) -> Option<u64>
+    ensures { result ≡ slice_get lanes.now place }
+{
+    lanes.get(place).copied()
+}
+
 /// Tells each record that a task sends the channel that it goes into, in place of its port, and
 /// takes the room for it there. All are sent on the first port, whose channels are these, one run.
+/// Their lanes may be known.
 fn reserve_rows<O: Operator>(
     channels: &mut [Channel<O::Record>],
     graph: &Graph,
     task: u32,
     numbers: &[u32],
     rows: &mut Vec<(u32, O::Record)>,
+    lanes: &[u64],
 ) -> Result<(), NoMemory>
     requires channels { length channels.old ≡ length graph.now.channels }
     requires are { numbers.now ≡ outlets_of graph.now task 0 }
     requires run { IsRun graph.now.channels numbers.now 0 (length numbers.now) }
     requires each { TakesEach graph.now.channels numbers.now }
     requires first { All (λ s. s.0 ≡ 0) rows.old.items }
+    requires lanes { AreLanes O.meaning rows.old.items lanes.now }
     ensures puts { OnOk result (as_puts rows.new.items
         ≡ deliveries_of O.meaning graph.now task rows.old.items) }
     ensures room { OnOk result (HasRoom channels.new (as_puts rows.new.items)) }
     ensures same { contents_items channels.new ≡ contents_items channels.old }
 {
     for place in 0..rows.len() {
-        let number = run_target::<O>(graph, task, numbers, &rows[place].1);
+        let known = lane_at(lanes, place);
+        let number = run_target::<O>(graph, task, numbers, &rows[place].1, known);
         let Ok(()) = channels[number as usize].reserve(1) else {
             release_all(channels);
             return Err(NoMemory);
@@ -80,15 +92,17 @@ fn target_of_one<O: Operator>(graph: &Graph, task: u32, sent: &[(u32, O::Record)
 }
 
 /// Takes the room for what a task sends, which the answer then holds in place of the list. Where
-/// memory is refused, the list may have lost it.
+/// memory is refused, the list may have lost it. The lanes of several records may be known.
 pub(crate) fn make_ready<O: Operator>(
     alloc: Global,
     channels: &mut [Channel<O::Record>],
     graph: &Graph,
     task: u32,
     sent: &mut Vec<(u32, O::Record)>,
+    lanes: &[u64],
 ) -> Result<Ready<O::Record>, NoMemory>
-    requires { length channels.old ≡ length graph.now.channels }
+    requires channels { length channels.old ≡ length graph.now.channels }
+    requires lanes { AreLanes O.meaning sent.old.items lanes.now }
     ensures puts { IfOk result (λ ready. puts_of ready
         ≡ deliveries_of O.meaning graph.now task sent.old.items) }
     ensures room { IfOk result (λ ready. HasRoom channels.new (puts_of ready)) }
@@ -100,7 +114,8 @@ pub(crate) fn make_ready<O: Operator>(
             return Ok(Ready::One(number, row));
         }
     }
-    make_all_ready::<O>(alloc, channels, graph, task, replace(sent, Vec::new(alloc)))
+    let sent = replace(sent, Vec::new(alloc));
+    make_all_ready::<O>(alloc, channels, graph, task, sent, lanes)
 }
 
 /// Takes the room for all that a task sends.
@@ -110,15 +125,17 @@ fn make_all_ready<O: Operator>(
     graph: &Graph,
     task: u32,
     mut sent: Vec<(u32, O::Record)>,
+    lanes: &[u64],
 ) -> Result<Ready<O::Record>, NoMemory>
-    requires { length channels.old ≡ length graph.now.channels }
+    requires channels { length channels.old ≡ length graph.now.channels }
+    requires lanes { AreLanes O.meaning sent.items lanes.now }
     ensures puts { IfOk result (λ ready. puts_of ready
         ≡ deliveries_of O.meaning graph.now task sent.items) }
     ensures room { IfOk result (λ ready. HasRoom channels.new (puts_of ready)) }
     ensures same { contents_items channels.new ≡ contents_items channels.old }
 {
     if let Some(numbers) = only_run(graph, task, &sent) {
-        reserve_rows::<O>(channels, graph, task, numbers, &mut sent)?;
+        reserve_rows::<O>(channels, graph, task, numbers, &mut sent, lanes)?;
         return Ok(Ready::Rows(sent));
     }
     let puts = reserve_deliveries::<O>(alloc, channels, graph, task, sent)?;

@@ -23,7 +23,7 @@ use operators::Operator;
 
 impl<O: Operator> Attempt<O> {
     ghost use Rattle.job_state.specs.declared.holding.Holding.TheVariants as Holding;
-    ghost use Rattle.job_state.specs.Sending.{items_at, without_head, GoesInto};
+    ghost use Rattle.job_state.specs.Sending.{items_at, without_head, AreLanes, GoesInto};
     ghost use Rattle.job_state.specs.Held.{Held, gate_at, Reads, Operates, record_logged};
     ghost use Rattle.job_state.specs.AtOnce.{HaveExpected};
     ghost use Rattle.job_state.specs.Batch.{Turn, StandFirst, OperatesEach, AreLastStates, rows_of, sent_by};
@@ -103,7 +103,7 @@ impl<O: Operator> Attempt<O> {
     /// of each key, and sends what all of them send: as it would one after another. The records are
     /// logged where the task's gate logs the input. Nothing changes where memory is refused, or
     /// where a key has another state than the one that is expected, if any are. What is left of the
-    /// states, and of what is sent, is to be let go.
+    /// states, and of what is sent, is to be let go. The lanes of what is sent may be known.
     pub fn operate_some(
         &mut self,
         graph: &Graph,
@@ -114,6 +114,7 @@ impl<O: Operator> Attempt<O> {
         states: &mut Vec<(O::Key, O::State)>,
         expected: Option<&[Option<O::State>]>,
         sent: &mut Vec<(u32, O::Record)>,
+        lanes: &[u64],
     ) -> Result<(), SetFault>
         ghost turns: { List (Turn O.Record O.Key O.State) }
         requires holds { (entries : List (O.Key × O.State))
@@ -127,6 +128,7 @@ impl<O: Operator> Attempt<O> {
         requires rising { IsStrictlySortedBy O.Key.cmp (keys_of states.old.items) }
         requires states { AreLastStates O.meaning.same_key turns states.old.items }
         requires sent { sent.old.items ≡ sent_by turns }
+        requires lanes { AreLanes O.meaning sent.old.items lanes.now }
         ensures ok { OnOk result (OperatesEach O.meaning O.Key.cmp graph.now task input channel
             turns self.old self.new) }
         ensures expected { 0 < count → (entries : List (O.Key × O.State))
@@ -145,7 +147,7 @@ impl<O: Operator> Attempt<O> {
         }
         let logged = is_logged(&self.gates, task, input);
         reserve_log(&mut self.logs, channel, logged, count)?;
-        let ready = make_ready::<O>(self.alloc, &mut self.channels, graph, task, sent)?;
+        let ready = make_ready::<O>(self.alloc, &mut self.channels, graph, task, sent, lanes)?;
         if let Err(fault) = keep_all(self.alloc, &mut self.tasks, task, states, expected) {
             release_all(&mut self.channels);
             return Err(fault);

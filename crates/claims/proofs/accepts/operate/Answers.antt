@@ -6,6 +6,7 @@ use Rattle.std.specs.Map.{keys_of}
 use Rattle.job_graph.specs.declared.role.Role.TheVariants as role
 use Rattle.job_state.specs.Batch.{Turn, AreLastStates, StandFirst, rows_of, sent_by}
 use Rattle.engine_model.proofs.Numbers.{channel_in}
+use Rattle.job_state.specs.Sending.{AreLanes}
 use Rattle.claims.specs.Carried.{states_given}
 use Rattle.claims.specs.Keys.{HavePlaces}
 use Rattle.job_state.proofs.Holds.{on_ok}
@@ -54,7 +55,10 @@ operate_some-requires g c =
                           made.rising,
                           (
                             subst (λ ts. AreLastStates meaning.same_key ts c.args.outcomes.now.states.items) (sym is) made.last,
-                            made.sent ∙ sym (ap (λ (ts : List (Turn g.row.O-Record.Denot g.row.O-Key.Denot g.row.O-State.Denot)). sent_by ts) is),
+                            (
+                              made.sent ∙ sym (ap (λ (ts : List (Turn g.row.O-Record.Denot g.row.O-Key.Denot g.row.O-State.Denot)). sent_by ts) is),
+                              subst (λ ls. AreLanes meaning c.args.outcomes.now.sent.items ls) (sym c.deref-2.ensures.value) made.lanes,
+                            ),
                           ),
                         ),
                       ),

@@ -22,7 +22,7 @@ returns g c =
     let row = c.args.row.now in
     let numbers = c.args.numbers.now in
     let several : 1 < length numbers = several-of (length numbers) c.requires.run.some c.if-numbers-eq1.false in
-    let is : c.turn.result ≡ meaning.lane row % length numbers = c.turn.ensures ∙ ap (λ l. l % length numbers) c.lane.ensures in
+    let is : c.turn.result ≡ meaning.lane row % length numbers = c.turn.ensures ∙ ap (λ l. l % length numbers) c.lane_of.ensures in
     run_delivers meaning graph c.args.task 0 row numbers (slice_index numbers c.turn.result ∷ []) c.requires.are (run_target graph.channels numbers 0 (length numbers) (meaning.lane row) c.requires.run several ∙ ap (λ n. slice_index numbers n ∷ []) (omega (arith, is)))
   where
     several-of : (n : ℕ) → 0 < n → (n ≡ 1 → ⊥) → 1 < n

@@ -10,7 +10,7 @@ reserve_one-requires g c =
     let meaning = g.O.Operator.meaning in
     let graph = c.args.graph.now in
     let one = subst (IsOneInto meaning graph c.args.task c.in-Some.number) c.deref.ensures.value c.in-Some.ensures in
-    are_channels (sym one.3) c.requires (deliveries_are_put meaning graph c.args.task c.args.sent.now.items) 0 (c.in-Some.number, Record one.1) (omega arith)
+    are_channels (sym one.3) c.requires.channels (deliveries_are_put meaning graph c.args.task c.args.sent.now.items) 0 (c.in-Some.number, Record one.1) (omega arith)
 
 pub returns-in-Some-pop-clause-puts : goal.returns-in-Some-pop-clause-puts
 returns-in-Some-pop-clause-puts g c =

@@ -3,9 +3,19 @@ use Rattle.std.proofs.lemmas.List.{length-set, length-append, map-append, take_m
 use Rattle.std.proofs.lemmas.Option.{slice_get-get_or}
 use Rattle.channels.specs.declared.item.Item.TheVariants.{Record}
 use Rattle.job_state.specs.Sending.{put_into, as_puts}
-use Rattle.job_state.proofs.Departures.{outlets_below, goes_among, row_told, left_behind}
+use Rattle.job_state.proofs.Departures.{outlets_below, goes_among, lane_known, row_told, left_behind}
 use Rattle.job_state.proofs.Putting.{items_kept, room_reserved, put_into_append}
 use Rattle.job_state.proofs.ready.reserve_rows.Goals as goal
+
+-- the lane that is told of the record is its own
+pub run_target-number-requires-clause-known : goal.run_target-number-requires-clause-known
+run_target-number-requires-clause-known g c =
+    let rows = c.loop-place.rows.items in
+    let old = c.args.rows.now.items in
+    let i = c.loop-place.place in
+    let met : i < length old = omega arith in
+    let inside : i < length rows = omega (arith, met, c.loop-place.invariant.same_length) in
+    lane_known g.O.Operator.meaning c.args.graph.now c.args.task rows old c.args.lanes.now i c.index.result.now c.lane_at-known.result inside met c.loop-place.invariant.others c.index.ensures c.requires.lanes c.lane_at-known.ensures
 
 pub bounds-channels-number : goal.bounds-channels-number
 bounds-channels-number g c =
