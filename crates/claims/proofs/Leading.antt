@@ -54,6 +54,21 @@ module _ {R : Type 0} where
   leads_first (Barrier n ∷ items) row e = absurd cc
   leads_first (Record r ∷ items) row e = omega arith
 
+  -- a record that leads stands first, once those before it are taken
+  pub lead_behind : (items : List (Item R)) (i : ℕ) (row : R) → slice_get (leading_records items) i ≡ Some row → slice_get (drop i items) 0 ≡ Some (Record row)
+  lead_behind [] i row e = absurd cc
+  lead_behind (Barrier n ∷ items) i row e = absurd cc
+  lead_behind (Record r ∷ items) zero row e = let same : r ≡ row = cc in ap (λ (x : R). Some (Record x)) same
+  lead_behind (Record r ∷ items) (suc i) row e = lead_behind items i row e
+
+  pub behind_leads : (items : List (Item R)) (i : ℕ) (row : R) → i ≤ length (leading_records items) → slice_get (drop i items) 0 ≡ Some (Record row) → slice_get (leading_records items) i ≡ Some row
+  behind_leads [] zero row within e = absurd cc
+  behind_leads [] (suc i) row within e = absurd cc
+  behind_leads (Barrier n ∷ items) zero row within e = absurd cc
+  behind_leads (Barrier n ∷ items) (suc i) row within e = absurd (omega (arith, within))
+  behind_leads (Record r ∷ items) zero row within e = let same : r ≡ row = cc in ap Some same
+  behind_leads (Record r ∷ items) (suc i) row within e = behind_leads items i row (omega (arith, within)) e
+
   -- records that lead fit, where all in the channel do
   pub leading_fit : (P : R → Type 0) (items : List (Item R)) → All (IfRecord P) items → All P (leading_records items)
   leading_fit P [] all = All-nil P

@@ -7,6 +7,7 @@ pub mod Keys
 pub mod LastKeys
 pub mod Leading
 pub mod Places
+pub mod RowsBehind
 pub mod SinkRows
 pub mod Serving
 pub mod Turns

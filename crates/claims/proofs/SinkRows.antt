@@ -24,7 +24,7 @@ use Rattle.claims.specs.declared.parts.Made.TheVariants as made
 use Rattle.claims.proofs.Holdings.{logged_length}
 
 -- a transaction to which a record is put is open still
-still_open : (l : Ledger) (n : ℕ) (bytes : List ℕ) → open_refusal l n ≡ None → open_refusal (appended l n bytes) n ≡ None
+pub still_open : (l : Ledger) (n : ℕ) (bytes : List ℕ) → open_refusal l n ≡ None → open_refusal (appended l n bytes) n ≡ None
 still_open l n bytes is_open = by (transaction_at l n) refl
   where
     more : Transaction → Transaction
@@ -40,7 +40,7 @@ still_open l n bytes is_open = by (transaction_at l n) refl
 pub same_sink : {K S : Type 0} (a b : Sinking) → ◌≡◌ {A = Option (Holding K S)} (Some (holds.Sink a)) (Some (holds.Sink b)) → a ≡ b
 same_sink a b e = cc
 
-no_operator : (number subtask : ℕ) → ◌≡◌ {A = Option Role} (Some (role.Operator number)) (Some (role.Sink subtask)) → ⊥
+pub no_operator : (number subtask : ℕ) → ◌≡◌ {A = Option Role} (Some (role.Operator number)) (Some (role.Sink subtask)) → ⊥
 no_operator number subtask e = cc
 
 pub no_fault : (fault : CoreFault) → ◌≡◌ {A = Result Unit CoreFault} (Ok tt) (Err fault) → ⊥
@@ -48,7 +48,7 @@ no_fault fault e = cc
 
 module _ {R K S O : Type 0} (lang : Language R K S O) (graph : Expanded) (operators : List O) (task input channel : ℕ) (h k : Held R K S) (old new : Ledger) where
   -- what a sink takes is a record that it puts out
-  puts_out : (m : Made O K S R) → SinksInto graph task input h channel → EndsAccept lang graph operators task input h k old new m (Ok tt) → PutsOut task input h k channel old new lang.spelling
+  pub puts_out : (m : Made O K S R) → SinksInto graph task input h channel → EndsAccept lang graph operators task input h k old new m (Ok tt) → PutsOut task input h k channel old new lang.spelling
   puts_out (made.Operator solved) at e = absurd (no_operator e.due.number at.subtask (sym e.due.is_operator ∙ at.is_sink))
   puts_out (made.Sink row bytes) at e =
       subst (λ (c : Option ℕ). WorksAs graph task input h k old new lang operators (Ok tt) (Some (role.Sink at.subtask)) c) at.leads

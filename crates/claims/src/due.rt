@@ -73,7 +73,12 @@ fn is_first<O: Operator>(
 
 /// Whether this record stands at a place of a channel, with no barrier before it.
 #[inline(always)]
-fn is_record<O: Operator>(attempt: &Attempt<O>, channel: u32, index: usize, row: &O::Record) -> bool
+pub(crate) fn is_record<O: Operator>(
+    attempt: &Attempt<O>,
+    channel: u32,
+    index: usize,
+    row: &O::Record,
+) -> bool
     ensures { IsTrue result
         ↔ (slice_get (leading_records (items_at attempt.now.channels channel)) index
         ≡ Some row.now) }

@@ -1,6 +1,6 @@
 //! Records that are sent, taken and logged.
 
-ghost use Rattle.std.specs.Prelude.{◌≡◌, ◌<◌, ◌+◌, ◌^◌, ℕ, List, length, slice_get, Some, Err, IfSome, OnOk, OnErr};
+ghost use Rattle.std.specs.Prelude.{◌≡◌, ◌<◌, ◌≤◌, ◌+◌, ◌^◌, ℕ, List, length, slice_get, Some, Err, IfSome, OnOk, OnErr};
 ghost use Rattle.std.specs.Option.{option_copied};
 ghost use Rattle.channels.specs.declared.item.Item.TheVariants as Item;
 ghost use Rattle.keyed_state.specs.declared.comparing.SetFault.TheVariants as SetFault;
@@ -25,7 +25,9 @@ impl<O: Operator> Attempt<O> {
     ghost use Rattle.job_state.specs.declared.holding.Holding.TheVariants as Holding;
     ghost use Rattle.job_state.specs.Sending.{items_at, without_head, AreLanes, GoesInto};
     ghost use Rattle.job_state.specs.Held.{Held, gate_at, Reads, Operates, record_logged};
-    ghost use Rattle.job_state.specs.AtOnce.{HaveExpected};
+    ghost use Rattle.job_state.specs.AtOnce.{HaveExpected, without_first};
+    ghost use Rattle.alignment.specs.Table.{is_logged};
+    ghost use Rattle.channels.specs.Items.{leading_records};
     ghost use Rattle.job_state.specs.Batch.{Turn, StandFirst, OperatesEach, AreLastStates, rows_of, sent_by};
     ghost use Rattle.std.specs.List.Sorted.{IsStrictlySortedBy};
     ghost use Rattle.std.specs.Map.{keys_of};
@@ -192,6 +194,23 @@ impl<O: Operator> Attempt<O> {
         if is_logged(&self.gates, task, input) {
             drop_last(&mut self.logs, channel);
         }
+    }
+
+    /// Whether a record that a task takes from an input is to be logged.
+    pub fn logs_input(&self, task: u32, input: u32) -> bool
+        requires { input < length (gate_at self.now task).inputs }
+        ensures { result ≡ is_logged (gate_at self.now task) input }
+    {
+        is_logged(&self.gates, task, input)
+    }
+
+    /// Takes away so many of the records that stand first in a channel. It takes no memory.
+    pub fn take_some(&mut self, channel: u32, count: usize)
+        requires { count ≤ length (leading_records (items_at self.old.channels channel)) }
+        ensures { self.new
+            ≡ record self.old { channels = without_first count channel self.old.channels } }
+    {
+        skip(&mut self.channels, channel, count);
     }
 
     /// Takes the first item of a channel. It takes no memory.

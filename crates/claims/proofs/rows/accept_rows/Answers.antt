@@ -1,83 +1,45 @@
-use Rattle.std.proofs.Common.{◌≡◌, ◌+◌, ◌++◌, ◌∷◌, [], inl, ℕ, List, None, Ok, Err, length, drop, suc, refl, sym, ap, subst, ◌∙◌, arith}
-use Rattle.std.proofs.lemmas.Iterator.Adapters.{YieldsList-from_vec}
-use Rattle.std.proofs.lemmas.Iterator.Consumers.{YieldsList-so_far, YieldsList-turn, YieldsList-end}
-use Rattle.std.proofs.lemmas.List.{length-append}
+use Rattle.std.proofs.Common.{◌≡◌, ℕ, None, inl, sym, ap, subst, ◌∙◌}
 use Rattle.commit_sink.specs.Ledger.{open_refusal}
 use Rattle.commit_sink.specs.Sink.{Sinking}
 use Rattle.job_graph.specs.declared.role.Role.TheVariants as role
 use Rattle.engine_model.proofs.Numbers.{channel_in}
-use Rattle.engine_model.specs.Language.{language}
-use Rattle.claims.specs.Rows.{AcceptsInTurn}
 use Rattle.claims.proofs.Dues.{within_gates}
 use Rattle.claims.proofs.Serving.{holds_sink}
-use Rattle.claims.proofs.SinkRows.{same_sink, no_fault, still_sinks, one_more, then_refused, split_at, map_same}
+use Rattle.claims.proofs.SinkRows.{same_sink}
 use Rattle.claims.proofs.rows.accept_rows.Goals as goal
 
-pub loop-worked-init : goal.loop-worked-init
-loop-worked-init g c =
+pub logs_input-requires : goal.logs_input-requires
+logs_input-requires g c =
     let at = c.in-Some.ensures.some in
-    let serves = c.requires.serves.1 in
-    let held = holds_sink _ _ _ _ _ serves c.args.task (at.0).subtask (at.0).is_sink in
+    within_gates c.args.graph.now c.args.attempt.now (c.requires.serves.1).shape.gate_fits c.args.task c.args.input c.in-Some.place.0 (role.Sink (at.0).subtask) (at.0).is_sink (at.0).leads
+
+pub take_each-requires-clause-within : goal.take_each-requires-clause-within
+take_each-requires-clause-within g c =
+    let at = c.in-Some.ensures.some in
+    within_gates c.args.graph.now c.args.attempt.now (c.requires.serves.1).shape.gate_fits c.args.task c.args.input c.in-Some.place.0 (role.Sink (at.0).subtask) (at.0).is_sink (at.0).leads
+
+pub take_each-requires-clause-logs : goal.take_each-requires-clause-logs
+take_each-requires-clause-logs g c =
+    let at = c.in-Some.ensures.some in
+    channel_in c.args.graph.now c.args.task c.args.input c.in-Some.place.0 c.args.attempt.now.logs (at.0).leads (c.requires.serves.1).shape.logs
+
+-- the sink's transaction is open
+pub take_each-requires-clause-is_open : goal.take_each-requires-clause-is_open
+take_each-requires-clause-is_open g c =
+    let at = c.in-Some.ensures.some in
+    let held = holds_sink _ _ _ _ _ c.requires.serves.1 c.args.task (at.0).subtask (at.0).is_sink in
     let one = ap (λ (s : Sinking). s.open_one) (same_sink held.0 (at.0).sink (sym held.1 ∙ (at.0).was)) ∙ at.1 in
-    record {
-      sinks = at;
-      within = within_gates c.args.graph.now c.args.attempt.now serves.shape.gate_fits c.args.task c.args.input c.in-Some.place.0 (role.Sink (at.0).subtask) (at.0).is_sink (at.0).leads;
-      logs = channel_in c.args.graph.now c.args.task c.args.input c.in-Some.place.0 c.args.attempt.now.logs (at.0).leads serves.shape.logs;
-      is_open = subst (λ (n : ℕ). open_refusal (g.X.Transactions.state c.args.transactions.now) n ≡ None) one held.2;
-      count = refl;
-      taken = λ operators. (refl, refl, refl, refl);
-      told = refl;
-    }
+    subst (λ (n : ℕ). open_refusal (g.X.Transactions.state c.args.transactions.now) n ≡ None) one held.2
 
-pub loop-worked-preserved : goal.loop-worked-preserved
-loop-worked-preserved g c =
-    let X = g.X.Transactions in
-    let lang = language g.O.Operator.meaning g.O.Key.Ord.cmp g.O.Record.Codec.spelling g.O.Record.Codec.reading g.O.Key.Codec.reading g.O.State.Codec.reading in
-    let was = c.loop-worked.invariant in
-    let now = c.in_default-take_made.ensures in
-    let before = c.loop-worked in
-    let after = c.take_made.new in
-    let made = c.in-Some-worked.worked in
-    let still = still_sinks lang c.args.graph.now c.requires.serves.0 c.args.task c.args.input c.in-Some.place.0 before.attempt after.attempt (X.state before.transactions) (X.state after.transactions) made c.in-Some.place.1 (now.ends c.requires.serves.0) was.sinks was.within was.logs was.is_open in
-    record {
-      sinks = still.0;
-      within = still.1;
-      logs = still.2;
-      is_open = still.3;
-      count = omega (arith, was.count, length-append before.yielded (made ∷ []));
-      taken = λ operators.
-          subst (λ (n : ℕ). AcceptsInTurn lang c.args.graph.now operators c.args.task c.args.input (before.yielded ++ made ∷ []) c.args.attempt.now after.attempt (X.state c.args.transactions.now) (X.state after.transactions) n (Ok tt)) (ap (λ (n : ℕ). before.count + n) now.one)
-          (one_more lang c.args.graph.now operators c.args.task c.args.input before.yielded made c.args.attempt.now before.attempt after.attempt (X.state c.args.transactions.now) (X.state before.transactions) (X.state after.transactions) before.count (was.taken operators) (g.met.X.Transactions.ordered after.transactions) (now.ends operators));
-      told = now.told (λ e. no_fault _ e) ∙ was.told;
-    }
+pub put_all-count-requires-clause-unlogged : goal.put_all-count-requires-clause-unlogged
+put_all-count-requires-clause-unlogged g c = sym c.logs_input.ensures ∙ c.if-logs_input.false
 
-pub returns-in-Err-clause-ends : goal.returns-in-Err-clause-ends
-returns-in-Err-clause-ends g c = λ operators.
-    let X = g.X.Transactions in
-    let lang = language g.O.Operator.meaning g.O.Key.Ord.cmp g.O.Record.Codec.spelling g.O.Record.Codec.reading g.O.Key.Codec.reading g.O.State.Codec.reading in
-    let before = c.loop-worked in
-    let after = c.take_made.new in
-    let made = c.in-Some-worked.worked in
-    let items = c.args.ahead.items in
-    let b = c.into_iter-worked-iterator.ensures.into_iter_gives in
-    let y = YieldsList-from_vec {s = c.into_iter-worked-iterator.result} items b.0 (b.1 ∙ c.args.ahead.ok.0) in
-    let t = YieldsList-turn y before.yielded before.worked-iterator before.yielded_by c.next.result c.next.new.self made c.in-Some-worked.is c.next.ensures.steps in
-    let so_far = sym (map_same before.yielded) ∙ YieldsList-so_far y before.yielded before.worked-iterator before.yielded_by in
-    let rest = drop (suc (length before.yielded)) items in
-    inl (
-      c.in-Some.place.0,
-      c.in-Some.ensures.some.0,
-      subst (λ (l : List _). AcceptsInTurn lang c.args.graph.now operators c.args.task c.args.input l c.args.attempt.now after.attempt (X.state c.args.transactions.now) (X.state after.transactions) before.count (Err c.in-Err.fault)) (sym (split_at before.yielded items made so_far t.0 t.1))
-          (then_refused lang c.args.graph.now operators c.args.task c.args.input before.yielded made rest c.args.attempt.now before.attempt after.attempt (X.state c.args.transactions.now) (X.state before.transactions) (X.state after.transactions) before.count c.in-Err.fault (before.invariant.taken operators) (c.in-Err.ensures.ends operators)),
-    )
+pub put_all-count-requires-clause-is_open : goal.put_all-count-requires-clause-is_open
+put_all-count-requires-clause-is_open g c =
+    let at = c.in-Some.ensures.some in
+    let held = holds_sink _ _ _ _ _ c.requires.serves.1 c.args.task (at.0).subtask (at.0).is_sink in
+    let one = ap (λ (s : Sinking). s.open_one) (same_sink held.0 (at.0).sink (sym held.1 ∙ (at.0).was)) ∙ at.1 in
+    subst (λ (n : ℕ). open_refusal (g.X.Transactions.state c.args.transactions.now) n ≡ None) one held.2
 
-pub returns-clause-ends : goal.returns-clause-ends
-returns-clause-ends g c = λ operators.
-    let X = g.X.Transactions in
-    let lang = language g.O.Operator.meaning g.O.Key.Ord.cmp g.O.Record.Codec.spelling g.O.Record.Codec.reading g.O.Key.Codec.reading g.O.State.Codec.reading in
-    let before = c.loop-worked in
-    let items = c.args.ahead.items in
-    let b = c.into_iter-worked-iterator.ensures.into_iter_gives in
-    let y = YieldsList-from_vec {s = c.into_iter-worked-iterator.result} items b.0 (b.1 ∙ c.args.ahead.ok.0) in
-    let all = (YieldsList-end y before.yielded before.worked-iterator before.yielded_by c.next.result c.next.new.self c.in-None.is c.next.ensures.steps).0 in
-    inl (c.in-Some.place.0, c.in-Some.ensures.some.0, subst (λ (l : List _). AcceptsInTurn lang c.args.graph.now operators c.args.task c.args.input l c.args.attempt.now before.attempt (X.state c.args.transactions.now) (X.state before.transactions) before.count (Ok tt)) (sym (map_same before.yielded) ∙ all) (before.invariant.taken operators))
+pub returns-then-logs_input-clause-ends : goal.returns-then-logs_input-clause-ends
+returns-then-logs_input-clause-ends g c = λ operators. inl (c.in-Some.place.0, (c.in-Some.ensures.some).0, c.take_each.ensures.ends operators)

@@ -3,7 +3,7 @@ use Rattle.commit_sink.specs.Ledger.{open_refusal}
 use Rattle.engine_model.specs.Language.{language}
 use Rattle.job_state.specs.Held.{gate_at}
 use Rattle.claims.specs.Rows.{SinksInto, AcceptsInTurn}
-use Rattle.claims.proofs.rows.accept_rows.Given as goal
+use Rattle.claims.proofs.rows.take_each.Given as goal
 
 -- so many were taken in turn, and the sink may take the next one
 abbrev pub invariant-loop-worked : goal.invariant-loop-worked
