@@ -1,6 +1,6 @@
 -- The records and the barriers of a channel, as one list.
 use Rattle.std.proofs.Common.{zero, suc, ◌≡◌, ◌<◌, ◌≤◌, ◌+◌, ◌-◌, ℕ, List, [], ◌∷◌, ◌++◌, length, map, take, drop, Option, Some, None, slice_get, slice_set, get_or, refl, subst, sym, ap, ◌∙◌, arith, append_assoc}
-use Rattle.std.proofs.lemmas.List.{map-append, length-map, length-append, length-take, length-take-le, length-drop, take_all, drop_all, drop-take, drop-map, take-append-le, drop-append-le}
+use Rattle.std.proofs.lemmas.List.{map-append, length-map, length-append, length-take, length-take-le, length-drop, take_all, take_min, drop_all, drop-take, drop-map, take-append-le, drop-append-le}
 use lib.Seq.{drop-drop}
 use Rattle.std.proofs.lemmas.List.Sums.{sum_by-cons}
 use Rattle.std.proofs.lemmas.Option.{slice_get_read}
@@ -87,6 +87,13 @@ module _ {R : Type 0} where
   pub leading_within : (barriers : List SpacedBarrier) (records : List R) → length (leading_records (interleaved barriers records)) ≤ length records
   leading_within [] records = omega (arith, leading_length [] records refl)
   leading_within (b ∷ barriers) records = rw leading-interleaved (omega (arith, length-take b.gap records))
+
+  -- those that lead are the first records
+  pub leads_of_records : (barriers : List SpacedBarrier) (records : List R) → leading_records (interleaved barriers records) ≡ take (length (leading_records (interleaved barriers records))) records
+  leads_of_records [] records =
+      let all : leading_records (map Record records) ≡ records = leading_all records in
+      all ∙ sym (take_all (length (leading_records (map Record records))) records (omega (arith, ap (λ (l : List R). length l) all)))
+  leads_of_records (b ∷ barriers) records = rw leading-interleaved (sym (ap (λ n. take n records) (length-take b.gap records) ∙ take_min b.gap records))
 
   slice_get-take : (n : ℕ) (records : List R) (index : ℕ) → index < n → slice_get (take n records) index ≡ slice_get records index
   slice_get-take zero records index within = absurd (omega arith)

@@ -1,9 +1,11 @@
 //! A list of items, pushed at the end and popped at the front.
 
-ghost use Rattle.std.specs.Prelude.{◌≡◌, ◌<◌, ◌≤◌, ◌+◌, ◌-◌, ◌↔◌, [], ◌∷◌, ◌++◌, length, drop, slice_get, option_map, IsTrue, OnOk, OnErr};
+ghost use Rattle.std.specs.Prelude.{◌≡◌, ◌<◌, ◌≤◌, ◌+◌, ◌-◌, ◌↔◌, [], ◌∷◌, ◌++◌, length, map, take, drop, slice_get, option_map, IsTrue, OnOk, OnErr};
 ghost use Rattle.std.specs.Option.{option_copied};
 ghost use Rattle.std.specs.VecDeque.{deque_len, deque_capacity};
+ghost use Rattle.abs_codec.specs.Same.{EqualIsSame};
 ghost use Rattle.channels.specs.Items.{item_copied, leading_records};
+ghost use Rattle.channels.specs.declared.item.Item.TheVariants.{Record};
 
 use crate::item::Item;
 use crate::spaced_barrier::SpacedBarrier;
@@ -145,6 +147,25 @@ impl<R: Drop> Channel<R> {
         } else {
             None
         }
+    }
+
+    /// Whether these records stand first, with no barrier before one of them.
+    #[inline(always)]
+    pub fn starts_with(&self, records: &[R]) -> bool
+    where
+        R: Eq,
+        ensures { EqualIsSame R.Eq.eq → IsTrue result
+            ↔ (take (length records.now) self.now.items ≡ map Record records.now) }
+    {
+        if self.before_barrier() < records.len() {
+            return false;
+        }
+        for (own, record) in self.records.iter().zip(records) {
+            if own != record {
+                return false;
+            }
+        }
+        true
     }
 
     /// The item that was sent first.

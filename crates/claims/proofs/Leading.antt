@@ -1,5 +1,5 @@
 -- The records that lead a channel, and the items that stand first.
-use Rattle.std.proofs.Common.{◌≡◌, ◌<◌, ◌≤◌, ◌+◌, ◌-◌, ◌++◌, ℕ, zero, suc, List, [], ◌∷◌, length, map, min, take, drop, Option, Some, slice_get, refl, sym, ap, ◌∙◌, arith, add-one, length-drop}
+use Rattle.std.proofs.Common.{◌≡◌, ◌<◌, ◌≤◌, ◌+◌, ◌-◌, ◌++◌, ℕ, zero, suc, List, [], ◌∷◌, length, map, min, take, drop, Some, slice_get, refl, sym, ap, ◌∙◌, arith, add-one, length-drop}
 use Rattle.std.specs.List.{All}
 use Rattle.std.proofs.lemmas.List.{map_push, take_min, take_more}
 use Rattle.std.proofs.lemmas.Option.{get_or_from_slice_get, slice_get_within}
@@ -10,37 +10,6 @@ use Rattle.channels.specs.declared.item.Item.TheVariants.{Record, Barrier}
 use Rattle.engine_model.specs.Keeps.{IfRecord}
 
 module _ {R : Type 0} where
-  -- these records stand first
-  abbrev pub Stand : List R → List (Item R) → Type 0
-  Stand rows items = take (length rows) items ≡ map Record rows
-
-  -- each of these records leads in its place
-  abbrev pub Lead : List R → List (Item R) → Type 0
-  Lead rows items = (i : ℕ) → i < length rows → slice_get (leading_records items) i ≡ slice_get rows i
-
-  pub stand_by_place : (rows : List R) (items : List (Item R)) → Lead rows items → Stand rows items
-  stand_by_place [] items lead = refl
-  stand_by_place (row ∷ rows) [] lead = absurd (let e = lead 0 (omega arith) in cc)
-  stand_by_place (row ∷ rows) (Barrier n ∷ items) lead = absurd (let e = lead 0 (omega arith) in cc)
-  stand_by_place (row ∷ rows) (Record r ∷ items) lead =
-      let same : ◌≡◌ {A = Option R} (Some r) (Some row) = lead 0 (omega arith) in
-      let is : r ≡ row = cc in
-      let rest = stand_by_place rows items (λ i less. lead (suc i) (omega arith)) in
-      ap (λ (x : R). Record x ∷ take (length rows) items) is ∙ ap (λ (xs : List (Item R)). Record row ∷ xs) rest
-
-  tail_is : (x y : Item R) (xs ys : List (Item R)) → ◌≡◌ {A = List (Item R)} (x ∷ xs) (y ∷ ys) → xs ≡ ys
-  tail_is x y xs ys e = cc
-
-  head_row : (r row : R) (xs ys : List (Item R)) → ◌≡◌ {A = List (Item R)} (Record r ∷ xs) (Record row ∷ ys) → r ≡ row
-  head_row r row xs ys e = cc
-
-  pub lead_where_stand : (rows : List R) (items : List (Item R)) → Stand rows items → Lead rows items
-  lead_where_stand [] items stand i less = absurd (omega arith)
-  lead_where_stand (row ∷ rows) [] stand i less = absurd cc
-  lead_where_stand (row ∷ rows) (Barrier n ∷ items) stand i less = absurd cc
-  lead_where_stand (row ∷ rows) (Record r ∷ items) stand zero less = ap Some (head_row r row (take (length rows) items) (map Record rows) stand)
-  lead_where_stand (row ∷ rows) (Record r ∷ items) stand (suc i) less = lead_where_stand rows items (tail_is (Record r) (Record row) (take (length rows) items) (map Record rows) stand) i (omega arith)
-
   -- the first of those that lead stand first
   pub stand_taken : (count : ℕ) (items : List (Item R)) → count ≤ length (leading_records items) → take count items ≡ map Record (take count (leading_records items))
   stand_taken zero items within = refl

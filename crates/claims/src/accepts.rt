@@ -24,7 +24,7 @@ use commit_sink::{TransactionFault, Transactions};
 use engine_model::{CoreFault, Rules};
 use job_graph::Graph;
 use job_state::Attempt;
-use keyed_state::SetFault;
+use keyed_state::{Seen, SetFault};
 use operators::Operator;
 
 /// Whether a task has these states, where they are not compared as others are kept.
@@ -32,7 +32,7 @@ fn has_uncompared<O: Operator>(
     attempt: &Attempt<O>,
     task: u32,
     states: &States<O::Key, O::State>,
-    expected: Option<&[Option<O::State>]>,
+    expected: Option<&[Seen<O::State>]>,
 ) -> bool
     ensures { (entries : List (O.Key × O.State))
         → slice_get attempt.now.tasks task ≡ Some (Holding.Operator entries) → IsTrue result

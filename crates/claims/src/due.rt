@@ -94,12 +94,7 @@ pub(crate) fn is_record<O: Operator>(
 fn has_records<O: Operator>(attempt: &Attempt<O>, channel: u32, rows: &[O::Record]) -> bool
     ensures { IsTrue result ↔ StandFirst channel rows.now attempt.now }
 {
-    for index in 0..rows.len() {
-        if !is_record(attempt, channel, index, &rows[index]) {
-            return false;
-        }
-    }
-    true
+    attempt.has_first(channel, rows)
 }
 
 /// Whether a task has this state under a key, or has none where none is given.
@@ -134,7 +129,7 @@ fn has_copied<O: Operator>(
 {
     let (keys, states) = copies.columns();
     for (key, state) in keys.iter().zip(states) {
-        if !has_state(attempt, task, key, state.as_ref()) {
+        if !has_state(attempt, task, key, state.state()) {
             return false;
         }
     }

@@ -10,6 +10,7 @@ ghost use Rattle.claims.specs.Places.{given_at, left_at, state_at, IsPlaceOf, Ha
 
 use crate::states::Copies;
 use abs_codec::{Codec, NoMemory};
+use keyed_state::Seen;
 use std::alloc::Global;
 use std::cmp::Ordering;
 
@@ -17,7 +18,7 @@ use std::cmp::Ordering;
 #[derive(Drop)]
 pub(crate) struct Place<'a, K, S> {
     key: &'a K,
-    given: &'a Option<S>,
+    given: &'a Seen<S>,
     left: Option<S>,
 }
 
@@ -79,7 +80,7 @@ pub(crate) fn state_of<'a, K, S>(places: &'a [Place<K, S>], place: Option<usize>
     let place = places.get(place?)?;
     match &place.left {
         Some(state) => Some(state),
-        None => place.given.as_ref(),
+        None => place.given.state(),
     }
 }
 

@@ -12,7 +12,7 @@ ghost use Rattle.claims.specs.Keys.{states_under, HavePlaces};
 
 use abs_codec::{Codec, NoMemory};
 use job_state::Attempt;
-use keyed_state::LentStates;
+use keyed_state::{LentStates, Seen};
 use operators::Operator;
 use std::alloc::Global;
 use std::marker::Model;
@@ -22,7 +22,7 @@ use std::marker::Model;
 #[derive(Drop)]
 pub(crate) struct Copies<K: Ord, S> {
     keys: Vec<K>,
-    states: Vec<Option<S>>,
+    states: Vec<Seen<S>>,
     /// At which place the key of each keyed record may stand: a guess, which saves a search.
     guesses: Vec<u32>,
 }
@@ -43,7 +43,7 @@ impl<K: Ord, S> Model for Copies<K, S> {
 
 impl<K: Ord, S> Copies<K, S> {
     /// The keys, which rise, and the states in the same order.
-    pub(crate) fn columns(&self) -> (&[K], &[Option<S>])
+    pub(crate) fn columns(&self) -> (&[K], &[Seen<S>])
         ensures entries { zip result.0.now result.1.now ≡ self.now }
         ensures rising { IsStrictlySortedBy K.cmp (keys_of self.now) }
     {
@@ -79,21 +79,21 @@ impl<K: Ord, S> Model for States<K, S> {
 }
 
 /// Entries in which a state is looked up by its key.
-pub(crate) trait Entries<K: Ord, S> {
+pub(crate) trait Entries<K: Codec + Ord, S: Codec> {
     /// These are the entries.
     ghost AreEntries: { Self → List (K × S) → Type 0 };
 
-    /// The state at a key.
-    fn state_at(&self, key: &K) -> Option<&S>
-        ensures { (entries : List (K × S)) → AreEntries self.now entries
-            → option_copied result ≡ value_at K.cmp entries key.now };
+    /// A copy of the state at a key, if there is one.
+    fn seen(&self, key: &K) -> Result<Seen<S>, NoMemory>
+        ensures { IfOk result (λ seen. (entries : List (K × S)) → AreEntries self.now entries
+            → seen ≡ value_at K.Ord.cmp entries key.now) };
 }
 
-impl<K: Ord, S> Entries<K, S> for LentStates<K, S> {
+impl<K: Codec + Ord, S: Codec> Entries<K, S> for LentStates<K, S> {
     ghost AreEntries = { λ lent entries. lent ≡ entries };
 
-    fn state_at(&self, key: &K) -> Option<&S> {
-        self.get(key)
+    fn seen(&self, key: &K) -> Result<Seen<S>, NoMemory> {
+        self.seen(key)
     }
 }
 
@@ -108,8 +108,11 @@ impl<O: Operator> Entries<O::Key, O::State> for TaskStates<'_, O> {
     ghost AreEntries = { λ t entries. slice_get t.attempt.now.tasks t.task
         ≡ Some (Holding.Operator entries) };
 
-    fn state_at(&self, key: &O::Key) -> Option<&O::State> {
-        self.attempt.state(self.task, key)
+    fn seen(&self, key: &O::Key) -> Result<Seen<O::State>, NoMemory> {
+        match self.attempt.state(self.task, key) {
+            Some(state) => Ok(Seen::somewhere(Some(state.copied()?))),
+            None => Ok(Seen::somewhere(None)),
+        }
     }
 }
 
@@ -210,18 +213,14 @@ fn copied_states<K: Codec + Ord, S: Codec, E: Entries<K, S>>(
     alloc: Global,
     keys: &[K],
     entries: &E,
-) -> Result<Vec<Option<S>>, NoMemory>
+) -> Result<Vec<Seen<S>>, NoMemory>
     ensures long { IfOk result (λ states. length states.items ≡ length keys.now) }
     ensures states { IfOk result (λ states. (es : List (K × S)) → E.AreEntries entries.now es
         → states.items ≡ map (value_at K.Ord.cmp es) keys.now) }
 {
     let mut states = Vec::with_capacity(alloc, keys.len())?;
     for key in keys {
-        let state = match entries.state_at(key) {
-            Some(state) => Some(state.copied()?),
-            None => None,
-        };
-        states.push(state)?;
+        states.push(entries.seen(key)?)?;
     }
     Ok(states)
 }
@@ -321,7 +320,7 @@ impl<K: Codec + Ord, S: Codec> States<K, S> {
     /// The states, in the order of these entries, where they are copied, each under the key of one
     /// of them. Keys that rise, and have their places here, are all of them if they are as many: so
     /// none is compared.
-    pub(crate) fn under_entries(&self, entries: &[(K, S)]) -> Option<&[Option<S>]>
+    pub(crate) fn under_entries(&self, entries: &[(K, S)]) -> Option<&[Seen<S>]>
         requires rising { IsStrictlySortedBy K.Ord.cmp (keys_of entries.now) }
         requires places { HavePlaces K.Ord.cmp entries.now self.now }
         ensures { OrderIsExact K.Ord.cmp → IfSome result (λ states.

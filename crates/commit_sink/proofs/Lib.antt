@@ -2,6 +2,8 @@ pub mod Counted
 pub mod Ends
 pub mod Replaced
 pub mod Kept
+pub mod Runs
+pub mod Paged
 pub mod Rows
 pub mod Committed
 pub mod Begun

@@ -2,7 +2,7 @@
 use Rattle.std.proofs.Common.{◌≡◌, ◌<◌, ◌≤◌, ◌+◌, ℕ, List, [], ◌∷◌, ◌++◌, length, sum_by, take, drop, get_or, slice_get, Option, Some, None, refl, sym, ap, ◌∙◌, subst, arith}
 use Rattle.std.specs.List.{flat_map}
 use Rattle.std.specs.List.Sorted.{IsNonDecreasingBy}
-use Rattle.std.proofs.lemmas.List.{drop-append-le, drop-drop, drop_at, drop_more, length-append, length-drop, length-map, take-append-drop, take_at, take_more, take-take}
+use Rattle.std.proofs.lemmas.List.{drop-append-le, drop-drop, drop_at, drop_more, length-append, length-map, take-append-drop, take_more, take-take}
 use Rattle.std.proofs.Math.Seq.{take-length}
 use Rattle.std.proofs.lemmas.List.Concat.{flat_map-append, get_or-flat_map, length-flat_map}
 use Rattle.std.proofs.lemmas.List.Folds.{length-flat_map-take}
@@ -16,6 +16,7 @@ use Rattle.commit_sink.specs.Ledger.{Ledger, Transaction, committed_rows, record
 use Rattle.commit_sink.specs.Runs.{IsRunFrom}
 use Rattle.commit_sink.specs.Shares.{IsShare, empty_share, numbers_of}
 use Rattle.commit_sink.proofs.Ends.{rows_of-take}
+use Rattle.commit_sink.proofs.Runs.{run-within}
 
 pub rows_of-committed : (l : Ledger) (s : ℕ) (share : Share) → IsShare l s share → rows_of share.ends.items ≡ length (committed_rows l s)
 rows_of-committed l s share i =
@@ -110,9 +111,9 @@ joined-from f ns k place within inside =
     ∙ ap (drop place) (drop_at (flat_map f (take k ns)) (f (get_or ns k 0) ++ flat_map f (drop (k + 1) ns)) (length (flat_map f (take k ns))) refl)
     ∙ drop-append-le place (f (get_or ns k 0)) (flat_map f (drop (k + 1) ns)) inside
 
--- the records of the transaction that has the record, from that one on
-pub run-found : (l : Ledger) (s index : ℕ) (share : Share) (k n place : ℕ) → IsShare l s share → Stands share.ends.items k index (n, place) → (r : RowFound l s index n place) → IsRunFrom (committed_rows l s) index (drop place r.transaction.records)
-run-found l s index share k n place i st r =
+-- a run of the records of the transaction that has the record, from that one on
+pub run-found : (l : Ledger) (s index : ℕ) (share : Share) (k n place : ℕ) → IsShare l s share → Stands share.ends.items k index (n, place) → (r : RowFound l s index n place) → (run : List (List ℕ)) → IsRunFrom r.transaction.records place run → IsRunFrom (committed_rows l s) index run
+run-found l s index share k n place i st r run of =
     let items : List End = share.ends.items in
     let ns : List ℕ = numbers_of share.ends.items in
     let within : k < length items = slice_get_within items k st.end st.is in
@@ -129,8 +130,4 @@ run-found l s index share k n place i st r =
     ∙ ap (λ m. drop m (flat_map (records_of l) ns)) (sym index_is)
     ∙ joined-from (records_of l) ns k place within_ns (omega (arith, there))
     ∙ ap (λ xs. drop place xs ++ flat_map (records_of l) (drop (k + 1) ns)) records in
-    let left = length-drop place r.transaction.records in
-    record {
-      first = sym (ap (take (length (drop place r.transaction.records))) from ∙ take_at (drop place r.transaction.records) (flat_map (records_of l) (drop (k + 1) ns)) (length (drop place r.transaction.records)) refl);
-      some = λ _. omega (arith, left, inside);
-    }
+    run-within (committed_rows l s) r.transaction.records (flat_map (records_of l) (drop (k + 1) ns)) run index place from inside of

@@ -2,6 +2,7 @@ pub mod Ledger
 pub mod Roomy
 pub mod Lists
 pub mod Runs
+pub mod Pages
 pub mod Shares
 pub mod Ends
 pub mod Sink

@@ -1,5 +1,5 @@
 -- Transactions as a list, and what they are before those that are committed are.
-use Rattle.std.specs.Prelude.{◌≡◌, ◌≤◌, ◌==◌, ◌+◌, ℕ, List, length, count_by, Some, slice_get}
+use Rattle.std.specs.Prelude.{◌≡◌, ◌≤◌, ◌==◌, ◌+◌, ℕ, List, [], length, count_by, None, Some, slice_get}
 use Rattle.commit_sink.specs.declared.transactions.Progress.{Progress}
 use Rattle.commit_sink.specs.declared.transactions.Progress.TheVariants.{Open, PreCommitted, Committed, Aborted}
 use Rattle.commit_sink.specs.Ledger.{Transaction}
@@ -19,3 +19,7 @@ pub record AreSettled (transactions : List Transaction) (done : List ℕ) (now :
   pub count : length now ≡ length transactions
   pub settled : (i : ℕ) (t : Transaction) → slice_get transactions i ≡ Some t → 1 ≤ count_by (λ n. n == i + 1) done → slice_get now i ≡ Some t
   pub others : (i : ℕ) (t : Transaction) → slice_get transactions i ≡ Some t → count_by (λ n. n == i + 1) done ≡ 0 → slice_get now i ≡ Some (to_commit t)
+
+-- the records of the transaction at a place, from 0
+abbrev pub records_at : List Transaction → ℕ → List (List ℕ)
+records_at transactions index = elim (slice_get transactions index) [ None ↦ [] | Some t ↦ t.records ]

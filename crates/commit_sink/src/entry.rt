@@ -1,10 +1,11 @@
 //! One transaction in memory.
 
-ghost use Rattle.std.specs.Prelude.{◌≡◌, ◌<◌, ◌+◌, [], ◌∷◌, ◌++◌, length, get_or, OnOk, OnErr, IfErr};
+ghost use Rattle.std.specs.Prelude.{◌≡◌, [], ◌∷◌, ◌++◌, OnOk, OnErr, IfOk, IfErr};
 ghost use Rattle.commit_sink.specs.Ledger.{Transaction};
 
+use crate::pages::Pages;
 use crate::transactions::{Progress, TransactionFault};
-use abs_codec::{Bytes, Items};
+use abs_codec::{Bytes, Items, NoMemory};
 use std::alloc::Global;
 use std::marker::Model;
 
@@ -13,7 +14,7 @@ use std::marker::Model;
 pub struct Entry {
     subtask: u32,
     progress: Progress,
-    records: Vec<Bytes>,
+    records: Pages<Bytes>,
 }
 
 impl Model for Entry {
@@ -24,7 +25,7 @@ impl Model for Entry {
     ghost view = { λ e. record {
       subtask = e.subtask;
       progress = e.progress;
-      records = e.records.items;
+      records = e.records;
     } };
 }
 
@@ -33,12 +34,10 @@ impl Entry {
     pub(crate) fn with_room(alloc: Global, subtask: u32, room: usize) -> Entry
         ensures { result ≡ record { subtask = subtask; progress = Progress.Open; records = [] } }
     {
-        let mut records = Vec::new(alloc);
-        let _ = records.reserve(room);
         Entry {
             subtask,
             progress: Progress::Open,
-            records,
+            records: Pages::with_room(alloc, room),
         }
     }
 
@@ -49,24 +48,25 @@ impl Entry {
         Entry {
             subtask,
             progress,
-            records: records.into_vec(),
+            records: Pages::from_vec(records.into_vec()),
         }
     }
 
-    /// Its subtask, how far it has come, and its records.
-    pub(crate) fn into_parts(self) -> (u32, Progress, Vec<Bytes>)
-        ensures { self ≡ record {
-          subtask = result.0;
-          progress = result.1;
-          records = result.2.items;
-        } }
+    /// Its subtask, how far it has come, and its records, which are not copied where they stand
+    /// together.
+    pub(crate) fn into_parts(self) -> Result<(u32, Progress, Vec<Bytes>), NoMemory>
+        ensures { IfOk result (λ parts. self ≡ record {
+          subtask = parts.0;
+          progress = parts.1;
+          records = parts.2.items;
+        }) }
     {
         let Entry {
             subtask,
             progress,
             records,
         } = self;
-        (subtask, progress, records)
+        Ok((subtask, progress, records.into_vec()?))
     }
 
     pub(crate) fn subtask(&self) -> u32
@@ -86,10 +86,10 @@ impl Entry {
         ensures { self.new ≡ record self.old { progress = progress } }
     {
         self.progress = progress;
-        self.records.shrink_to_fit();
+        self.records.shrink();
     }
 
-    pub(crate) fn records(&self) -> &[Bytes]
+    pub(crate) fn records(&self) -> &Pages<Bytes>
         ensures { result.now ≡ self.now.records }
     {
         &self.records
@@ -114,6 +114,6 @@ impl Entry {
         ensures { self.new ≡ record self.old { progress = Progress.Aborted; records = [] } }
     {
         self.progress = Progress::Aborted;
-        self.records = Vec::new(*self.records.allocator());
+        self.records.clear();
     }
 }

@@ -13,6 +13,7 @@ mod entry;
 mod flaky_transactions;
 mod lists;
 mod memory_transactions;
+mod pages;
 mod roomy;
 mod share;
 mod sink;

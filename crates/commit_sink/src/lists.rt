@@ -23,23 +23,39 @@ fn memory<T: Drop>(answer: Result<T, TransactionFault>) -> Result<T, NoMemory>
 }
 
 impl MemoryTransactions {
-    ghost use Rattle.std.specs.Prelude.{◌≡◌, ◌<◌, ◌≤◌, ◌+◌, List, [], ◌∷◌, ◌++◌, Some, length, map, slice_get, OnOk, IfOk, IfSome, IfNone};
+    ghost use Rattle.std.specs.Prelude.{◌≡◌, ◌<◌, ◌+◌, List, [], ◌∷◌, ◌++◌, length, slice_get, OnOk, IfOk};
+    ghost use Rattle.std.specs.Option.{option_map};
     ghost use Rattle.commit_sink.specs.declared.transactions.Progress.TheVariants.{Open, Aborted};
     ghost use Rattle.commit_sink.specs.Ledger.{IsOrdered, Transaction};
-    ghost use Rattle.commit_sink.specs.Lists.{AreSettled, to_commit};
+    ghost use Rattle.commit_sink.specs.Lists.{AreSettled, records_at, to_commit};
+    ghost use Rattle.commit_sink.specs.Runs.{IsRunFrom};
     ghost use Rattle.commit_sink.specs.Shares.{ledger_of};
 
     /// The transaction at a place in the order of numbers, from 0: its subtask, how far it has
-    /// come, and its records.
-    pub fn transaction_at(&self, index: u64) -> Option<(u32, Progress, &[Bytes])>
-        ensures some { IfSome result (λ t. slice_get
-            (⟦<MemoryTransactions as Transactions>⟧.state self.now).transactions index
-            ≡ Some (record { subtask = t.0; progress = t.1; records = t.2.now })) }
-        ensures none { IfNone result (length (⟦<MemoryTransactions as Transactions>⟧.state
-            self.now).transactions ≤ index) }
+    /// come, and how many records it has.
+    pub fn transaction_at(&self, index: u64) -> Option<(u32, Progress, u64)>
+        ensures { result ≡ option_map (λ t. (t.subtask, t.progress, length t.records)) (slice_get
+            (⟦<MemoryTransactions as Transactions>⟧.state self.now).transactions index) }
     {
         let entry = self.transactions.get(index as usize)?;
-        Some((entry.subtask(), entry.progress(), entry.records()))
+        let count = entry.records().len() as u64;
+        Some((entry.subtask(), entry.progress(), count))
+    }
+
+    /// The records from a place on of the transaction at an index in the order of numbers, as many
+    /// as stand together: one at least, where there is one. Both count from 0.
+    pub fn records_from(&self, index: u64, place: u64) -> &[Bytes]
+        ensures { IsRunFrom (records_at (⟦<MemoryTransactions as Transactions>⟧.state
+            self.now).transactions index) place result.now }
+    {
+        let Some(entry) = self.transactions.get(index as usize) else {
+            return &[];
+        };
+        let records = entry.records();
+        if records.len() as u64 <= place {
+            return &[];
+        }
+        records.run_from(place as usize)
     }
 
     /// The number at a place in the order of commit, from 0.
@@ -79,7 +95,7 @@ impl MemoryTransactions {
                   ++ to_commit entry ∷ [];
             }) }
     {
-        let (subtask, progress, records) = entry.into_parts();
+        let (subtask, progress, records) = entry.into_parts()?;
         let transaction = self.begin_with(subtask, records)?;
         match progress {
             Progress::Open => Ok(()),

@@ -1,12 +1,13 @@
 //! Transactions in memory.
 
-ghost use Rattle.std.specs.Prelude.{◌≡◌, ◌≢◌, ◌<◌, ◌≤◌, ◌+◌, ◌-◌, ◌^◌, ◌↔◌, ℕ, IsTrue, [], ◌∷◌, ◌++◌, true, length, drop, refl, None, Some, slice_get, slice_set, OnOk, OnErr, IfOk, IfErr, IfSome, IfNone, MatchResult, MatchOption};
+ghost use Rattle.std.specs.Prelude.{◌≡◌, ◌≢◌, ◌<◌, ◌≤◌, ◌+◌, ◌-◌, ◌^◌, ◌↔◌, ℕ, IsTrue, [], ◌∷◌, ◌++◌, true, length, refl, None, Some, slice_get, slice_set, OnOk, OnErr, IfOk, IfErr, IfSome, IfNone, MatchResult, MatchOption};
 ghost use Rattle.std.specs.List.{filter_map};
 ghost use Rattle.std.proofs.Props.{props};
 ghost use Rattle.commit_sink.specs.declared.transactions.Progress.{Progress};
 ghost use Rattle.commit_sink.specs.declared.transactions.Progress.TheVariants.{Open, PreCommitted, Committed, Aborted};
 ghost use Rattle.commit_sink.specs.Ledger.{Transaction, refusal, transaction_in, if_open, if_pre_committed, if_not_committed};
 ghost use Rattle.commit_sink.specs.Ends.{rows_of};
+ghost use Rattle.commit_sink.specs.Runs.{IsRunFrom};
 ghost use Rattle.commit_sink.specs.Shares.{Found, HasRow, IsKept, empty_share, has_unsettled, ledger_of, share_at, unsettled_in, with_end, with_place, with_row, without};
 
 use crate::entry::Entry;
@@ -259,18 +260,17 @@ fn row_at(transactions: &Vec<Entry>, transaction: u64, place: u64) -> &[u8]
     ensures { (t : Transaction) → transaction_in transactions.now.items transaction ≡ Some t
         → slice_get t.records place ≡ Some result.now }
 {
-    let records = transactions[(transaction - 1) as usize].records();
-    records[place as usize].as_slice()
+    rows_from(transactions, transaction, place)[0].as_slice()
 }
 
-/// The records of a transaction from a place on.
+/// The records of a transaction from a place on, as many as stand together.
 fn rows_from(transactions: &Vec<Entry>, transaction: u64, place: u64) -> &[Bytes]
     requires { HasRow transactions.now.items transaction place }
     ensures { (t : Transaction) → transaction_in transactions.now.items transaction ≡ Some t
-        → result.now ≡ drop place t.records }
+        → IsRunFrom t.records place result.now }
 {
     let records = transactions[(transaction - 1) as usize].records();
-    &records[place as usize..]
+    records.run_from(place as usize)
 }
 
 /// A transaction that is neither committed nor aborted: its number, with its checkpoint if it is

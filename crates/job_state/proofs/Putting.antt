@@ -4,9 +4,10 @@ use Rattle.std.specs.Option.{option_map, option_map_or}
 use Rattle.std.proofs.lemmas.Bool.Decides.{eqb_tells}
 use Rattle.std.proofs.lemmas.List.{map-set, map-append, append-nil, set_past, get_or_default, length-map, length-set, length-append, set-set, take_more, take-append-drop}
 use Rattle.std.proofs.lemmas.List.Elements.{filter-append}
-use Rattle.std.proofs.lemmas.Option.{slice_get-map}
+use Rattle.std.proofs.lemmas.Option.{slice_get-map, slice_get_past}
 use Rattle.channels.specs.Channel.{Contents}
 use Rattle.channels.specs.declared.item.Item.{Item}
+use Rattle.channels.specs.declared.item.Item.TheVariants.{Record}
 use Rattle.job_state.specs.AtOnce.{without_first}
 use Rattle.job_state.specs.Sending.{items_at, put_into, contents_items, room_at, AreChannels, HasRoom, Puts, without_head}
 use Rattle.job_state.proofs.Places.{get_set_same, get_set_other, set_same}
@@ -36,6 +37,19 @@ module _ {R : Type 0} where
   -- there is no such channel
   pub none_skipped : (count : ℕ) (channels : List (Contents R)) (n : ℕ) → length channels ≤ n → contents_items channels ≡ without_first count n (contents_items channels)
   none_skipped count channels n past = sym (set_past (contents_items channels) n _ (omega (arith, past, length-map channels (λ c. c.items))))
+
+  pub nothing_past : (channels : List (Contents R)) (n : ℕ) → length channels ≤ n → items_at (contents_items channels) n ≡ []
+  nothing_past channels n past = ap (λ o. unwrap_or o []) (slice_get_past (contents_items channels) n (omega (arith, past, length-map channels (λ c. c.items))))
+
+  -- where there is nothing, no records stand first
+  pub none_first : (rows : List R) (items : List (Item R)) → items ≡ [] → length rows ≡ 0 → take (length rows) items ≡ map Record rows
+  none_first [] items nothing none = refl
+  none_first (row ∷ rows) items nothing none = absurd (omega arith)
+
+  pub first_none : (rows : List R) (items : List (Item R)) → items ≡ [] → take (length rows) items ≡ map Record rows → length rows ≡ 0
+  first_none [] items nothing first = refl
+  first_none (row ∷ rows) [] nothing first = absurd cc
+  first_none (row ∷ rows) (item ∷ items) nothing first = absurd cc
 
   -- what was put, as it is seen
   pub puts_from : (middle after : List (Contents R)) (before : List (List (Item R))) (puts : List (ℕ × Item R)) (items : ℕ → List (Item R)) → contents_items middle ≡ before → length after ≡ length middle →

@@ -13,7 +13,7 @@ use crate::gates::fresh_gates;
 use crate::holding::Holding;
 use crate::logs::{open_logs, reopen};
 use crate::openings::opened_channels;
-use crate::sending::{before_barrier, first, record_at};
+use crate::sending::{before_barrier, first, record_at, starts_with};
 use crate::task::Task;
 use crate::tasks::{clear, forget_oldest, fresh_tasks};
 use abs_codec::{Items, NoMemory};
@@ -61,6 +61,7 @@ impl<O: Operator> Model for Attempt<O> {
 impl<O: Operator> Attempt<O> {
     ghost use Rattle.commit_sink.specs.Sink.{Sinking};
     ghost use Rattle.job_state.specs.declared.holding.Holding.TheVariants as Holding;
+    ghost use Rattle.job_state.specs.Batch.{StandFirst};
     ghost use Rattle.job_state.specs.Sending.{items_at};
     ghost use Rattle.job_state.specs.Held.{copy_at, gate_at, came_at, begun, oldest_forgotten, with_started, with_acknowledged, with_completed};
 
@@ -150,6 +151,14 @@ impl<O: Operator> Attempt<O> {
             ≡ slice_get (leading_records (items_at self.now.channels channel)) index }
     {
         record_at(&self.channels, channel, index)
+    }
+
+    /// Whether these records stand first in a channel, with no barrier before one of them.
+    #[inline(always)]
+    pub fn has_first(&self, channel: u32, rows: &[O::Record]) -> bool
+        ensures { IsTrue result ↔ StandFirst channel rows.now self.now }
+    {
+        starts_with(&self.channels, channel, rows)
     }
 
     /// Whether a task's input is blocked: its barrier has come, and the task waits for others.

@@ -18,7 +18,7 @@ use abs_codec::NoMemory;
 use channels::Item;
 use deliveries::fixed_target;
 use job_graph::Graph;
-use keyed_state::SetFault;
+use keyed_state::{Seen, SetFault};
 use operators::Operator;
 
 impl<O: Operator> Attempt<O> {
@@ -114,7 +114,7 @@ impl<O: Operator> Attempt<O> {
         channel: u32,
         count: usize,
         states: &mut Vec<(O::Key, O::State)>,
-        expected: Option<&[Option<O::State>]>,
+        expected: Option<&[Seen<O::State>]>,
         sent: &mut Vec<(u32, O::Record)>,
         lanes: &[u64],
     ) -> Result<(), SetFault>

@@ -1,7 +1,8 @@
 //! What is put into channels, and taken from them.
 
-ghost use Rattle.std.specs.Prelude.{◌≡◌, ◌++◌, ◌∷◌, [], ◌<◌, ◌≤◌, ℕ, All, map, length, slice_get, option_map, OnOk, OnErr, IfOk, IfSome};
+ghost use Rattle.std.specs.Prelude.{◌≡◌, ◌++◌, ◌∷◌, [], ◌<◌, ◌≤◌, ◌↔◌, ℕ, All, map, length, take, slice_get, option_map, IsTrue, OnOk, OnErr, IfOk, IfSome};
 ghost use Rattle.std.specs.Option.{option_copied};
+ghost use Rattle.abs_codec.specs.Same.{EqualIsSame};
 ghost use Rattle.channels.specs.Items.{item_copied, leading_records};
 ghost use Rattle.deliveries.specs.Deliveries.{deliveries_of, barriers_of};
 ghost use Rattle.job_state.specs.AtOnce.{without_first};
@@ -153,6 +154,23 @@ pub(crate) fn record_at<R: Drop>(channels: &[Channel<R>], channel: u32, index: u
         ≡ slice_get (leading_records (items_at (contents_items channels.now) channel)) index }
 {
     channels.get(channel as usize)?.record(index)
+}
+
+/// Whether these records stand first in a channel, with no barrier before one of them. A channel
+/// that does not exist has none.
+#[inline(always)]
+pub(crate) fn starts_with<R: Drop + Eq>(
+    channels: &[Channel<R>],
+    channel: u32,
+    records: &[R],
+) -> bool
+    ensures { EqualIsSame R.Eq.eq → IsTrue result ↔ (take (length records.now)
+        (items_at (contents_items channels.now) channel) ≡ map Record records.now) }
+{
+    match channels.get(channel as usize) {
+        Some(channel) => channel.starts_with(records),
+        None => records.is_empty(),
+    }
 }
 
 /// Takes the first item of a channel, if there is one.

@@ -1,6 +1,6 @@
 //! One task: what it holds, and its copy for the pending checkpoint.
 
-ghost use Rattle.std.specs.Prelude.{◌≡◌, ◌≢◌, ℕ, List, [], drop, is_some, None, Some, Err, OnOk, OnErr, IfSome, IfNone};
+ghost use Rattle.std.specs.Prelude.{IfOk, ◌≡◌, ◌≢◌, ℕ, List, [], drop, is_some, None, Some, Err, OnOk, OnErr, IfSome, IfNone};
 ghost use Rattle.std.specs.Option.{option_copied, option_or};
 ghost use Rattle.abs_codec.specs.Entries.{value_at};
 ghost use Rattle.abs_codec.specs.Same.{EqualIsSame};
@@ -18,7 +18,7 @@ ghost use Rattle.job_state.specs.Held.{Keeps};
 use crate::holding::Holding;
 use abs_codec::{Codec, Items, NoMemory};
 use commit_sink::Sink;
-use keyed_state::{LentStates, SetFault};
+use keyed_state::{LentStates, Seen, SetFault};
 use operator_state::OperatorState;
 use operators::Operator;
 use std::alloc::Global;
@@ -57,7 +57,7 @@ impl<R: Codec, K: Codec + Ord, S: Codec> Model for Task<R, K, S> {
 fn exchange_all<K: Codec + Ord, S: Codec + Eq>(
     kept: &mut OperatorState<K, S>,
     states: &mut Vec<(K, S)>,
-    expected: &[Option<S>],
+    expected: &[Seen<S>],
 ) -> Result<(), SetFault>
     requires exact { EqualIsSame S.Eq.eq }
     requires rising { IsStrictlySortedBy K.Ord.cmp (keys_of states.old.items) }
@@ -84,7 +84,7 @@ fn set_expected<K: Codec + Ord, S: Codec + Eq>(
     alloc: Global,
     kept: &mut OperatorState<K, S>,
     states: &mut Vec<(K, S)>,
-    expected: Option<&[Option<S>]>,
+    expected: Option<&[Seen<S>]>,
 ) -> Result<(), SetFault>
     requires exact { EqualIsSame S.Eq.eq }
     requires rising { IsStrictlySortedBy K.Ord.cmp (keys_of states.old.items) }
@@ -105,19 +105,20 @@ fn set_expected<K: Codec + Ord, S: Codec + Eq>(
 }
 
 impl<R: Codec, K: Codec + Ord, S: Codec> Task<R, K, S> {
-    /// A task that holds this, and has not copied. It takes no memory.
-    pub(crate) fn new(alloc: Global, holding: Holding<K, S>) -> Self
-        ensures { result ≡ record { holding = holding; copy = None; part = [] } }
+    /// A task that holds this, and has not copied.
+    pub(crate) fn new(alloc: Global, holding: Holding<K, S>) -> Result<Self, NoMemory>
+        ensures { IfOk result (λ task. task
+            ≡ record { holding = holding; copy = None; part = [] }) }
     {
         let kind = match holding {
             Holding::Source(offset) => Kind::Source(offset, None),
-            Holding::Operator(states) => Kind::Operator(OperatorState::from_map(alloc, states)),
+            Holding::Operator(states) => Kind::Operator(OperatorState::from_map(alloc, states)?),
             Holding::Sink(sink) => Kind::Sink(sink, None),
         };
-        Task {
+        Ok(Task {
             kind,
             bytes: Vec::new(alloc),
-        }
+        })
     }
 
     /// A source that has copied its offset. It takes no memory.
@@ -235,7 +236,7 @@ impl<R: Codec, K: Codec + Ord, S: Codec> Task<R, K, S> {
         &mut self,
         alloc: Global,
         states: &mut Vec<(K, S)>,
-        expected: Option<&[Option<S>]>,
+        expected: Option<&[Seen<S>]>,
     ) -> Result<(), SetFault>
     where
         S: Eq,

@@ -22,7 +22,7 @@ use crate::task::Task;
 use abs_codec::{Codec, Items, NoMemory};
 use bytes::Bytes;
 use commit_sink::Sink;
-use keyed_state::SetFault;
+use keyed_state::{Seen, SetFault};
 use operator_state::CopyWork;
 use operators::Operator;
 use std::alloc::Global;
@@ -38,7 +38,7 @@ pub(crate) fn fresh_tasks<R: Codec, K: Codec + Ord, S: Codec>(
 {
     let mut tasks = Vec::new(alloc);
     for holding in holdings {
-        tasks.push(Task::new(alloc, holding))?;
+        tasks.push(Task::new(alloc, holding)?)?;
     }
     Ok(tasks)
 }
@@ -149,7 +149,7 @@ pub(crate) fn keep_all<R: Codec, K: Codec + Ord, S: Codec + Eq>(
     tasks: &mut [Task<R, K, S>],
     task: u32,
     states: &mut Vec<(K, S)>,
-    expected: Option<&[Option<S>]>,
+    expected: Option<&[Seen<S>]>,
 ) -> Result<(), SetFault>
     requires exact { EqualIsSame S.Eq.eq }
     requires there { task < length tasks.old }

@@ -16,10 +16,10 @@ ghost use Rattle.keyed_state.specs.declared.comparing.SetFault.TheVariants as Se
 
 use crate::lending::{Kept, Lendable};
 use crate::putting::{make_ready, put_back, taken};
-use abs_codec::{Codec, Map, NoMemory};
+use crate::seen::Seen;
+use abs_codec::{Codec, NoMemory};
+use state_table::Table;
 use std::alloc::{AllocError, Global};
-use std::collections::BTreeMap;
-use std::mem::{replace, swap};
 use std::sync::Arc;
 
 /// Why states are not set.
@@ -62,12 +62,12 @@ pub(crate) fn is_expected<S: Eq>(state: Option<&S>, expected: Option<&S>) -> boo
 }
 
 /// How many of these states are none.
-pub(crate) fn count_none<S>(states: &[Option<S>]) -> usize
+pub(crate) fn count_none<S>(states: &[Seen<S>]) -> usize
     ensures { result ≡ count_by is_none states.now }
 {
     let mut count = 0;
     for state in states {
-        if state.is_none() {
+        if state.state().is_none() {
             count += 1;
         }
     }
@@ -77,58 +77,49 @@ pub(crate) fn count_none<S>(states: &[Option<S>]) -> usize
 /// Gives a key that has no state yet a copy of this one.
 #[inline(never)]
 fn put_first<K: Codec + Ord, S: Codec>(
-    map: &mut BTreeMap<K, S>,
+    table: &mut Table<K, S>,
     key: &K,
     state: &S,
 ) -> Result<(), SetFault>
-    ensures ok { OnOk result (map.new.entries
-        ≡ insert_entry K.Ord.cmp map.old.entries key.now state.now) }
-    ensures err { IfErr result (λ fault. (fault ≡ SetFault.Memory)
-        × (map.new.entries ≡ map.old.entries)) }
+    ensures ok { OnOk result (table.new ≡ insert_entry K.Ord.cmp table.old key.now state.now) }
+    ensures err { IfErr result (λ fault. (fault ≡ SetFault.Memory) × (table.new ≡ table.old)) }
 {
     let (own, first) = (key.copied()?, state.copied()?);
-    match map.insert(own, first) {
-        Ok(_) => Ok(()),
-        Err(_) => Err(SetFault::Memory),
-    }
+    table.insert(own, first)?;
+    Ok(())
 }
 
 /// Gives an entry's key its state where it has the expected one, which the entry takes for its own.
 /// A key that has none, as is expected of it, is given a copy.
 fn exchange_one<K: Codec + Ord, S: Codec + Eq>(
-    map: &mut BTreeMap<K, S>,
+    table: &mut Table<K, S>,
     entry: &mut (K, S),
-    expected: Option<&S>,
+    expected: &Seen<S>,
 ) -> Result<(), SetFault>
     requires exact { EqualIsSame S.Eq.eq }
-    ensures put { OnOk result (map.new.entries
-        ≡ insert_entry K.Ord.cmp map.old.entries entry.old.0 entry.old.1) }
-    ensures expected { OnOk result (value_at K.Ord.cmp map.old.entries entry.old.0
-        ≡ option_copied expected.entry) }
+    ensures put { OnOk result (table.new
+        ≡ insert_entry K.Ord.cmp table.old entry.old.0 entry.old.1) }
+    ensures expected { OnOk result (value_at K.Ord.cmp table.old entry.old.0 ≡ expected.now) }
     ensures changed { result ≡ Err SetFault.Changed
-        → ¬ (value_at K.Ord.cmp map.old.entries entry.old.0 ≡ option_copied expected.entry) }
-    ensures noted { OnOk result (note_of entry.new (option_copied expected.entry)
-        ≡ (entry.old.0, option_copied expected.entry)) }
-    ensures err { OnErr result (map.new.entries ≡ map.old.entries) }
+        → ¬ (value_at K.Ord.cmp table.old entry.old.0 ≡ expected.now) }
+    ensures noted { OnOk result (note_of entry.new expected.now
+        ≡ (entry.old.0, expected.now)) }
+    ensures err { OnErr result (table.new ≡ table.old) }
     // The keys rise.
-    ensures ordered { IsStrictlySortedBy K.Ord.cmp (keys_of map.old.entries) }
+    ensures ordered { IsStrictlySortedBy K.Ord.cmp (keys_of table.old) }
 {
     let (key, state) = entry;
-    let Some(seen) = map.get_mut(&*key) else {
-        if expected.is_some() {
-            return Err(SetFault::Changed);
-        }
-        return put_first(map, key, state);
-    };
-    if !is_expected(Some(&*seen), expected) {
+    if !is_expected(table.get_near(key, expected.place()), expected.state()) {
         return Err(SetFault::Changed);
     }
-    swap(seen, state);
-    Ok(())
+    if table.swap_near(key, expected.place(), state) {
+        return Ok(());
+    }
+    put_first(table, key, state)
 }
 
 /// What is expected of the entry at a place, if something is said of it.
-fn expected_at<S>(expected: &[Option<S>], index: usize) -> Option<&Option<S>>
+fn expected_at<S>(expected: &[Seen<S>], index: usize) -> Option<&Seen<S>>
     ensures { option_copied result ≡ slice_get expected.now index }
 {
     expected.get(index)
@@ -137,26 +128,26 @@ fn expected_at<S>(expected: &[Option<S>], index: usize) -> Option<&Option<S>>
 /// Exchanges each of these entries, whose keys rise, as [`exchange_one`] does. At an `Err`, how many
 /// were exchanged, and why no more.
 fn exchange_each<K: Codec + Ord, S: Codec + Eq>(
-    map: &mut BTreeMap<K, S>,
+    table: &mut Table<K, S>,
     entries: &mut [(K, S)],
-    expected: &[Option<S>],
+    expected: &[Seen<S>],
 ) -> Result<(), (usize, SetFault)>
     requires exact { EqualIsSame S.Eq.eq }
     requires rising { IsStrictlySortedBy K.Ord.cmp (keys_of entries.old) }
-    ensures ok { OnOk result (map.new.entries
-        ≡ put_over K.Ord.cmp map.old.entries entries.old) }
-    ensures expected { OnOk result (HaveStates K.Ord.cmp map.old.entries
+    ensures ok { OnOk result (table.new
+        ≡ put_over K.Ord.cmp table.old entries.old) }
+    ensures expected { OnOk result (HaveStates K.Ord.cmp table.old
         (keys_of entries.old) expected.now) }
     ensures changed { IfErr result (λ e. e.1 ≡ SetFault.Changed
-        → ¬ HaveStates K.Ord.cmp map.old.entries (keys_of entries.old) expected.now) }
+        → ¬ HaveStates K.Ord.cmp table.old (keys_of entries.old) expected.now) }
     ensures undone { IfErr result (λ e. undone K.Ord.cmp (notes_of (take e.0 entries.new)
-        expected.now) map.new.entries ≡ map.old.entries) }
+        expected.now) table.new ≡ table.old) }
 {
     for index in 0..entries.len() {
         let Some(first) = expected_at(expected, index) else {
             return Err((index, SetFault::Changed));
         };
-        if let Err(fault) = exchange_one(map, &mut entries[index], first.as_ref()) {
+        if let Err(fault) = exchange_one(table, &mut entries[index], first) {
             return Err((index, fault));
         }
     }
@@ -167,10 +158,10 @@ fn exchange_each<K: Codec + Ord, S: Codec + Eq>(
 }
 
 /// The state that was there before, where one was expected.
-fn former_of<S: Drop>(state: S, expected: &Option<S>) -> Option<S>
+fn former_of<S: Drop>(state: S, expected: &Seen<S>) -> Option<S>
     ensures { result ≡ option_map (λ _. state) expected.now }
 {
-    match expected {
+    match expected.state() {
         Some(_) => Some(state),
         None => None,
     }
@@ -178,17 +169,17 @@ fn former_of<S: Drop>(state: S, expected: &Option<S>) -> Option<S>
 
 /// Puts back what these entries, which were exchanged, took for their own, the last first. It takes
 /// no memory.
-fn exchange_back<K: Ord + Drop, S: Drop>(
-    map: &mut BTreeMap<K, S>,
+fn exchange_back<K: Codec + Ord, S: Drop>(
+    table: &mut Table<K, S>,
     entries: &mut Vec<(K, S)>,
-    expected: &[Option<S>],
+    expected: &[Seen<S>],
 )
-    ensures { map.new.entries
-        ≡ undone K.cmp (notes_of entries.old.items expected.now) map.old.entries }
+    ensures { table.new
+        ≡ undone K.Ord.cmp (notes_of entries.old.items expected.now) table.old }
 {
     while let Some((key, state)) = entries.pop() {
         if let Some(first) = expected_at(expected, entries.len()) {
-            put_back(map, &key, former_of(state, first));
+            put_back(table, &key, former_of(state, first));
         }
     }
 }
@@ -197,56 +188,33 @@ fn exchange_back<K: Ord + Drop, S: Drop>(
 /// state is not the expected one. What is left in the list is to be let go.
 #[inline(never)]
 fn exchange_all<K: Codec + Ord, S: Codec + Eq>(
-    map: &mut BTreeMap<K, S>,
+    table: &mut Table<K, S>,
     entries: &mut Vec<(K, S)>,
-    expected: &[Option<S>],
+    expected: &[Seen<S>],
 ) -> Result<(), SetFault>
     requires exact { EqualIsSame S.Eq.eq }
     requires rising { IsStrictlySortedBy K.Ord.cmp (keys_of entries.old.items) }
-    ensures ok { OnOk result (map.new.entries
-        ≡ put_over K.Ord.cmp map.old.entries entries.old.items) }
-    ensures expected { OnOk result (HaveStates K.Ord.cmp map.old.entries
+    ensures ok { OnOk result (table.new
+        ≡ put_over K.Ord.cmp table.old entries.old.items) }
+    ensures expected { OnOk result (HaveStates K.Ord.cmp table.old
         (keys_of entries.old.items) expected.now) }
     ensures changed { result ≡ Err SetFault.Changed
-        → ¬ HaveStates K.Ord.cmp map.old.entries (keys_of entries.old.items) expected.now }
-    ensures err { OnErr result (map.new.entries ≡ map.old.entries) }
+        → ¬ HaveStates K.Ord.cmp table.old (keys_of entries.old.items) expected.now }
+    ensures err { OnErr result (table.new ≡ table.old) }
 {
-    if let Err((count, fault)) = exchange_each(map, entries, expected) {
+    if let Err((count, fault)) = exchange_each(table, entries, expected) {
         entries.truncate(count);
-        exchange_back(map, entries, expected);
+        exchange_back(table, entries, expected);
         return Err(fault);
     }
     Ok(())
 }
 
-/// The same, in a map that holds them.
-fn exchange_in<K: Codec + Ord, S: Codec + Eq>(
-    alloc: Global,
-    map: &mut Map<K, S>,
-    entries: &mut Vec<(K, S)>,
-    expected: &[Option<S>],
-) -> Result<(), SetFault>
-    requires exact { EqualIsSame S.Eq.eq }
-    requires rising { IsStrictlySortedBy K.Ord.cmp (keys_of entries.old.items) }
-    ensures ok { OnOk result (map.new ≡ put_over K.Ord.cmp map.old entries.old.items) }
-    ensures expected { OnOk result (HaveStates K.Ord.cmp map.old (keys_of entries.old.items)
-        expected.now) }
-    ensures changed { result ≡ Err SetFault.Changed
-        → ¬ HaveStates K.Ord.cmp map.old (keys_of entries.old.items) expected.now }
-    ensures err { OnErr result (map.new ≡ map.old) }
-{
-    let mut tree = replace(map, Map::new(alloc)).into_btree_map();
-    let done = exchange_all(&mut tree, entries, expected);
-    *map = Map::from_btree_map(alloc, tree);
-    done
-}
-
 /// The same, in a map that is ready to be lent, where nobody reads it. Else nothing changes.
 fn exchange_unread<K: Codec + Ord, S: Codec + Eq>(
-    alloc: Global,
-    map: &mut Arc<Map<K, S>, Global>,
+    map: &mut Arc<Table<K, S>, Global>,
     entries: &mut Vec<(K, S)>,
-    expected: &[Option<S>],
+    expected: &[Seen<S>],
 ) -> Option<Result<(), SetFault>>
     requires exact { EqualIsSame S.Eq.eq }
     requires rising { IsStrictlySortedBy K.Ord.cmp (keys_of entries.old.items) }
@@ -262,7 +230,7 @@ fn exchange_unread<K: Codec + Ord, S: Codec + Eq>(
         × (entries.new.items ≡ entries.old.items)) }
 {
     match Arc::get_mut(map) {
-        Some(seen) => Some(exchange_in(alloc, seen, entries, expected)),
+        Some(seen) => Some(exchange_all(seen, entries, expected)),
         None => None,
     }
 }
@@ -271,9 +239,9 @@ fn exchange_unread<K: Codec + Ord, S: Codec + Eq>(
 #[inline(never)]
 fn exchange_apart<K: Codec + Ord, S: Codec + Eq>(
     alloc: Global,
-    map: &mut Lendable<Map<K, S>>,
+    map: &mut Lendable<Table<K, S>>,
     entries: &mut Vec<(K, S)>,
-    expected: &[Option<S>],
+    expected: &[Seen<S>],
 ) -> Result<(), SetFault>
     requires exact { EqualIsSame S.Eq.eq }
     requires rising { IsStrictlySortedBy K.Ord.cmp (keys_of entries.old.items) }
@@ -284,12 +252,11 @@ fn exchange_apart<K: Codec + Ord, S: Codec + Eq>(
         → ¬ HaveStates K.Ord.cmp map.old (keys_of entries.old.items) expected.now }
     ensures err { OnErr result (map.new ≡ map.old) }
 {
-    let Ok(own) = taken(alloc, map) else {
+    let Ok(mut own) = taken(alloc, map) else {
         return Err(SetFault::Memory);
     };
-    let mut tree = own.into_btree_map();
-    let done = exchange_all(&mut tree, entries, expected);
-    map.put(Map::from_btree_map(alloc, tree));
+    let done = exchange_all(&mut own, entries, expected);
+    map.put(own);
     make_ready(alloc, map);
     done
 }
@@ -299,9 +266,9 @@ fn exchange_apart<K: Codec + Ord, S: Codec + Eq>(
 /// copied where nobody reads it, and is left ready to be lent.
 pub(crate) fn exchange_all_in<K: Codec + Ord, S: Codec + Eq>(
     alloc: Global,
-    map: &mut Lendable<Map<K, S>>,
+    map: &mut Lendable<Table<K, S>>,
     entries: &mut Vec<(K, S)>,
-    expected: &[Option<S>],
+    expected: &[Seen<S>],
 ) -> Result<(), SetFault>
     requires exact { EqualIsSame S.Eq.eq }
     requires rising { IsStrictlySortedBy K.Ord.cmp (keys_of entries.old.items) }
@@ -313,7 +280,7 @@ pub(crate) fn exchange_all_in<K: Codec + Ord, S: Codec + Eq>(
     ensures err { OnErr result (map.new ≡ map.old) }
 {
     if let Kept::Shared(shared) = &mut map.kept {
-        if let Some(done) = exchange_unread(alloc, shared, entries, expected) {
+        if let Some(done) = exchange_unread(shared, entries, expected) {
             return done;
         }
     }

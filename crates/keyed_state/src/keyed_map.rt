@@ -16,19 +16,19 @@ ghost use Rattle.keyed_state.specs.declared.comparing.SetFault.TheVariants as Se
 use crate::comparing::{SetFault, count_none, exchange_all_in, is_expected};
 use crate::lending::{Lendable, Lent};
 use crate::putting::{insert_in, make_ready, put_all, put_all_in, put_in_both};
+use crate::seen::Seen;
 use abs_codec::{Codec, CodecFault, Map, NoMemory};
+use state_table::{Entries, Table};
 use std::alloc::Global;
 use std::collections::BTreeMap;
-use std::collections::btree_map::Range;
 use std::marker::Model;
 use std::mem::replace;
-use std::ops::Bound;
 
 /// A map from key to state, and the map as it was when it was frozen.
 #[derive(Drop)]
 pub struct KeyedState<K: Ord, S> {
     /// The map as it was at `freeze`, or as it is but for what is in the overlay.
-    base: Lendable<Map<K, S>>,
+    base: Lendable<Table<K, S>>,
     /// What was written since `freeze`, and is not merged yet.
     overlay: BTreeMap<K, S>,
     /// How many keys the map has that is seen.
@@ -56,7 +56,7 @@ impl<K: Ord, S> Model for KeyedState<K, S> {
 /// The states as they were when they were lent.
 #[derive(Drop)]
 pub struct LentStates<K: Ord, S> {
-    base: Lent<Map<K, S>>,
+    base: Lent<Table<K, S>>,
 }
 
 impl<K: Ord, S> Model for LentStates<K, S> {
@@ -81,16 +81,16 @@ impl<K: Ord, S> KeyedState<K, S> {
     pub fn new(alloc: Global) -> Self
         ensures { result ≡ record { entries = []; frozen = None; unmerged = 0 } }
     {
-        KeyedState::from_map(alloc, Map::new(alloc))
+        KeyedState::from_table(alloc, Table::new(alloc))
     }
 
-    /// This map, as `Map::decode` reads one, with nothing frozen. It takes no memory.
-    pub fn from_map(alloc: Global, map: Map<K, S>) -> Self
-        ensures { result ≡ record { entries = map; frozen = None; unmerged = 0 } }
+    /// This table, with nothing frozen.
+    fn from_table(alloc: Global, table: Table<K, S>) -> Self
+        ensures { result ≡ record { entries = table; frozen = None; unmerged = 0 } }
     {
-        let len = map.len();
+        let len = table.len();
         KeyedState {
-            base: Lendable::new(map),
+            base: Lendable::new(table),
             overlay: BTreeMap::new(alloc),
             len,
             is_frozen: false,
@@ -147,7 +147,7 @@ impl<K: Ord, S> KeyedState<K, S> {
         if self.get(key).is_some() {
             return self.len;
         }
-        prove!(self.len <= self.base.value().as_btree_map().len() + self.overlay.len());
+        prove!(self.len <= self.base.value().len() + self.overlay.len());
         self.len + 1
     }
 
@@ -166,7 +166,7 @@ impl<K: Ord, S> KeyedState<K, S> {
     }
 
     /// The frozen map.
-    pub fn frozen(&self) -> Option<&Map<K, S>>
+    pub fn frozen(&self) -> Option<&Table<K, S>>
         ensures { option_copied result ≡ self.now.frozen }
     {
         if self.is_frozen {
@@ -178,7 +178,7 @@ impl<K: Ord, S> KeyedState<K, S> {
 
     /// The entries of the frozen map whose keys are above this one, or all of them, by rising keys;
     /// `None` where no map is frozen.
-    pub fn frozen_above(&self, after: Option<&K>) -> Option<Range<'_, K, S>>
+    pub fn frozen_above(&self, after: Option<&K>) -> Option<Entries<'_, K, S>>
         ensures above { IfSome result (λ entries. entries
             ≡ entries_above K.cmp (option_copied after.entry) (frozen_entries self.now)) }
         ensures none { IfNone result (self.now.frozen ≡ None) }
@@ -186,10 +186,10 @@ impl<K: Ord, S> KeyedState<K, S> {
         ensures ordered { IfSome result (λ _. IsStrictlySortedBy K.cmp
             (keys_of (frozen_entries self.now))) }
     {
-        let frozen = self.frozen()?.as_btree_map();
+        let frozen = self.frozen()?;
         match after {
-            Some(key) => Some(frozen.range((Bound::Excluded(key), Bound::Unbounded))),
-            None => Some(frozen.range(..)),
+            Some(key) => Some(frozen.above(key)),
+            None => Some(frozen.entries()),
         }
     }
 
@@ -214,7 +214,28 @@ impl<K: Ord, S> KeyedState<K, S> {
     }
 }
 
+impl<K: Codec + Ord, S: Codec> LentStates<K, S> {
+    /// A copy of the state at a key, if there is one, and where it stands.
+    pub fn seen(&self, key: &K) -> Result<Seen<S>, NoMemory>
+        ensures { IfOk result (λ seen. seen ≡ value_at K.Ord.cmp self.now key.now) }
+    {
+        match self.base.value().find(key) {
+            Some((place, state)) => Ok(Seen::at(state.copied()?, place)),
+            None => Ok(Seen::somewhere(None)),
+        }
+    }
+}
+
 impl<K: Codec + Ord, S: Codec> KeyedState<K, S> {
+    /// This map, as `Map::decode` reads one, with nothing frozen.
+    pub fn from_map(alloc: Global, map: Map<K, S>) -> Result<Self, NoMemory>
+        ensures { IfOk result (λ made. made
+            ≡ record { entries = map; frozen = None; unmerged = 0 }) }
+    {
+        let table = Table::from_map(alloc, map)?;
+        Ok(KeyedState::from_table(alloc, table))
+    }
+
     /// Gives the key this state. The frozen map stays.
     pub fn set(&mut self, key: K, state: S) -> Result<(), NoMemory>
         ensures entries { OnOk result
@@ -349,7 +370,7 @@ impl<K: Codec + Ord, S: Codec> KeyedState<K, S> {
     }
 
     /// Whether each of these keys has the state that is expected of it, `None` where it has none.
-    fn has_states(&self, entries: &[(K, S)], expected: &[Option<S>]) -> bool
+    fn has_states(&self, entries: &[(K, S)], expected: &[Seen<S>]) -> bool
     where
         S: Eq,
         requires { EqualIsSame S.Eq.eq }
@@ -361,7 +382,7 @@ impl<K: Codec + Ord, S: Codec> KeyedState<K, S> {
             let Some((first, others)) = left.split_first() else {
                 return false;
             };
-            if !is_expected(self.get(&entry.0), first.as_ref()) {
+            if !is_expected(self.get(&entry.0), first.state()) {
                 return false;
             }
             left = others;
@@ -375,7 +396,7 @@ impl<K: Codec + Ord, S: Codec> KeyedState<K, S> {
     pub fn compare_and_set_all(
         &mut self,
         entries: &mut Vec<(K, S)>,
-        expected: &[Option<S>],
+        expected: &[Seen<S>],
     ) -> Result<(), SetFault>
     where
         S: Eq,
@@ -420,7 +441,7 @@ impl<K: Codec + Ord, S: Codec> KeyedState<K, S> {
     fn exchange_all_alone(
         &mut self,
         entries: &mut Vec<(K, S)>,
-        expected: &[Option<S>],
+        expected: &[Seen<S>],
     ) -> Result<(), SetFault>
     where
         S: Eq,
@@ -529,8 +550,8 @@ impl<K: Codec + Ord, S: Codec> KeyedState<K, S> {
     }
 
     /// A copy of the map that is seen.
-    fn whole(&self) -> Result<Map<K, S>, NoMemory>
-        ensures { IfOk result (λ map. map ≡ self.now.entries) }
+    fn whole(&self) -> Result<Table<K, S>, NoMemory>
+        ensures { IfOk result (λ table. table ≡ self.now.entries) }
     {
         let mut whole = self.base.value().copied()?;
         for (key, state) in &self.overlay {
@@ -548,10 +569,8 @@ impl<K: Codec + Ord, S: Codec> KeyedState<K, S> {
         ensures too_long { IfErr result (λ f. f ≢ CodecFault.Memory
             → (f ≡ CodecFault.TooLong) × ¬ ⟦<Map<K, S> as Codec>⟧.HasSpelling self.now.entries) }
     {
-        if self.overlay.is_empty() {
-            return self.base.value().encode(out);
-        }
-        let whole = self.whole()?;
-        whole.encode(out)
+        let table = self.whole()?;
+        let map = table.whole()?;
+        map.encode(out)
     }
 }

@@ -10,8 +10,8 @@
 //! `thaw` the overlay is merged into the base, as few entries a call as the caller likes, and `get`
 //! and `set` go on meanwhile. With n keys in the base and m in the overlay:
 //!
-//! - `len`, `is_empty`, `is_frozen`, `unmerged`, `frozen` and `from_map` take constant time and no
-//!   memory, and so does `thaw`;
+//! - `len`, `is_empty`, `is_frozen`, `unmerged`, `frozen` and `thaw` take constant time and no
+//!   memory; `from_map` takes n insertions, and the memory of a copy of each key beside the states;
 //! - `freeze` does too where m is 0. Else it merges all m. Where the map is frozen already and was
 //!   written since, it copies all of it;
 //! - `get`, `set` and `frozen_above` take time logarithmic in n + m, and `set` memory for a new
@@ -27,13 +27,16 @@
 //!   it still, it is copied first;
 //! - `lend_frozen` answers the frozen map in the same way, and takes the memory of a counter where
 //!   it was not lent before; `from_lent` takes no memory;
-//! - `encode` takes the time and memory of the spelling, and where m is not 0 a copy of it all.
+//! - `encode` takes the time and memory of the spelling, and of two copies of it all.
 #![tactic(auto)]
 
 mod comparing;
 mod keyed_map;
 mod lending;
 mod putting;
+mod seen;
+mod state_map;
 
 pub use comparing::SetFault;
 pub use keyed_map::{KeyedState, LentStates};
+pub use seen::Seen;

@@ -20,7 +20,7 @@ use crate::handed::{CopyWork, Sheet, Side};
 use crate::part_bytes::PartBytes;
 use abs_codec::{Codec, Map, NoMemory};
 use bytes::Bytes;
-use keyed_state::{KeyedState, LentStates, SetFault};
+use keyed_state::{KeyedState, LentStates, Seen, SetFault};
 use std::alloc::Global;
 use std::marker::Model;
 use task_part::{write_count, write_logs};
@@ -248,10 +248,26 @@ fn spell_behind<K, R: Codec>(
 }
 
 impl<K: Codec + Ord, S: Codec> OperatorState<K, S> {
-    /// These states, and no copy. It takes no memory.
-    pub fn from_map(alloc: Global, map: Map<K, S>) -> Self
-        ensures { result ≡ record {
+    /// These states, and no copy.
+    pub fn from_map(alloc: Global, map: Map<K, S>) -> Result<Self, NoMemory>
+        ensures { IfOk result (λ made. made ≡ record {
           entries = map;
+          copy = None;
+          unspelled = 0;
+          unmerged = 0;
+          part = [];
+        }) }
+    {
+        let states = KeyedState::from_map(alloc, map)?;
+        Ok(OperatorState::uncopied(alloc, states))
+    }
+
+    /// These states, and no copy. It takes no memory.
+    fn uncopied(alloc: Global, states: KeyedState<K, S>) -> Self
+        requires none_frozen { states.frozen ≡ None }
+        requires none_left { states.unmerged ≡ 0 }
+        ensures { result ≡ record {
+          entries = states.entries;
           copy = None;
           unspelled = 0;
           unmerged = 0;
@@ -260,7 +276,7 @@ impl<K: Codec + Ord, S: Codec> OperatorState<K, S> {
     {
         OperatorState {
             alloc,
-            states: KeyedState::from_map(alloc, map),
+            states,
             has_copied: false,
             last: None,
             left: 0,
@@ -280,16 +296,7 @@ impl<K: Codec + Ord, S: Codec> OperatorState<K, S> {
           part = [];
         } }
     {
-        OperatorState {
-            alloc,
-            states: KeyedState::from_lent(alloc, lent),
-            has_copied: false,
-            last: None,
-            left: 0,
-            bytes: PartBytes::new(alloc),
-            end: 0,
-            handed: None,
-        }
+        OperatorState::uncopied(alloc, KeyedState::from_lent(alloc, lent))
     }
 
     /// The front of the part that these states are, with all of them, and the key of the last.
@@ -381,7 +388,7 @@ impl<K: Codec + Ord, S: Codec> OperatorState<K, S> {
     pub fn compare_and_set_all(
         &mut self,
         states: &mut Vec<(K, S)>,
-        expected: &[Option<S>],
+        expected: &[Seen<S>],
     ) -> Result<(), SetFault>
     where
         S: Eq,

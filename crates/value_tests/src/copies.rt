@@ -16,7 +16,7 @@ fn copied(alloc: Global, numbers: i64) -> Result<Counts, Fail> {
     for number in 0..numbers {
         tree.insert(number, 1)?;
     }
-    let mut counts = OperatorState::from_map(alloc, Map::from_btree_map(alloc, tree));
+    let mut counts = OperatorState::from_map(alloc, Map::from_btree_map(alloc, tree))?;
     counts.copy()?;
     Ok(counts)
 }

@@ -28,7 +28,7 @@ fn counted_once(alloc: Global) -> Result<Counts, Fail> {
     for key in ["c", "a", "b"] {
         tree.insert(Text::from_str(alloc, key)?, (1, 1))?;
     }
-    Ok(KeyedState::from_map(alloc, Map::from_btree_map(alloc, tree)))
+    Ok(KeyedState::from_map(alloc, Map::from_btree_map(alloc, tree))?)
 }
 
 /// Freezes them, and counts a once more and d for the first time.
@@ -43,7 +43,7 @@ fn count_on(alloc: Global, counts: &mut Counts) -> Result<(), Fail> {
 fn expect_both(rt: &impl Abort, alloc: Global, counts: &Counts) -> Result<(), Fail> {
     let mut out = Vec::new(alloc);
     if let Some(frozen) = counts.frozen() {
-        frozen.encode(&mut out)?;
+        frozen.whole()?.encode(&mut out)?;
     }
     assert_eq!(rt; out.as_slice(), FROZEN.as_slice());
     counts.encode(&mut out)?;

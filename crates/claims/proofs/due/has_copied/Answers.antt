@@ -14,7 +14,7 @@ loop-key-preserved g c =
     let turn = walk_more c.loop-key.key-iterator c.next.new.self c.next.result (c.in-Some.key, c.in-Some.state) c.in-Some.is c.next.ensures.steps in
     let x : g.row.O-Key.Denot × Option g.row.O-State.Denot = (c.in-Some.key.now, c.in-Some.state.now) in
     record {
-      each = λ entries held. each_goes_on (Has g.O.Key.Ord.cmp entries) all before after x turn ((c.has_state.ensures entries held).0 c.if-not-has_state.false ∙ c.as_ref.ensures.value) (c.loop-key.invariant.each entries held);
+      each = λ entries held. each_goes_on (Has g.O.Key.Ord.cmp entries) all before after x turn ((c.has_state.ensures entries held).0 c.if-not-has_state.false ∙ c.state.ensures) (c.loop-key.invariant.each entries held);
       some = λ entries held. some_goes_on (Has g.O.Key.Ord.cmp entries) all before after x turn (c.loop-key.invariant.some entries held);
     }
 
@@ -26,7 +26,7 @@ returns-then-not-has_state g c = λ entries held.
     let turn = walk_more c.loop-key.key-iterator c.next.new.self c.next.result (c.in-Some.key, c.in-Some.state) c.in-Some.is c.next.ensures.steps in
     let x : g.row.O-Key.Denot × Option g.row.O-State.Denot = (c.in-Some.key.now, c.in-Some.state.now) in (
       λ e. absurd (false≢true e),
-      λ same. absurd (false≢true (sym c.if-not-has_state.true ∙ (c.has_state.ensures entries held).1 (some_here (Has g.O.Key.Ord.cmp entries) all before after x turn (c.loop-key.invariant.some entries held) (place_by_place g.met.O.Operator.key_is_exact entries all (found_each g.met.O.Key.Ord.total all c.columns.ensures.rising) same) ∙ sym c.as_ref.ensures.value))),
+      λ same. absurd (false≢true (sym c.if-not-has_state.true ∙ (c.has_state.ensures entries held).1 (some_here (Has g.O.Key.Ord.cmp entries) all before after x turn (c.loop-key.invariant.some entries held) (place_by_place g.met.O.Operator.key_is_exact entries all (found_each g.met.O.Key.Ord.total all c.columns.ensures.rising) same) ∙ sym c.state.ensures))),
     )
 
 pub returns : goal.returns

@@ -10,8 +10,8 @@ use Rattle.keyed_state.proofs.comparing.exchange_each.Given as goal
 abbrev pub invariant-loop-index : goal.invariant-loop-index
 invariant-loop-index g l = record {
   rest : drop l.index l.entries ≡ drop l.index l.fn.entries;
-  put : put_over g.K.Ord.cmp l.map.entries (drop l.index l.fn.entries) ≡ put_over g.K.Ord.cmp l.fn.map.entries l.fn.entries;
+  put : put_over g.K.Ord.cmp l.table (drop l.index l.fn.entries) ≡ put_over g.K.Ord.cmp l.fn.table l.fn.entries;
   rising : IsStrictlySortedBy g.K.Ord.cmp (keys_of (drop l.index l.fn.entries));
-  same : HaveStates g.K.Ord.cmp l.map.entries (keys_of (drop l.index l.fn.entries)) (drop l.index l.expected) ↔ HaveStates g.K.Ord.cmp l.fn.map.entries (keys_of l.fn.entries) l.expected;
-  undone : undone g.K.Ord.cmp (notes_of (take l.index l.entries) l.expected) l.map.entries ≡ l.fn.map.entries;
+  same : HaveStates g.K.Ord.cmp l.table (keys_of (drop l.index l.fn.entries)) (drop l.index l.expected) ↔ HaveStates g.K.Ord.cmp l.fn.table (keys_of l.fn.entries) l.expected;
+  undone : undone g.K.Ord.cmp (notes_of (take l.index l.entries) l.expected) l.table ≡ l.fn.table;
 }

@@ -11,7 +11,7 @@ loop-key-preserved g c =
     let is = c.in_ok-put_one.ensures.entries in
     let more : length (into_iter_items c.loop-key.key-iterator) ≡ length rest + 1 = ap length turn ∙ omega arith in
     record {
-      put = ap (λ es. put_over g.K.Ord.cmp es rest) is ∙ sym (ap (put_over g.K.Ord.cmp c.loop-key.map.entries) turn) ∙ c.loop-key.invariant.put;
+      put = ap (λ es. put_over g.K.Ord.cmp es rest) is ∙ sym (ap (put_over g.K.Ord.cmp (g.M.StateMap.entries c.loop-key.map)) turn) ∙ c.loop-key.invariant.put;
       undone = c.put_one.ensures.undone ∙ c.loop-key.invariant.undone;
       room = omega (arith, c.loop-key.invariant.room, more, c.in_ok-put_one.ensures.len, c.put_one.ensures.room);
     }

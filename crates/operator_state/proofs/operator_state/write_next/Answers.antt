@@ -1,4 +1,4 @@
-use Rattle.std.proofs.Common.{◌≡◌, ◌+◌, ℕ, suc, length, take, drop, List, Some, slice_get, ap, ap₂, sym, subst, ◌∙◌, arith}
+use Rattle.std.proofs.Common.{◌≡◌, ◌+◌, ◌++◌, ℕ, suc, length, take, drop, List, Some, slice_get, ap, ap₂, sym, subst, ◌∙◌, arith}
 use Rattle.std.specs.Option.{option_copied}
 use Rattle.std.specs.List.{All, flat_map}
 use Rattle.std.proofs.lemmas.List.Elements.{All-push}
@@ -36,5 +36,53 @@ loop-preserved g c =
             rest = sym (drop_on c.loop.counter left e c.next.new.self (sym c.loop.invariant.rest ∙ steps)) ∙ ap (λ n. drop n left) (sym next);
             others = ap (λ n. entries_above g.K.Ord.cmp (option_copied n) frozen) w.next-is ∙ on.0;
           }
-      | in_default-next w ↦ absurd (none_left c.loop.entries left c.loop.counter c.args.count c.loop.invariant.rest (sym (ap (λ (l : List (g.row.K.Denot × g.row.S.Denot)). slice_get l 0) w.in_default-next.ensures.steps.0)) c.loop-test.true c.requires.count)
+      | in_default-next w ↦ absurd (none_left c.loop.entries left c.loop.counter c.args.count c.loop.invariant.rest (sym (ap (λ (l : List (g.row.K.Denot × g.row.S.Denot)). slice_get l 0) w.in_default-next.ensures.steps)) c.loop-test.true c.requires.count)
     ]
+
+pub returns-in_ok-copied-in-Some-next-2-clause-appended : goal.returns-in_ok-copied-in-Some-next-2-clause-appended
+returns-in_ok-copied-in-Some-next-2-clause-appended g c =
+    let cmp = g.K.Ord.cmp in
+    let frozen = frozen_entries c.args.states.now in
+    let left = entries_above cmp (option_copied c.args.last) frozen in
+    let full : c.loop.counter ≡ c.args.count = omega (arith, c.loop.auto.counter-end, c.loop-test.false) in
+    c.truncate-2.ensures.items ∙ c.loop.invariant.text ∙ ap (λ (n : ℕ). take c.args.at c.args.out.now.items ++ flat_map (pair_spelling g.K.Codec.spelling g.S.Codec.spelling) (take n left)) full
+
+pub returns-in_ok-copied-in-Some-next-2-clause-spelled : goal.returns-in_ok-copied-in-Some-next-2-clause-spelled
+returns-in_ok-copied-in-Some-next-2-clause-spelled g c =
+    let cmp = g.K.Ord.cmp in
+    let frozen = frozen_entries c.args.states.now in
+    let left = entries_above cmp (option_copied c.args.last) frozen in
+    let full : c.loop.counter ≡ c.args.count = omega (arith, c.loop.auto.counter-end, c.loop-test.false) in
+    subst (λ (n : ℕ). All (PairIsSpelled g.K.Codec.HasSpelling g.S.Codec.HasSpelling) (take n left)) full c.loop.invariant.each
+
+pub returns-in_ok-copied-in-Some-next-2-clause-others : goal.returns-in_ok-copied-in-Some-next-2-clause-others
+returns-in_ok-copied-in-Some-next-2-clause-others g c =
+    let cmp = g.K.Ord.cmp in
+    let frozen = frozen_entries c.args.states.now in
+    let left = entries_above cmp (option_copied c.args.last) frozen in
+    let full : c.loop.counter ≡ c.args.count = omega (arith, c.loop.auto.counter-end, c.loop-test.false) in
+    ap (λ k. entries_above cmp (Some k) frozen) c.in_ok-copied-in-Some-next-2.ensures ∙ ap (λ o. entries_above cmp (option_copied o) frozen) (sym c.in-Some-next-2.is) ∙ c.loop.invariant.others ∙ ap (λ (n : ℕ). drop n left) full
+
+pub returns-in-None-clause-appended : goal.returns-in-None-clause-appended
+returns-in-None-clause-appended g c =
+    let cmp = g.K.Ord.cmp in
+    let frozen = frozen_entries c.args.states.now in
+    let left = entries_above cmp (option_copied c.args.last) frozen in
+    let full : c.loop.counter ≡ c.args.count = omega (arith, c.loop.auto.counter-end, c.loop-test.false) in
+    c.truncate-2.ensures.items ∙ c.loop.invariant.text ∙ ap (λ (n : ℕ). take c.args.at c.args.out.now.items ++ flat_map (pair_spelling g.K.Codec.spelling g.S.Codec.spelling) (take n left)) full
+
+pub returns-in-None-clause-spelled : goal.returns-in-None-clause-spelled
+returns-in-None-clause-spelled g c =
+    let cmp = g.K.Ord.cmp in
+    let frozen = frozen_entries c.args.states.now in
+    let left = entries_above cmp (option_copied c.args.last) frozen in
+    let full : c.loop.counter ≡ c.args.count = omega (arith, c.loop.auto.counter-end, c.loop-test.false) in
+    subst (λ (n : ℕ). All (PairIsSpelled g.K.Codec.HasSpelling g.S.Codec.HasSpelling) (take n left)) full c.loop.invariant.each
+
+pub returns-in-None-clause-others : goal.returns-in-None-clause-others
+returns-in-None-clause-others g c =
+    let cmp = g.K.Ord.cmp in
+    let frozen = frozen_entries c.args.states.now in
+    let left = entries_above cmp (option_copied c.args.last) frozen in
+    let full : c.loop.counter ≡ c.args.count = omega (arith, c.loop.auto.counter-end, c.loop-test.false) in
+    ap (λ o. entries_above cmp (option_copied o) frozen) (sym c.in-None.is) ∙ c.loop.invariant.others ∙ ap (λ (n : ℕ). drop n left) full

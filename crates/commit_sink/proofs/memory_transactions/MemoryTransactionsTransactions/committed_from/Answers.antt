@@ -1,8 +1,6 @@
 use Rattle.std.proofs.Common.{sym, subst}
 use Rattle.std.specs.List.Sorted.{IsNonDecreasingBy}
 use Rattle.commit_sink.specs.Ends.{Stands}
-use Rattle.commit_sink.specs.Runs.{IsRunFrom}
-use Rattle.commit_sink.specs.Ledger.{committed_rows}
 use Rattle.commit_sink.specs.Shares.{ledger_of, share_at}
 use Rattle.commit_sink.proofs.Rows.{row-found, rows-rise, run-found}
 use Rattle.commit_sink.proofs.memory_transactions.MemoryTransactionsTransactions.committed_from.Goals as goal
@@ -22,5 +20,4 @@ returns c =
     let kept = c.args.self.now.kept.share c.args.subtask in
     let stands = subst (λ share. Stands share.ends.items c.in-Some-find.ensures.some.0 c.args.index (c.in-Some-find.transaction, c.in-Some-find.place)) c.in-Some.ensures.some c.in-Some-find.ensures.some.1 in
     let r = row-found l c.args.subtask c.args.index (share_at c.args.self.now.shares.items c.args.subtask) c.in-Some-find.ensures.some.0 c.in-Some-find.transaction c.in-Some-find.place kept stands in
-    subst (IsRunFrom (committed_rows l c.args.subtask) c.args.index) (sym (c.rows_from.ensures r.transaction r.is))
-    (run-found l c.args.subtask c.args.index (share_at c.args.self.now.shares.items c.args.subtask) c.in-Some-find.ensures.some.0 c.in-Some-find.transaction c.in-Some-find.place kept stands r)
+    run-found l c.args.subtask c.args.index (share_at c.args.self.now.shares.items c.args.subtask) c.in-Some-find.ensures.some.0 c.in-Some-find.transaction c.in-Some-find.place kept stands r c.rows_from.result.now (c.rows_from.ensures r.transaction r.is)

@@ -11,4 +11,4 @@ returns-in-Some g c =
 pub returns-in-None : goal.returns-in-None
 returns-in-None g c =
     let under = value_at g.K.Ord.cmp c.self.inside.base c.args.key.now in
-    rw (← c.self.view_is) (c.get-in-None.ensures.value ∙ ap (λ base. value_at g.K.Ord.cmp base c.args.key.now) c.value.ensures ∙ ap (λ found. shadowed found under) c.in-None.ensures.value ∙ sym (value_at-put_over g.met.K.Ord.total c.self.inside.base c.self.inside.overlay.entries c.args.key.now c.self.invariant.overlay_rises))
+    rw (← c.self.view_is) (c.get-in-None.ensures ∙ ap (λ base. value_at g.K.Ord.cmp base c.args.key.now) c.value.ensures ∙ ap (λ found. shadowed found under) c.in-None.ensures.value ∙ sym (value_at-put_over g.met.K.Ord.total c.self.inside.base c.self.inside.overlay.entries c.args.key.now c.self.invariant.overlay_rises))

@@ -5,5 +5,5 @@ use Rattle.keyed_state.proofs.keyed_map.KeyedState.len_with.Goals as goal
 pub prove-unreachable-requires : goal.prove-unreachable-requires
 prove-unreachable-requires g c =
     let most = length-put_over g.met.K.Ord.total c.self.inside.base c.self.inside.overlay.entries in
-    let whole : length c.as_btree_map.result.now.entries ≡ length c.self.inside.base = ap length (c.as_btree_map.ensures ∙ c.value.ensures) in
+    let whole : length c.value.result.now ≡ length c.self.inside.base = ap length c.value.ensures in
     omega arith

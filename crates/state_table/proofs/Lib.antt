@@ -1,0 +1,3 @@
+pub mod Changed
+pub mod Places
+pub mod Walked
