@@ -10,6 +10,6 @@ mod shape;
 mod turns;
 
 pub use fault::RunFault;
-pub use schedule::{HandedOut, Schedule, Step};
+pub use schedule::{End, HandedOut, Schedule, Step};
 pub use schedule_parts::Place;
 pub use turns::Turns;

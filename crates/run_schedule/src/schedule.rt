@@ -30,6 +30,17 @@ pub enum Step {
     Read(u32),
     /// A task takes what stands at the head of an input.
     Work(Place),
+    /// Those that a task sends to are told of what it has sent.
+    Tell(u32),
+}
+
+/// A channel that a task sends on.
+#[derive(Clone, Copy, PartialEq, Eq, Debug)]
+pub struct End {
+    /// The channel's number.
+    pub channel: u32,
+    /// The input that it is.
+    pub place: Place,
 }
 
 /// A task as the schedule sees it.
@@ -38,13 +49,13 @@ pub(crate) struct Node {
     /// Its place in the graph's order: behind the senders of its unmarked inputs.
     pub(crate) rank: u32,
     pub(crate) inputs: Inputs,
-    /// The ends of the channels that it sends on.
-    pub(crate) ends: Vec<Place>,
+    /// The channels that it sends on.
+    pub(crate) ends: Vec<End>,
     /// So many records that it sends are about one for each end.
     pub(crate) spread: usize,
-    /// How many records it has worked or read since the ends were marked.
+    /// How many records it has worked or read since those it sends to were told.
     pub(crate) sent: usize,
-    /// After so many the ends are marked, in the present run.
+    /// After so many they are told, in the present run.
     pub(crate) enough: usize,
     /// Whether it holds a claim.
     pub(crate) is_busy: bool,
@@ -66,14 +77,20 @@ pub struct HandedOut {
 }
 
 impl Node {
-    /// After so many records the ends are marked, where claims are of so many: about a batch for
-    /// each, which counts as 128 records at least, but no more than four batches or 512 records in
-    /// all, so that what waits in channels stays small however many there are; and no fewer than
-    /// there are ends, so that a mark costs the same.
-    fn enough_of(&self, batch: usize) -> usize {
-        let of_ends = self.spread.saturating_mul(batch.max(TOLD_TOGETHER));
-        let most = batch.saturating_mul(MOST_BATCHES).max(MOST_UNTOLD);
-        self.ends.len().max(of_ends.min(most))
+    /// After so many records those that it sends to are told, where these records go into so many
+    /// channels, and claims are of so many: about a batch for each channel, which counts as 128
+    /// records at least, but no more in all than four batches, or 512 records of an operator and
+    /// 2,048 of a source, so that what waits in channels stays small however many there are; and no
+    /// fewer than there are ends, so that telling costs the same for each record.
+    fn enough_of(&self, channels: usize, batch: usize) -> usize {
+        let of_channels = channels.saturating_mul(batch.max(TOLD_TOGETHER));
+        let untold = if self.is_operator {
+            MOST_UNTOLD
+        } else {
+            MOST_READ_UNTOLD
+        };
+        let most = batch.saturating_mul(MOST_BATCHES).max(untold);
+        self.ends.len().max(of_channels.min(most))
     }
 }
 
@@ -88,6 +105,9 @@ const MOST_BATCHES: usize = 4;
 /// A task sends so many records before those that it sends to are asked for them, at most, where
 /// four batches are fewer.
 const MOST_UNTOLD: usize = 512;
+
+/// So many of a source's, of which there are few.
+const MOST_READ_UNTOLD: usize = 2048;
 
 /// A source sends so many records in one turn, at most.
 const MOST_READS: u32 = 128;
@@ -111,9 +131,11 @@ pub struct Schedule {
     all_sources: Vec<u32>,
     /// The ranks of tasks that hold no claim and have an input that may have something.
     ready: RankSet,
-    /// The ranks of tasks that have sent since the ends of their channels were marked, and too few
-    /// records to mark them again.
+    /// The ranks of tasks that have sent since those they send to were told, and too few records to
+    /// tell them again.
     senders: RankSet,
+    /// The ranks of tasks that have sent enough records.
+    due: RankSet,
     /// The sources that may have a record, in turn.
     sources: VecDeque<u32>,
     round: Round,
@@ -156,6 +178,7 @@ impl Schedule {
             all_sources,
             ready: RankSet::new(),
             senders: RankSet::new(),
+            due: RankSet::new(),
             sources,
             round,
             claims: 0,
@@ -178,7 +201,7 @@ impl Schedule {
         self.every = every;
         self.batch = batch;
         for node in self.nodes.iter_mut() {
-            node.enough = node.enough_of(batch as usize);
+            node.enough = node.enough_of(node.spread, batch as usize);
         }
         self.went_down();
     }
@@ -272,6 +295,9 @@ impl Schedule {
 
     /// A step that takes a record or a barrier, or finds out where one is.
     fn record_step(&mut self, worker: u32) -> Option<Step> {
+        if let Some(task) = self.first_of(&self.due) {
+            return Some(Step::Tell(task));
+        }
         if let Some(place) = self.next_input(worker) {
             return Some(Step::Work(place));
         }
@@ -281,19 +307,22 @@ impl Schedule {
         if let Some(task) = self.sources.front() {
             return Some(Step::Read(*task));
         }
-        if self.mark_sender() {
-            return Some(Step::Look);
-        }
-        None
+        self.next_sender()
     }
 
     /// Where enough was read ahead of claims of one record: a look at what was sent, if something
     /// was that no task was told of.
-    fn told_of_one(&mut self) -> Option<Step> {
-        if self.batch == 1 && self.mark_sender() {
-            return Some(Step::Look);
+    fn told_of_one(&self) -> Option<Step> {
+        if self.batch == 1 {
+            self.next_sender()
+        } else {
+            None
         }
-        None
+    }
+
+    /// Of the tasks that have sent since, the one furthest downstream tells of it.
+    fn next_sender(&self) -> Option<Step> {
+        Some(Step::Tell(self.first_of(&self.senders)?))
     }
 
     /// A step that takes a record or a barrier, and what is to be done where there is none.
@@ -344,7 +373,12 @@ impl Schedule {
 
     /// The ready task that stands furthest downstream.
     fn first_task(&self) -> Option<u32> {
-        self.task_at(self.ready.greatest()?)
+        self.first_of(&self.ready)
+    }
+
+    /// The task of a set that stands furthest downstream.
+    fn first_of(&self, tasks: &RankSet) -> Option<u32> {
+        self.task_at(tasks.greatest()?)
     }
 
     /// The first input of the worker's own task, or else of the one that stands furthest
@@ -393,6 +427,7 @@ impl Schedule {
         self.is_searched = true;
         self.ready.clear();
         self.senders.clear();
+        self.due.clear();
         self.full.clear();
         for node in self.nodes.iter_mut() {
             node.sent = 0;
@@ -413,38 +448,44 @@ impl Schedule {
         self.is_last = false;
     }
 
-    /// Marks the ends of a task that has sent since they were marked last. Whether there was one.
-    fn mark_sender(&mut self) -> bool {
-        let Some(rank) = self.senders.greatest() else {
-            return false;
-        };
-        self.senders.remove(rank);
-        if let Some(task) = self.task_at(rank) {
-            self.mark_ends(task);
-        }
-        true
-    }
-
     /// Marks the ends of the channels that a task sends on.
     fn mark_ends(&mut self, task: u32) {
+        let ends = self.ends_of(task);
+        for number in 0..ends {
+            if let Some(end) = self.end_of(task, number) {
+                self.mark(end.place);
+            }
+        }
+        self.told(task, ends);
+    }
+
+    /// On how many channels a task sends.
+    pub(crate) fn ends_of(&self, task: u32) -> usize {
+        self.nodes
+            .get(task as usize)
+            .map_or(0, |node| node.ends.len())
+    }
+
+    /// A channel that a task sends on, of those counted from 0.
+    pub(crate) fn end_of(&self, task: u32, number: usize) -> Option<End> {
+        self.nodes.get(task as usize)?.ends.get(number).copied()
+    }
+
+    /// Those that a task sends to were told of what stands in so many of its channels. They are
+    /// told again after as many records as these may take together.
+    pub(crate) fn told(&mut self, task: u32, channels: usize) {
         let Some(node) = self.nodes.get_mut(task as usize) else {
             return;
         };
         node.sent = 0;
-        let (rank, ends) = (node.rank, node.ends.len());
+        node.enough = node.enough_of(channels.clamp(1, node.spread.max(1)), self.batch as usize);
+        let rank = node.rank;
         self.senders.remove(rank);
-        for number in 0..ends {
-            if let Some(place) = self.end_of(task, number) {
-                self.mark(place);
-            }
-        }
+        self.due.remove(rank);
     }
 
-    fn end_of(&self, task: u32, number: usize) -> Option<Place> {
-        self.nodes.get(task as usize)?.ends.get(number).copied()
-    }
-
-    fn mark(&mut self, place: Place) {
+    /// An input may have something.
+    pub(crate) fn mark(&mut self, place: Place) {
         if let Some(node) = self.nodes.get_mut(place.task as usize) {
             node.inputs.fill(place.input);
         }
@@ -476,17 +517,21 @@ impl Schedule {
         }
     }
 
-    /// A task may have sent for so many records. The ends of its channels are marked once there may
-    /// be a batch at each. Who has sent already is among the senders.
+    /// A task may have sent for so many records. Once there may be a batch in each of the channels
+    /// that they go into, those that it sends to are told: at once where it sends on one channel
+    /// alone, and else by the next step, which finds out on which. Who has sent fewer is among the
+    /// senders.
     fn sent(&mut self, task: u32, records: u64) {
         let Some(node) = self.nodes.get_mut(task as usize) else {
             return;
         };
-        let (before, rank) = (node.sent, node.rank);
-        node.sent = before.saturating_add(records as usize);
-        if node.sent >= node.enough {
+        node.sent = node.sent.saturating_add(records as usize);
+        let (rank, is_enough, is_one) = (node.rank, node.sent >= node.enough, node.ends.len() < 2);
+        if is_enough && is_one {
             self.mark_ends(task);
-        } else if before == 0 {
+        } else if is_enough {
+            self.due.insert(rank);
+        } else {
             self.senders.insert(rank);
         }
     }
@@ -672,7 +717,8 @@ impl Schedule {
         };
         let is_next = node.is_operator
             && node.inputs.is_only(place.input)
-            && self.ready.is_below(node.rank);
+            && self.ready.is_below(node.rank)
+            && self.due.greatest().is_none();
         is_next && !self.is_down && self.records_come_next()
     }
 

@@ -1,6 +1,6 @@
 //! The schedule of a graph.
 
-use crate::schedule::{Node, Schedule};
+use crate::schedule::{End, Node, Schedule};
 use job_graph::{Graph, Role, Route};
 use schedule_parts::{Inputs, Place, Round};
 use std::alloc::{AllocError, Global};
@@ -95,11 +95,11 @@ fn ends_of(
     graph: &Graph,
     places: &[Place],
     task: u32,
-) -> Result<Vec<Place>, AllocError> {
+) -> Result<Vec<End>, AllocError> {
     let mut ends = Vec::new(alloc);
-    for &number in graph.outputs(task) {
-        if let Some(place) = places.get(number as usize) {
-            ends.push(*place)?;
+    for &channel in graph.outputs(task) {
+        if let Some(&place) = places.get(channel as usize) {
+            ends.push(End { channel, place })?;
         }
     }
     Ok(ends)
@@ -131,14 +131,14 @@ fn feed(nodes: &mut [Node], source: u32) {
     let ends = nodes.get(source as usize).map_or(0, |node| node.ends.len());
     for number in 0..ends {
         let fed = end_of(nodes, source, number);
-        if let Some(node) = fed.and_then(|place| nodes.get_mut(place.task as usize)) {
+        if let Some(node) = fed.and_then(|end| nodes.get_mut(end.place.task as usize)) {
             node.is_fed = true;
         }
     }
 }
 
 /// The end of a task's channel of this number.
-fn end_of(nodes: &[Node], task: u32, number: usize) -> Option<Place> {
+fn end_of(nodes: &[Node], task: u32, number: usize) -> Option<End> {
     nodes.get(task as usize)?.ends.get(number).copied()
 }
 

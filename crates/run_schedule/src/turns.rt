@@ -3,7 +3,7 @@
 ghost use Rattle.std.specs.Prelude.{◌≤◌};
 
 use crate::fault::RunFault;
-use crate::schedule::{HandedOut, Schedule, Step};
+use crate::schedule::{End, HandedOut, Schedule, Step};
 use alignment::Effect;
 use engine_model::{CoreFault, Persisted};
 use schedule_parts::Place;
@@ -139,6 +139,26 @@ impl Turns {
         self.schedule.is_pending()
     }
 
+    /// On how many channels a task sends.
+    pub fn ends_of(&self, task: u32) -> usize {
+        self.schedule.ends_of(task)
+    }
+
+    /// A channel that a task sends on, of those counted from 0.
+    pub fn end_of(&self, task: u32, number: usize) -> Option<End> {
+        self.schedule.end_of(task, number)
+    }
+
+    /// An input may have something.
+    pub fn mark(&mut self, place: Place) {
+        self.schedule.mark(place);
+    }
+
+    /// Those that a task sends to were told of what stands in so many of its channels.
+    pub fn told(&mut self, task: u32, channels: usize) {
+        self.schedule.told(task, channels);
+    }
+
     /// What came of a source's turn: it has sent so many records, and then this. That it has no
     /// more is found out by its next turn, where it has sent one.
     pub fn read(&mut self, task: u32, records: u32, outcome: Result<(), CoreFault>) {
@@ -264,7 +284,7 @@ impl Turns {
             Step::Complete => self.schedule.completed(),
             Step::Commit(_) => self.schedule.committed(),
             Step::Read(_) | Step::Persist(_) | Step::Work(_) => {}
-            Step::Over | Step::Idle | Step::Look => {}
+            Step::Over | Step::Idle | Step::Look | Step::Tell(_) => {}
         }
     }
 
@@ -304,7 +324,7 @@ impl Turns {
                 self.schedule.is_blocked(place.task);
             }
             Step::Work(place) => self.schedule.had_nothing(place.task),
-            Step::Over | Step::Idle | Step::Look => {}
+            Step::Over | Step::Idle | Step::Look | Step::Tell(_) => {}
         }
     }
 }

@@ -53,6 +53,7 @@ pub fn take_turn<O: Operator, S: SnapshotStore, X: Transactions, P: Partitions<R
         Step::Over => Next::Over,
         Step::Idle => Next::Idle,
         Step::Look => Next::Again,
+        Step::Tell(task) => tell(core, turns, task),
         Step::Work(place) => claim(core, turns, worker, place, bench),
         Step::Read(task) => read(core, turns, task),
         Step::Persist(task) => persist(core, turns, worker, task, bench),
@@ -169,6 +170,26 @@ fn work_ahead<O: Operator, S: SnapshotStore, X: Transactions, P: Partitions<Reco
     }
 }
 
+/// Those that a task sends to are told of the channels in which a record stands, or a barrier may.
+fn tell<O: Operator, S: SnapshotStore, X: Transactions, P: Partitions<Record = O::Record>>(
+    core: &Core<O, S, X, P>,
+    turns: &mut Turns,
+    task: u32,
+) -> Next {
+    let awaits_barriers = turns.awaits_barriers();
+    let mut told: usize = 0;
+    for number in 0..turns.ends_of(task) {
+        if let Some(end) = turns.end_of(task, number) {
+            if core.has_head(end.channel) || awaits_barriers {
+                turns.mark(end.place);
+                told = told.saturating_add(1);
+            }
+        }
+    }
+    turns.told(task, told);
+    Next::Again
+}
+
 /// A source sends its next records: as many as the turns say, at most.
 fn read<O: Operator, S: SnapshotStore, X: Transactions, P: Partitions<Record = O::Record>>(
     core: &mut Core<O, S, X, P>,
@@ -240,7 +261,7 @@ fn make<O: Operator, S: SnapshotStore, X: Transactions, P: Partitions<Record = O
         Step::Complete => core.complete().map(|_| ()),
         Step::Commit(sink) => core.commit(sink),
         Step::Read(_) | Step::Persist(_) | Step::Work(_) => Ok(()),
-        Step::Over | Step::Idle | Step::Look => Ok(()),
+        Step::Over | Step::Idle | Step::Look | Step::Tell(_) => Ok(()),
     }
 }
 
