@@ -8,7 +8,7 @@ use std::marker::Model;
 use std::mem::replace;
 
 /// How many items a page has.
-const PAGE: usize = 1_024;
+const PAGE: usize = 64;
 
 /// The items of a run from a place on.
 fn items_from<T>(run: &Vec<T>, place: usize) -> &[T]
@@ -80,7 +80,8 @@ impl<T: Drop> Tail<T> {
         ensures err { OnErr result (self.new ≡ self.old) }
     {
         self.turn_page()?;
-        self.last.push(item)?;
+        self.last.reserve(1)?;
+        self.last.push_reserved(item);
         Ok(())
     }
 
@@ -177,7 +178,8 @@ impl<T: Drop> Pages<T> {
             return Err(NoMemory);
         };
         if takes_more(&self.first) && self.tail.is_empty() {
-            self.first.push(item)?;
+            self.first.reserve(1)?;
+            self.first.push_reserved(item);
         } else {
             self.tail.push(item)?;
         }

@@ -56,8 +56,8 @@ fn transaction_of(alloc: Global, count: u64) -> Result<MemoryTransactions, Fail>
 #[test]
 fn records_stand_in_pages(rt: HostRuntime) -> Result<(), Fail> {
     let sinks = transaction_of(rt.alloc(), 3_000)?;
-    assert_eq!(rt; sinks.records_from(0, 0).len(), 1_024);
-    assert_eq!(rt; sinks.records_from(0, 1_500).len(), 548);
+    assert_eq!(rt; sinks.records_from(0, 0).len(), 64);
+    assert_eq!(rt; sinks.records_from(0, 1_500).len(), 36);
     assert_eq!(rt; sinks.records_from(0, 2_999).len(), 1);
     Ok(())
 }

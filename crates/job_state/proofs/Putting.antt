@@ -9,7 +9,7 @@ use Rattle.channels.specs.Channel.{Contents}
 use Rattle.channels.specs.declared.item.Item.{Item}
 use Rattle.channels.specs.declared.item.Item.TheVariants.{Record}
 use Rattle.job_state.specs.AtOnce.{without_first}
-use Rattle.job_state.specs.Sending.{items_at, put_into, contents_items, room_at, AreChannels, HasRoom, Puts, without_head}
+use Rattle.job_state.specs.Sending.{items_at, put_into, contents_items, room_at, waiting_at, AreChannels, HasRoom, Puts, without_head}
 use Rattle.job_state.proofs.Places.{get_set_same, get_set_other, set_same}
 
 module _ {R : Type 0} where
@@ -157,6 +157,10 @@ module _ {R : Type 0} where
             )
         | inr h ↦ omega (arith, into_other n k item h.1, ap (λ o. option_map_or (λ c. c.room) o 0) (get_set_other channels n k new (λ e. h.1 (sym e))))
       ]
+
+  -- one item more waits for room
+  pub waits_more : (n count k : ℕ) (item : Item R) → waiting_at n count k + length (put_into k ((n, item) ∷ [])) ≡ waiting_at n (count + 1) k
+  waits_more n count k item = elim (eqb_tells n k) [ inl h ↦ rw h.0 refl | inr h ↦ rw h.0 refl ]
 
   -- the items put so far are the first of all
   put_first : (k : ℕ) (puts : List (ℕ × Item R)) (i : ℕ) → length (put_into k (take i puts)) ≤ length (put_into k puts)

@@ -9,6 +9,10 @@ use Rattle.deliveries.specs.Deliveries.{deliveries_of}
 use Rattle.job_graph.specs.Expanded.{Expanded}
 use Rattle.job_state.specs.declared.ready.Ready.{Ready}
 
+-- how many of these items that wait for room in one channel are for this one
+abbrev pub waiting_at : (number count : ℕ) → ℕ → ℕ
+waiting_at number count k = if number == k then count else 0
+
 module _ {R : Type 0} where
   -- what stands in a channel; nothing, if there is no such channel
   abbrev pub items_at : List (List (Item R)) → ℕ → List (Item R)

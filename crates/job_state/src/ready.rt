@@ -1,10 +1,10 @@
 //! What a task sends, once there is room for it.
 
-ghost use Rattle.std.specs.Prelude.{◌≡◌, ◌<◌, ◌≤◌, ◌++◌, ℕ, List, All, length, slice_get, OnOk, IfOk, IfSome};
+ghost use Rattle.std.specs.Prelude.{◌≡◌, ◌<◌, ◌≤◌, ◌+◌, ◌++◌, ℕ, List, All, length, slice_get, OnOk, IfOk, IfSome};
 ghost use Rattle.deliveries.specs.Deliveries.{deliveries_of, TakesEach};
 ghost use Rattle.job_graph.specs.Expanded.{outlets_of};
 ghost use Rattle.job_graph.specs.Runs.{IsRun};
-ghost use Rattle.job_state.specs.Sending.{contents_items, items_at, put_into, as_puts, room_at, AreLanes, HasRoom, IsOneInto, puts_of};
+ghost use Rattle.job_state.specs.Sending.{contents_items, items_at, put_into, as_puts, room_at, AreLanes, HasRoom, IsOneInto, puts_of, waiting_at};
 
 use crate::sending::{push_all, release_all, reserve_deliveries};
 use abs_codec::NoMemory;
@@ -44,9 +44,30 @@ fn lane_at(lanes: &[u64], place: usize) -> Option<u64>
     lanes.get(place).copied()
 }
 
+/// Takes room for so many items more in a channel. Where memory is refused, none is left in any.
+fn reserve_run<R: Drop>(
+    channels: &mut [Channel<R>],
+    number: u32,
+    count: usize,
+) -> Result<(), NoMemory>
+    requires { 0 < count → number < length channels.old }
+    ensures room { OnOk result ((k : ℕ)
+        → room_at channels.old k + waiting_at number count k ≤ room_at channels.new k) }
+    ensures same { contents_items channels.new ≡ contents_items channels.old }
+{
+    if count == 0 {
+        return Ok(());
+    }
+    let Ok(()) = channels[number as usize].reserve(count) else {
+        release_all(channels);
+        return Err(NoMemory);
+    };
+    Ok(())
+}
+
 /// Tells each record that a task sends the channel that it goes into, in place of its port, and
-/// takes the room for it there. All are sent on the first port, whose channels are these, one run.
-/// Their lanes may be known.
+/// takes the room for it there: once for records that follow one another into one channel. All are
+/// sent on the first port, whose channels are these, one run. Their lanes may be known.
 fn reserve_rows<O: Operator>(
     channels: &mut [Channel<O::Record>],
     graph: &Graph,
@@ -66,16 +87,21 @@ fn reserve_rows<O: Operator>(
     ensures room { OnOk result (HasRoom channels.new (as_puts rows.new.items)) }
     ensures same { contents_items channels.new ≡ contents_items channels.old }
 {
+    // (those before a place that go into this channel, and have no room yet)
+    let mut number = 0;
+    let mut waiting: usize = 0;
     for place in 0..rows.len() {
         let known = lane_at(lanes, place);
-        let number = run_target::<O>(graph, task, numbers, &rows[place].1, known);
-        let Ok(()) = channels[number as usize].reserve(1) else {
-            release_all(channels);
-            return Err(NoMemory);
-        };
-        rows[place].0 = number;
+        let target = run_target::<O>(graph, task, numbers, &rows[place].1, known);
+        if target != number {
+            reserve_run(channels, number, waiting)?;
+            number = target;
+            waiting = 0;
+        }
+        waiting += 1;
+        rows[place].0 = target;
     }
-    Ok(())
+    reserve_run(channels, number, waiting)
 }
 
 /// The one channel that what a task sends goes into, where that is one record; `None` where it is
