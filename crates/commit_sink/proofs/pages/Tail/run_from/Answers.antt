@@ -1,4 +1,5 @@
 use Rattle.std.proofs.Common.{◌<◌, ◌/◌, ◌%◌, ◌++◌, ◌∙◌, length, drop, sym, subst, ap, arith}
+use Rattle.commit_sink.specs.declared.pages.TheConstants.{PAGE}
 use Rattle.commit_sink.specs.Pages.{joined}
 use Rattle.commit_sink.specs.Runs.{IsRunFrom}
 use Rattle.commit_sink.proofs.Paged.{last-inside, run-last, run-page}
@@ -11,8 +12,8 @@ returns-then-page-len g c =
     let place = c.args.place in
     subst (λ all. IsRunFrom all place c.items_from.result.now) c.self.view_is
     (subst (IsRunFrom (joined pages ++ last) place)
-    (sym (c.items_from.ensures ∙ ap (λ page. drop (place % 1024) page.items) c.index.ensures))
-    (run-page pages last place (place / 1024) (place % 1024) c.index.result.now c.self.invariant (omega (arith, c.self.inside.full.ok.0)) (omega arith) (omega arith)))
+    (sym (c.items_from.ensures ∙ ap (λ page. drop (place % PAGE) page.items) c.index.ensures))
+    (run-page pages last place (place / PAGE) (place % PAGE) c.index.result.now c.self.invariant (omega (arith, c.self.inside.full.ok.0)) (omega arith) (omega arith)))
 
 pub items_from-requires-2 : goal.items_from-requires-2
 items_from-requires-2 g c =
