@@ -127,7 +127,7 @@ fn operand_of<O: Operator>(
     let Gathered { rows, keys } = gather(alloc, attempt, operator, channel, count, room)?;
     Ok(Operand {
         operator: operator.copy()?,
-        states: states_of(alloc, attempt, task, keys)?,
+        states: states_of(alloc, attempt, task, keys, room)?,
         rows,
     })
 }

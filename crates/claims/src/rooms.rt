@@ -82,6 +82,13 @@ impl<O: Operator> Room<O> {
         Ok(rows)
     }
 
+    /// Where no record had a key, the room for keys is there for the next claim.
+    pub(crate) fn leave_keys(&mut self, keys: Vec<O::Key>)
+        requires { keys.items ≡ [] }
+    {
+        self.keys = keys;
+    }
+
     /// Room for so many keys, if it was taken.
     pub(crate) fn take_keys(&mut self, alloc: Global, count: usize) -> Vec<O::Key>
         ensures { result.items ≡ [] }

@@ -10,6 +10,7 @@ ghost use Rattle.job_state.specs.declared.holding.Holding.TheVariants as Holding
 ghost use Rattle.operators.specs.Operator.{OrderIsExact};
 ghost use Rattle.claims.specs.Keys.{states_under, HavePlaces};
 
+use crate::rooms::Room;
 use abs_codec::{Codec, NoMemory};
 use job_state::Attempt;
 use keyed_state::{LentStates, Seen};
@@ -251,18 +252,20 @@ fn lent_or_copied<O: Operator>(
     Ok(States { kept })
 }
 
-/// The same, where no state is asked for if there is no key.
+/// The same, where no state is asked for if there is no key. The room for keys is left then.
 pub(crate) fn states_of<O: Operator>(
     alloc: Global,
     attempt: &Attempt<O>,
     task: u32,
     keys: Vec<O::Key>,
+    room: &mut Room<O>,
 ) -> Result<States<O::Key, O::State>, NoMemory>
     ensures { IfOk result (λ states. (entries : List (O.Key × O.State))
         → slice_get attempt.now.tasks task ≡ Some (Holding.Operator entries)
         → states ≡ states_under O.Key.cmp entries keys.items) }
 {
     if keys.is_empty() {
+        room.leave_keys(keys);
         return Ok(States::none(alloc));
     }
     lent_or_copied(alloc, attempt, task, keys)
