@@ -1,7 +1,7 @@
 //! Several entries that are put into a map at once where each key has the state that is expected of
 //! it, or none of them.
 
-ghost use Rattle.std.specs.Prelude.{◌≡◌, ◌↔◌, Err, IsTrue, IfErr, IfSome, IfNone, count_by, is_none, option_map, slice_get, take, OnOk, OnErr};
+ghost use Rattle.std.specs.Prelude.{◌≡◌, ◌↔◌, Err, None, IsTrue, IfErr, IfSome, IfNone, count_by, is_none, option_map, slice_get, take, OnOk, OnErr};
 ghost use Rattle.std.specs.List.Sorted.{IsStrictlySortedBy};
 ghost use Rattle.std.specs.Map.{keys_of};
 ghost use Rattle.std.specs.BTreeMap.{insert_entry};
@@ -74,7 +74,7 @@ pub(crate) fn count_none<S>(states: &[Seen<S>]) -> usize
     count
 }
 
-/// Gives a key that has no state yet a copy of this one.
+/// Gives a key a copy of this state, where it has none: it is searched for once.
 #[inline(never)]
 fn put_first<K: Codec + Ord, S: Codec>(
     table: &mut Table<K, S>,
@@ -82,11 +82,19 @@ fn put_first<K: Codec + Ord, S: Codec>(
     state: &S,
 ) -> Result<(), SetFault>
     ensures ok { OnOk result (table.new ≡ insert_entry K.Ord.cmp table.old key.now state.now) }
-    ensures err { IfErr result (λ fault. (fault ≡ SetFault.Memory) × (table.new ≡ table.old)) }
+    ensures none { OnOk result (value_at K.Ord.cmp table.old key.now ≡ None) }
+    ensures changed { result ≡ Err SetFault.Changed
+        → ¬ (value_at K.Ord.cmp table.old key.now ≡ None) }
+    ensures err { OnErr result (table.new ≡ table.old) }
+    // The keys rise.
+    ensures ordered { OnOk result (IsStrictlySortedBy K.Ord.cmp (keys_of table.old)) }
 {
     let (own, first) = (key.copied()?, state.copied()?);
-    table.insert(own, first)?;
-    Ok(())
+    if table.add_new(own, first)? {
+        Ok(())
+    } else {
+        Err(SetFault::Changed)
+    }
 }
 
 /// Gives an entry's key its state where it has the expected one, which the entry takes for its own.
@@ -106,16 +114,19 @@ fn exchange_one<K: Codec + Ord, S: Codec + Eq>(
         ≡ (entry.old.0, expected.now)) }
     ensures err { OnErr result (table.new ≡ table.old) }
     // The keys rise.
-    ensures ordered { IsStrictlySortedBy K.Ord.cmp (keys_of table.old) }
+    ensures ordered { OnOk result (IsStrictlySortedBy K.Ord.cmp (keys_of table.old)) }
 {
     let (key, state) = entry;
+    if expected.state().is_none() {
+        return put_first(table, key, state);
+    }
     if !is_expected(table.get_near(key, expected.place()), expected.state()) {
         return Err(SetFault::Changed);
     }
     if table.swap_near(key, expected.place(), state) {
         return Ok(());
     }
-    put_first(table, key, state)
+    Err(SetFault::Changed)
 }
 
 /// What is expected of the entry at a place, if something is said of it.
@@ -125,8 +136,8 @@ fn expected_at<S>(expected: &[Seen<S>], index: usize) -> Option<&Seen<S>>
     expected.get(index)
 }
 
-/// Exchanges each of these entries, whose keys rise, as [`exchange_one`] does. At an `Err`, how many
-/// were exchanged, and why no more.
+/// Exchanges each of these entries, whose keys rise, as [`exchange_one`] does. At an `Err`, how
+/// many were exchanged, and why no more.
 fn exchange_each<K: Codec + Ord, S: Codec + Eq>(
     table: &mut Table<K, S>,
     entries: &mut [(K, S)],

@@ -75,6 +75,24 @@ set_out {cmp = cmp} order (e ∷ es) k former state rises found = by (cmp k e.0)
     by Equal p seen rest = refl
     by Greater p seen rest = ap (λ l. e ∷ l) (rest seen)
 
+-- what was there is put back
+pub put_back : {K S : Type 0} {cmp : K → K → Ordering} (order : IsTotalOrder cmp) (es : List (K × S)) (k : K) (former state : S) → IsStrictlySortedBy cmp (keys_of es) → lookup (is_at (cmp k)) es ≡ Some former → insert_entry cmp (insert_entry cmp es k state) k former ≡ es
+unfolding IsStrictlySortedBy
+put_back order [] k former state rises found = absurd (false≢true (ap is_some found))
+put_back {cmp = cmp} order (e ∷ es) k former state rises found = by (cmp k e.0) refl found (put_back order es k former state rises.1)
+  where
+    by : (r : Ordering) → cmp k e.0 ≡ r → cond (is_eq r) (Some e.1) (lookup (is_at (cmp k)) es) ≡ Some former → (lookup (is_at (cmp k)) es ≡ Some former → insert_entry cmp (insert_entry cmp es k state) k former ≡ es)
+        → insert_entry cmp (match_ordering r ((k, state) ∷ e ∷ es) ((e.0, state) ∷ es) (e ∷ insert_entry cmp es k state)) k former ≡ e ∷ es
+    by Less p seen rest =
+        let none : lookup (is_at (cmp k)) es ≡ None = lookup-none (is_at (cmp k)) es (none_below_head order k e es rises p).1 in
+        absurd (false≢true (ap is_some (sym none ∙ seen)))
+    by Equal p seen rest =
+        ap (λ (r : Ordering). match_ordering r ((k, former) ∷ (e.0, state) ∷ es) ((e.0, former) ∷ es) ((e.0, state) ∷ insert_entry cmp es k former)) p
+        ∙ ap (λ v. (e.0, v) ∷ es) (sym (ap (λ (o : Option _). unwrap_or o e.1) seen))
+    by Greater p seen rest =
+        ap (λ (r : Ordering). match_ordering r ((k, former) ∷ e ∷ insert_entry cmp es k state) ((e.0, former) ∷ insert_entry cmp es k state) (e ∷ insert_entry cmp (insert_entry cmp es k state) k former)) p
+        ∙ ap (λ l. e ∷ l) (rest seen)
+
 module _ {K S : Type 0} where
   same_state : (slots after : List (Slot K S)) (i : ℕ) → slice_get after i ≡ slice_get slots i → state_in after i ≡ state_in slots i
   same_state slots after i same = ap (λ (o : Option (Slot K S)). elim o [ None ↦ None | Some slot ↦ slot.state ]) same

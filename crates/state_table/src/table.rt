@@ -239,6 +239,34 @@ impl<K: Codec + Ord, S: Drop> Table<K, S> {
         Ok(())
     }
 
+    /// Gives a key this state where it has none yet, and says whether it had none: it is searched
+    /// for once. At an `Err` nothing changes.
+    pub fn add_new(&mut self, key: K, state: S) -> Result<bool, NoMemory>
+        ensures added { IfOk result (λ new. IsTrue new
+            → (value_at K.Ord.cmp self.old key ≡ None)
+            × (self.new ≡ insert_entry K.Ord.cmp self.old key state)) }
+        ensures there { IfOk result (λ new. new ≡ false
+            → ¬ (value_at K.Ord.cmp self.old key ≡ None) × (self.new ≡ self.old)) }
+        ensures err { OnErr result (self.new ≡ self.old) }
+        // The keys rise.
+        ensures ordered { IsStrictlySortedBy K.Ord.cmp (keys_of self.old) }
+    {
+        let Ok(place) = u32::try_from(self.slots.len()) else {
+            return Err(NoMemory);
+        };
+        let own = key.copied()?;
+        self.slots.reserve(1)?;
+        if let Some(former) = self.places.insert(own, place)? {
+            self.places.insert(key, former)?;
+            return Ok(false);
+        }
+        self.slots.push_reserved(Slot {
+            key,
+            state: Some(state),
+        });
+        Ok(true)
+    }
+
     /// Gives the key this state. At an `Err` nothing changes.
     pub fn insert(&mut self, key: K, mut state: S) -> Result<(), NoMemory>
         ensures ok { OnOk result (self.new ≡ insert_entry K.Ord.cmp self.old key state) }

@@ -36,7 +36,7 @@ loop-index-preserved g c =
       put = ap (λ l. put_over cmp l rest) is ∙ sym (ap (put_over cmp es) turn) ∙ c.loop-index.invariant.put;
       rising = others_rise cmp entry rest rises;
       same = one_exchanged g.met.K.Ord.total es c.exchange_one.new.table entry rest first (drop (i + 1) c.args.expected.now) Whole rises has is was;
-      undone = exchanged_undone g.met.K.Ord.total es c.exchange_one.new.table entries i entry c.exchange_one.new.entry c.args.expected.now first c.args.table.now c.exchange_one.ensures.ordered at expects has noted is c.loop-index.invariant.undone;
+      undone = exchanged_undone g.met.K.Ord.total es c.exchange_one.new.table entries i entry c.exchange_one.new.entry c.args.expected.now first c.args.table.now c.in_default-exchange_one.ensures.ordered at expects has noted is c.loop-index.invariant.undone;
     }
 
 pub returns-in-Err-clause-changed : goal.returns-in-Err-clause-changed
