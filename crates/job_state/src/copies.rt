@@ -63,7 +63,8 @@ impl<R: Codec, K: Codec + Ord, S: Codec> Task<R, K, S> {
         Ok(())
     }
 
-    /// Hands out the work on an operator's copy, where it has at most so many entries, and enough.
+    /// Hands out the work on at most so many of the next entries of an operator's copy, where that
+    /// is enough.
     pub(crate) fn hand_out(&mut self, most: usize) -> Option<CopyWork<K, S>>
         ensures holding { self.new.holding ≡ self.old.holding }
         ensures copy { self.new.copy ≡ self.old.copy }

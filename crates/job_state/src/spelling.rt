@@ -49,9 +49,9 @@ fn marked_logs<'a, R: Drop>(
 impl<O: Operator> Attempt<O> {
     ghost use Rattle.job_state.specs.Held.{copy_at, logs_of, with_logs};
 
-    /// Hands out the work on an operator's copy, to be done by anyone while nothing is held, where
-    /// it has at most so many entries, enough to be worth that, and none of them is spelled.
-    /// `spell_some` takes what comes of it.
+    /// Hands out the work on at most so many of the next entries of an operator's copy, to be done
+    /// by anyone while nothing is held, where that is enough to be worth it, and none is handed
+    /// out. `spell_some` takes what comes of it.
     pub fn hand_out(&mut self, task: u32, most: usize) -> Option<CopyWork<O::Key, O::State>>
         ensures { self.new ≡ self.old }
     {

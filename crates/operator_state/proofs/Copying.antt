@@ -1,6 +1,7 @@
 -- The entries that are left to be spelled, and what is read of those that are.
 use Rattle.std.proofs.Common.{◌≡◌, ◌<◌, ◌≤◌, ◌+◌, ◌-◌, ◌^◌, ℕ, zero, suc, Bool, true, false, Option, Some, None, List, [], ◌∷◌, ◌++◌, length, take, drop, Ordering, refl, sym, ap, subst, ◌∙◌, append_assoc, arith}
-use Rattle.std.specs.Prelude.{slice_get, filter, unwrap_or}
+use mathlib.Core.Bool.{beq, not}
+use Rattle.std.specs.Prelude.{slice_get, filter, unwrap_or, is_some}
 use Rattle.std.specs.Cmp.{IsTotalOrder}
 use Rattle.std.specs.Int.{to_be_bytes, w32}
 use Rattle.std.specs.List.{flat_map, All, AllByRecursion}
@@ -16,7 +17,7 @@ use Rattle.abs_codec.specs.Maps.{map_code}
 use Rattle.abs_codec.specs.Reading.{Reading, map_at}
 use Rattle.abs_codec.specs.Spelling.{list_spelling, pair_spelling, PairIsSpelled, MapIsSpelled}
 use Rattle.keyed_state.specs.KeyedMap.{entries_above}
-use Rattle.operator_state.specs.Spelled.{copied, entries_or_none, front_spelling, Begins, IsFront, IsHeld}
+use Rattle.operator_state.specs.Spelled.{copied, entries_or_none, front_spelling, Begins, ComesNext, GoesOn, IsFront, IsHeld}
 
 -- ---- lists
 
@@ -140,6 +141,13 @@ since old out last all more so_far written = (all ++ more, written ∙ ap (λ (t
 
 -- ---- what is kept of a copy
 
+-- entries come before a piece as they do here
+pub both_begin : (begun here : Bool) → not (beq begun here) ≡ false → begun ≡ here
+both_begin true true h = refl
+both_begin true false h = absurd cc
+both_begin false true h = absurd cc
+both_begin false false h = refl
+
 module _ {K S : Type 0} (cmp : K → K → Ordering) (order : IsTotalOrder cmp) (Key : K → Type 0) (keys : K → List ℕ) (read_key : List ℕ → Reading K) (key_code : IsCode Key keys read_key)
     (State : S → Type 0) (states : S → List ℕ) (read_state : List ℕ → Reading S) (state_code : IsCode State states read_state) where
   abbrev Pair : K × S → Type 0
@@ -191,19 +199,20 @@ module _ {K S : Type 0} (cmp : K → K → Ordering) (order : IsTotalOrder cmp) 
   -- ---- a copy that someone else has spelled
 
   -- the copy stays, and is held
-  pub on_taken : (frozen thawed : Option (List (K × S))) (has_copied : Bool) (last next : Option K) (left : ℕ) (before kept : List ℕ) (es : List (K × S)) → Held frozen has_copied last left before → frozen ≡ Some es → Front next es 0 kept → thawed ≡ None → (seen thawed kept ≡ seen frozen before) × Held thawed has_copied next 0 kept
-  on_taken frozen thawed has_copied last next left before kept es h is front none =
+  pub on_taken : (frozen thawed : Option (List (K × S))) (has_copied : Bool) (last next : Option K) (left fewer : ℕ) (before kept : List ℕ) (es : List (K × S)) → Held frozen has_copied last left before → frozen ≡ Some es → Front next es fewer kept → fewer ≡ 0 → thawed ≡ None → (seen thawed kept ≡ seen frozen before) × Held thawed has_copied next fewer kept
+  on_taken frozen thawed has_copied last next left fewer before kept es h is front done none =
       let were : seen frozen before ≡ es = ap (λ (f : Option (List (K × S))). seen f before) is in
       let rises : IsStrictlySortedBy cmp (keys_of es) = subst (λ (l : List (K × S)). IsStrictlySortedBy cmp (keys_of l)) were h.rises in
-      let now : seen thawed kept ≡ es = ap (λ (f : Option (List (K × S))). seen f kept) none ∙ read_back next es kept rises front in (
+      let whole_front : Front next es 0 kept = subst (λ (n : ℕ). Front next es n kept) done front in
+      let now : seen thawed kept ≡ es = ap (λ (f : Option (List (K × S))). seen f kept) none ∙ read_back next es kept rises whole_front in (
         now ∙ sym were,
         record {
           rises = subst (λ (l : List (K × S)). IsStrictlySortedBy cmp (keys_of l)) (sym now) rises;
           within = omega arith;
-          front = subst (λ (l : List (K × S)). Front next l 0 kept) (sym now) front;
-          frozen_on = λ _. refl;
+          front = subst (λ (l : List (K × S)). Front next l fewer kept) (sym now) front;
+          frozen_on = λ _. done;
           frozen_off = λ _. none;
-          copied_first = λ _. refl;
+          copied_first = λ _. done;
         },
       )
 
@@ -255,6 +264,56 @@ module _ {K S : Type 0} (cmp : K → K → Ordering) (order : IsTotalOrder cmp) 
         text = more ∙ ap (λ (t : List ℕ). t ++ flat_map pair (take count (drop n es))) b.text ∙ ap (λ (t : List ℕ). 1 ∷ t) (append_assoc (to_be_bytes w32 (length es)) (flat_map pair (take n es)) (flat_map pair (take count (drop n es))) ∙ ap (λ (t : List ℕ). to_be_bytes w32 (length es) ++ t) (sym (flat_map-append pair (take n es) (take count (drop n es))) ∙ ap (flat_map pair) (sym both)));
         others = all ∙ drop-drop count n es ∙ ap (λ (m : ℕ). drop m es) (sym here);
       }
+
+  -- ---- a piece that someone else spells
+
+  begins_behind : (last key : Option K) (left : ℕ) (front head : List ℕ) → Begins last left [] head → is_some key ≡ is_some last → Begins key left front (front ++ head)
+  begins_behind None None left front head b same = (b.0, ap (λ (t : List ℕ). front ++ t) b.1)
+  begins_behind None (Some key) left front head b same = absurd cc
+  begins_behind (Some own) None left front head b same = absurd cc
+  begins_behind (Some own) (Some key) left front head b same = ap (λ (t : List ℕ). front ++ t) b ∙ append-nil front
+
+  -- behind any front it goes on
+  pub goes_on : (last next : Option K) (left count : ℕ) (es : List (K × S)) (head text : List ℕ) → ComesNext cmp Key keys State states last left count es → Begins last left [] head → text ≡ head ++ flat_map pair (take count (entries_above cmp last es)) → All Pair (take count (entries_above cmp last es)) → entries_above cmp next es ≡ drop count (entries_above cmp last es) → GoesOn cmp Key keys State states es (is_some last) left next (left - count) text
+  goes_on last next left count es head text place b more spelled others =
+      let todo : entries_above cmp last es ≡ drop (length es - left) es = left_above last es left place.front place.behind in record {
+        fewer = omega (arith, place.some, place.there);
+        behind = λ key front same first.
+            let together : front ++ text ≡ (front ++ head) ++ flat_map pair (take count (drop (length es - left) es)) = ap (λ (t : List ℕ). front ++ t) (more ∙ ap (λ (l : List (K × S)). head ++ flat_map pair (take count l)) todo) ∙ sym (append_assoc front head (flat_map pair (take count (drop (length es - left) es)))) in
+            further es left count next (front ++ head) (front ++ text) (begun key es left front (front ++ head) first (begins_behind last key left front head b same)) place.some place.there place.within together
+            (subst (λ (l : List (K × S)). All Pair (take count l)) todo spelled)
+            (others ∙ ap (drop count) todo);
+      }
+
+  -- so many come next
+  pub there_are : (last : Option K) (left count : ℕ) (es : List (K × S)) → ComesNext cmp Key keys State states last left count es → count ≤ length (entries_above cmp last es)
+  there_are last left count es place =
+      let todo : entries_above cmp last es ≡ drop (length es - left) es = left_above last es left place.front place.behind in
+      omega (arith, place.there, place.within, ap length todo, length-drop (length es - left) es)
+
+  -- it is joined to the front that it comes behind
+  pub joined : (frozen : Option (List (K × S))) (has_copied : Bool) (last next : Option K) (left was fewer : ℕ) (before piece kept : List ℕ) (begun : Bool) (es : List (K × S)) → Held frozen has_copied last left before → frozen ≡ Some es → GoesOn cmp Key keys State states es begun was next fewer piece → begun ≡ is_some last → was ≡ left → kept ≡ before ++ piece → Front next es fewer kept
+  joined frozen has_copied last next left was fewer before piece kept begun es h is goes same_key same_left all =
+      let were : seen frozen before ≡ es = ap (λ (f : Option (List (K × S))). seen f before) is in
+      let first : Front last es was before = subst (λ (n : ℕ). Front last es n before) (sym same_left) (subst (λ (l : List (K × S)). Front last l left before) were h.front) in
+      subst (Front next es fewer) (sym all) (goes.behind last before (sym same_key) first)
+
+  -- and some of the copy is left
+  pub on_joined : (frozen : Option (List (K × S))) (has_copied : Bool) (last next : Option K) (left fewer : ℕ) (before kept : List ℕ) (es : List (K × S)) → Held frozen has_copied last left before → frozen ≡ Some es → Front next es fewer kept → fewer < left → 0 < fewer → (seen frozen kept ≡ seen frozen before) × Held frozen has_copied next fewer kept
+  on_joined frozen has_copied last next left fewer before kept es h is front less some =
+      let were : seen frozen before ≡ es = ap (λ (f : Option (List (K × S))). seen f before) is in
+      let now : seen frozen kept ≡ es = ap (λ (f : Option (List (K × S))). seen f kept) is in
+      let same : seen frozen kept ≡ seen frozen before = now ∙ sym were in (
+        same,
+        record {
+          rises = subst (λ (l : List (K × S)). IsStrictlySortedBy cmp (keys_of l)) (sym same) h.rises;
+          within = subst (λ (l : List (K × S)). fewer ≤ length l) (sym same) (let w : left ≤ length (seen frozen before) = h.within in omega arith);
+          front = subst (λ (l : List (K × S)). Front next l fewer kept) (sym now) front;
+          frozen_on = λ none. absurd (omega (arith, h.frozen_on none));
+          frozen_off = λ done. absurd (omega arith);
+          copied_first = λ none. absurd (omega (arith, h.copied_first none));
+        },
+      )
 
   -- ---- after a call
 

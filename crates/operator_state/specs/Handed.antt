@@ -7,7 +7,7 @@ use lib.ListN.{get_elem?}
 use Rattle.crossbeam_queue.specs.declared.array_queue.Doing.{Doing}
 use Rattle.crossbeam_queue.specs.declared.array_queue.Slotted.{Slotted}
 use Rattle.crossbeam_queue.specs.Passes.{Pass, view, IsPassOf}
-use Rattle.operator_state.specs.Spelled.{IsFront}
+use Rattle.operator_state.specs.Spelled.{GoesOn}
 use Rattle.operator_state.specs.declared.handed.Sheet.{Sheet}
 use Rattle.operator_state.specs.declared.handed.Sheet.TheVariants as sheet
 
@@ -36,10 +36,10 @@ abbrev pub Puts : {K S : Type 0} → Option (List (K × S)) → Sheet K S → Op
 Puts before put after = after ≡ before
 
 module _ {K S : Type 0} (cmp : K → K → Ordering) (Key : K → Type 0) (keys : K → List ℕ) (State : S → Type 0) (states : S → List ℕ) where
-  -- the sheet is of these entries: the entries themselves, or all of them spelled
+  -- the sheet is of these entries: the entries themselves, or the next ones of them spelled
   abbrev pub IsSheetOf : List (K × S) → Sheet K S → Type 0
   IsSheetOf entries (sheet.Blank lent) = lent ≡ entries
-  IsSheetOf entries (sheet.Written last bytes) = IsFront cmp Key keys State states last entries 0 bytes.items
+  IsSheetOf entries (sheet.Written piece) = GoesOn cmp Key keys State states entries piece.begun piece.before piece.last piece.left piece.bytes.items
 
   -- Nothing was laid there yet, and one side alone knows the line, or both sides know the same entries, of which every sheet is.
   abbrev pub GoesThrough : List (Sheet K S) → List (Option (List (K × S))) → Type 0

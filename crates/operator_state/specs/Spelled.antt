@@ -1,5 +1,5 @@
 -- What is kept of a copy: its entries while they are frozen, and the front of its spelling.
-use Rattle.std.specs.Prelude.{◌≡◌, ◌<◌, ◌≤◌, ◌-◌, ◌^◌, ℕ, Bool, false, List, [], ◌∷◌, ◌++◌, length, take, drop, Option, None, Some, Ok, Err}
+use Rattle.std.specs.Prelude.{◌≡◌, ◌<◌, ◌≤◌, ◌-◌, ◌^◌, ℕ, Bool, false, List, [], ◌∷◌, ◌++◌, length, take, drop, Option, None, Some, is_some, Ok, Err}
 use Rattle.std.specs.Int.{to_be_bytes, w32}
 use Rattle.std.specs.List.{flat_map, All}
 use Rattle.std.specs.List.Sorted.{IsStrictlySortedBy}
@@ -40,6 +40,19 @@ module _ {K S : Type 0} (cmp : K → K → Ordering) (Key : K → Type 0) (keys 
   abbrev pub IsFront : Option K → List (K × S) → ℕ → List ℕ → Type 0
   IsFront None entries left bytes = (left ≡ length entries) × (bytes ≡ [])
   IsFront (Some key) entries left bytes = IsSpelledTo key entries left bytes
+
+  -- So many entries are left behind a last key, and some of them come next.
+  pub record ComesNext (last : Option K) (left count : ℕ) (entries : List (K × S)) : Type 0 where
+    pub front : List ℕ
+    pub behind : IsFront last entries left front
+    pub within : left ≤ length entries
+    pub some : 0 < count
+    pub there : count ≤ left
+
+  -- These bytes are the next entries, of which so many were left before: they go on behind all that come before them.
+  pub record GoesOn (entries : List (K × S)) (begun : Bool) (before : ℕ) (last : Option K) (left : ℕ) (bytes : List ℕ) : Type 0 where
+    pub fewer : left < before
+    pub behind : (key : Option K) (front : List ℕ) → is_some key ≡ begun → IsFront key entries before front → IsFront last entries left (front ++ bytes)
 
   -- The keys of the copy rise, no more entries are left than it has, and they are frozen as long as any are left.
   pub record IsHeld (frozen : Option (List (K × S))) (entries : List (K × S)) (has_copied : Bool) (last : Option K) (left : ℕ) (bytes : List ℕ) : Type 0 where

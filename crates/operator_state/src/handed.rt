@@ -3,9 +3,10 @@
 ghost use Rattle.std.specs.Prelude.{◌≡◌, IfOk, IfSome, Some};
 ghost use Rattle.crossbeam_queue.specs.Passes.{view, IsPassOf};
 ghost use Rattle.operator_state.specs.Handed.{IsSheetOf};
+ghost use Rattle.operator_state.specs.Spelled.{ComesNext};
 ghost use Rattle.operator_state.specs.declared.handed.Sheet.TheVariants as Sheet;
 
-use crate::operator_state::OperatorState;
+use crate::operator_state::spell_piece;
 use abs_codec::{Codec, NoMemory};
 use crossbeam_queue::protocol::{Outcome, Protocol, Split};
 use crossbeam_queue::{Pass, RuledArrayQueue};
@@ -15,13 +16,28 @@ use std::collections::LinkedList;
 use std::marker::{Model, PhantomData};
 use std::sync::Arc;
 
+/// The next entries of a copy, spelled.
+#[derive(Drop)]
+pub(crate) struct Piece<K> {
+    /// Whether entries come before these.
+    pub(crate) begun: bool,
+    /// How many entries were left to be spelled before it.
+    pub(crate) before: usize,
+    /// The key of the last entry in it.
+    pub(crate) last: Option<K>,
+    /// How many entries are left behind it.
+    pub(crate) left: usize,
+    /// The head of the part, where no entries come before these, and the entries.
+    pub(crate) bytes: Vec<u8>,
+}
+
 /// What goes through the line between a task and whoever spells its copy.
 #[derive(Drop)]
 pub(crate) enum Sheet<K: Codec + Ord, S: Codec> {
-    /// The entries that are to be spelled.
+    /// The entries of the copy.
     Blank(LentStates<K, S>),
-    /// The key of the last of them, and the front of the part, with all of them.
-    Written(Option<K>, Vec<u8>),
+    /// Some of them, spelled.
+    Written(Piece<K>),
 }
 
 /// The entries that a side knows to be those of the copy. No value of it is made.
@@ -152,59 +168,78 @@ impl<K: Codec + Ord, S: Codec> Side<K, S> {
     }
 }
 
-/// Work on a task's copy: it can be done by anyone, at any time. Contracts see the entries.
+/// Work on the next entries of a task's copy: it can be done by anyone, at any time. Contracts see
+/// all entries of the copy.
 #[derive(Drop)]
 pub struct CopyWork<K: Codec + Ord, S: Codec> {
     side: Side<K, S>,
     lent: LentStates<K, S>,
-    entries: usize,
+    /// The key of the last entry that is spelled.
+    last: Option<K>,
+    /// How many entries are left to be spelled.
+    left: usize,
+    /// How many of them are spelled here.
+    count: usize,
 }
 
 impl<K: Codec + Ord, S: Codec> Model for CopyWork<K, S> {
     ghost use Rattle.std.specs.Prelude.{◌≡◌, List};
+    ghost use Rattle.operator_state.specs.Spelled.{ComesNext};
 
     ghost Value = { List (K × S) };
 
     ghost view = { λ w. w.lent };
 
-    ghost invariant = { λ w. w.side ≡ w.lent };
+    ghost invariant = { λ w. (w.side ≡ w.lent) × ComesNext K.Ord.cmp K.HasSpelling K.spelling
+        S.HasSpelling S.spelling w.last w.left w.count w.lent };
 }
 
 impl<K: Codec + Ord, S: Codec> CopyWork<K, S> {
-    /// Work on these entries, of which there are so many, and the task's side of the line. The
-    /// sheet with the entries is taken here, so that nothing but what is written comes to the task.
+    /// Work on so many of these entries, of which so many are left behind a last key, and the
+    /// task's side of the line. The sheet with the entries is taken here, so that nothing but what
+    /// is written comes to the task.
     pub(crate) fn on(
         alloc: Global,
         lent: LentStates<K, S>,
-        entries: usize,
+        last: Option<K>,
+        left: usize,
+        count: usize,
     ) -> Result<(Side<K, S>, CopyWork<K, S>), NoMemory>
+        requires { ComesNext K.Ord.cmp K.HasSpelling K.spelling S.HasSpelling S.spelling
+            last left count lent }
         ensures { IfOk result (λ handed. (handed.0 ≡ lent) × (handed.1 ≡ lent)) }
     {
         let (side, mut other) = Side::both(alloc, lent)?;
         let Some(Sheet::Blank(lent)) = other.take() else {
             return Err(NoMemory);
         };
-        Ok((
-            side,
-            CopyWork {
-                side: other,
-                lent,
-                entries,
-            },
-        ))
+        let work = CopyWork {
+            side: other,
+            lent,
+            last,
+            left,
+            count,
+        };
+        Ok((side, work))
     }
 
-    /// How many entries the copy has.
+    /// How many entries are spelled.
     pub fn entries(&self) -> usize {
-        self.entries
+        self.count
     }
 
-    /// Spells the copy, and leaves the bytes to its task. Where memory is refused none are left,
-    /// and the task spells its copy itself.
+    /// Spells the entries, and leaves the bytes to their task. Where memory is refused none are
+    /// left, and the task spells them itself.
     pub fn run(self, alloc: Global) {
-        let CopyWork { mut side, lent, .. } = self;
-        if let Ok((last, bytes)) = OperatorState::spelled(alloc, lent) {
-            side.put(Sheet::Written(last, bytes));
+        let CopyWork {
+            mut side,
+            lent,
+            last,
+            left,
+            count,
+        } = self;
+        if let Ok(piece) = spell_piece(alloc, lent, &last, left, count) {
+            side.put(Sheet::Written(piece));
         }
     }
 }

@@ -1,6 +1,6 @@
 //! States by key, and the copy for the pending checkpoint as far as it is spelled.
 
-ghost use Rattle.std.specs.Prelude.{◌≡◌, ◌≤◌, ◌+◌, ◌-◌, ◌++◌, ℕ, List, [], take, drop, length, is_some, false, Some, None, Err, IsTrue, IsOk, OnOk, OnErr, IfOk, IfSome, if◌then◌else◌};
+ghost use Rattle.std.specs.Prelude.{◌≡◌, ◌≤◌, ◌<◌, ◌+◌, ◌-◌, ◌++◌, ℕ, List, [], take, drop, length, is_some, false, Some, None, Err, IsTrue, IsOk, OnOk, OnErr, IfOk, IfSome, if◌then◌else◌};
 ghost use Rattle.std.specs.Option.{option_copied, option_or};
 ghost use Rattle.std.specs.List.Sorted.{IsStrictlySortedBy};
 ghost use Rattle.std.specs.List.{All, flat_map};
@@ -12,11 +12,11 @@ ghost use Rattle.abs_codec.specs.Same.{EqualIsSame};
 ghost use Rattle.keyed_state.specs.Comparing.{HaveStates};
 ghost use Rattle.keyed_state.specs.KeyedMap.{entries_above, frozen_entries};
 ghost use Rattle.keyed_state.specs.declared.comparing.SetFault.TheVariants as SetFault;
-ghost use Rattle.operator_state.specs.Spelled.{Begins, IsFront};
+ghost use Rattle.operator_state.specs.Spelled.{Begins, ComesNext, GoesOn};
 ghost use Rattle.task_part.specs.declared.part.Part.TheVariants as Part;
 ghost use Rattle.task_part.specs.Spelling.{logs_now, logs_spelling, part_spelling, LogsAreSpelled, PartIsSpelled};
 
-use crate::handed::{CopyWork, Sheet, Side};
+use crate::handed::{CopyWork, Piece, Sheet, Side};
 use crate::part_bytes::PartBytes;
 use abs_codec::{Codec, Map, NoMemory};
 use bytes::Bytes;
@@ -28,7 +28,7 @@ use task_part::{write_count, write_logs};
 /// So many bytes are taken past an entry at once, for those that come next.
 const ROOM: usize = 1_024;
 
-/// A copy of fewer entries is not handed out: to spell it takes less than to hand it over.
+/// Fewer entries are not handed out: to spell them takes less than to hand them over.
 const FEW: usize = 256;
 
 /// The states of an operator by key, and its copy for the pending checkpoint.
@@ -232,6 +232,47 @@ fn spell_next<K: Codec + Ord, S: Codec>(
     write_next(states, last.as_ref(), count, out, at)
 }
 
+/// A copy of the key of the last entry that is spelled, if one is.
+fn copied_last<K: Codec>(last: &Option<K>) -> Result<Option<K>, NoMemory>
+    ensures { IfOk result (λ copy. copy ≡ last.now) }
+{
+    match last {
+        Some(key) => Ok(Some(key.copied()?)),
+        None => Ok(None),
+    }
+}
+
+/// Spells so many of the next entries of these, of which so many are left behind the last one that
+/// is spelled.
+pub(crate) fn spell_piece<K: Codec + Ord, S: Codec>(
+    alloc: Global,
+    lent: LentStates<K, S>,
+    last: &Option<K>,
+    left: usize,
+    count: usize,
+) -> Result<Piece<K>, NoMemory>
+    requires { ComesNext K.Ord.cmp K.HasSpelling K.spelling S.HasSpelling S.spelling
+        last.now left count lent }
+    ensures { IfOk result (λ piece. GoesOn K.Ord.cmp K.HasSpelling K.spelling S.HasSpelling
+        S.spelling lent piece.begun piece.before piece.last piece.left piece.bytes.items) }
+{
+    let mut states = KeyedState::from_lent(alloc, lent);
+    states.freeze()?;
+    let mut bytes = Vec::new(alloc);
+    let next = spell_next(&states, last, left, count, &mut bytes)?;
+    let more = left - count;
+    if last.is_none() {
+        take_room(count, more, &mut bytes);
+    }
+    Ok(Piece {
+        begun: last.is_some(),
+        before: left,
+        last: next,
+        left: more,
+        bytes,
+    })
+}
+
 /// Writes these logs behind the entries. The head comes first where there are none.
 fn spell_behind<K, R: Codec>(
     last: &Option<K>,
@@ -284,53 +325,6 @@ impl<K: Codec + Ord, S: Codec> OperatorState<K, S> {
             end: 0,
             handed: None,
         }
-    }
-
-    /// These states, which were lent, and no copy. It takes no memory.
-    fn from_lent(alloc: Global, lent: LentStates<K, S>) -> Self
-        ensures { result ≡ record {
-          entries = lent;
-          copy = None;
-          unspelled = 0;
-          unmerged = 0;
-          part = [];
-        } }
-    {
-        OperatorState::uncopied(alloc, KeyedState::from_lent(alloc, lent))
-    }
-
-    /// The front of the part that these states are, with all of them, and the key of the last.
-    pub(crate) fn spelled(
-        alloc: Global,
-        lent: LentStates<K, S>,
-    ) -> Result<(Option<K>, Vec<u8>), NoMemory>
-        ensures { IfOk result (λ front. IsFront K.Ord.cmp K.HasSpelling K.spelling S.HasSpelling
-            S.spelling front.0 lent 0 front.1.items) }
-    {
-        let mut whole = OperatorState::from_lent(alloc, lent);
-        whole.copy()?;
-        whole.spell_some(FEW)?;
-        let unspelled = whole.unspelled();
-        whole.spell_some(unspelled)?;
-        whole.into_front()
-    }
-
-    /// The front of the part, and the key of the last entry that is spelled.
-    fn into_front(self) -> Result<(Option<K>, Vec<u8>), NoMemory>
-        requires { self.unspelled ≡ 0 }
-        ensures { IfOk result (λ front. (copy : List (K × S)) → self.copy ≡ Some copy
-            → IsFront K.Ord.cmp K.HasSpelling K.spelling S.HasSpelling S.spelling
-            front.0 copy 0 front.1.items) }
-    {
-        let OperatorState {
-            alloc,
-            last,
-            mut bytes,
-            end,
-            ..
-        } = self;
-        let front = bytes.take_front(alloc, end)?;
-        Ok((last, front))
     }
 
     /// The state at a key, among those that are seen.
@@ -506,44 +500,58 @@ impl<K: Codec + Ord, S: Codec> OperatorState<K, S> {
         Ok(())
     }
 
-    /// Hands out the work on the copy, to be done by someone else, where it has at most so many
-    /// entries, and some, and none of them is spelled. Whoever does it leaves what he has spelled
-    /// to `take_spelled`. It takes the memory of a line between the two.
+    /// Hands out the work on at most so many of the next entries of the copy, to be done by someone
+    /// else, where that is enough, and none is handed out. Whoever does it leaves what he has
+    /// spelled to `take_spelled`. It takes the memory of a line between the two, and of a key.
     pub fn hand_out(&mut self, most: usize) -> Option<CopyWork<K, S>>
         ensures { self.new ≡ self.old }
     {
-        if self.left < FEW || self.left > most || self.last.is_some() || self.handed.is_some() {
+        let count = most.min(self.left);
+        if count < FEW || self.handed.is_some() {
             return None;
         }
         let lent = self.states.lend_frozen()?;
-        let Ok((side, work)) = CopyWork::on(self.alloc, lent, self.left) else {
+        let Ok(last) = copied_last(&self.last) else {
+            return None;
+        };
+        let Ok((side, work)) = CopyWork::on(self.alloc, lent, last, self.left, count) else {
             return None;
         };
         self.handed = Some(side);
         Some(work)
     }
 
-    /// Takes what was spelled of the copy by someone else, if it is there, and says whether it was.
+    /// Takes what was spelled of the copy by someone else, if it is there and comes next, and says
+    /// whether it was.
     pub fn take_spelled(&mut self) -> bool
-        ensures taken { IsTrue result
-            → self.new ≡ record self.old { unspelled = 0; part = self.new.part } }
-        ensures none { result ≡ false → self.new ≡ self.old }
+        ensures taken { IsTrue result → self.new.unspelled < self.old.unspelled }
+        ensures none { result ≡ false → self.new.unspelled ≡ self.old.unspelled }
+        ensures stays { self.new ≡ record self.old {
+          unspelled = self.new.unspelled;
+          part = self.new.part;
+        } }
     {
         let Some(side) = &mut self.handed else {
             return false;
         };
-        let Some(Sheet::Written(last, bytes)) = side.take() else {
+        let Some(Sheet::Written(piece)) = side.take() else {
             return false;
         };
-        self.end = bytes.len();
-        self.bytes = PartBytes::from_vec(bytes);
-        self.last = last;
-        self.left = 0;
-        self.states.thaw();
         self.handed = None;
+        if piece.begun != self.last.is_some() || piece.before != self.left {
+            return false;
+        }
+        let Some(end) = self.bytes.put_behind(self.alloc, self.end, piece.bytes) else {
+            return false;
+        };
+        self.end = end;
+        self.last = piece.last;
+        self.left = piece.left;
+        if self.left == 0 {
+            self.states.thaw();
+        }
         true
     }
-
     /// Merges at most so many of the later writes, and none while entries of the copy are still to
     /// be spelled. The states that are seen stay, also where memory is refused.
     pub fn merge_some(&mut self, most: usize) -> Result<(), NoMemory>

@@ -1,6 +1,6 @@
 //! The bytes of a part, which others may hold as well.
 
-ghost use Rattle.std.specs.Prelude.{◌≡◌, ◌≤◌, List, [], ℕ, length, take, IfOk, IfErr, OnErr, MatchResult};
+ghost use Rattle.std.specs.Prelude.{◌≡◌, ◌≤◌, ◌++◌, List, [], ℕ, length, take, IfOk, IfErr, IfSome, IfNone, OnOk, OnErr, MatchResult};
 ghost use Rattle.operator_state.specs.Held.{held_bytes};
 
 use abs_codec::NoMemory;
@@ -47,6 +47,19 @@ fn shared(held: Held) -> Result<Bytes, Held>
     }
 }
 
+/// Puts a piece behind a front. A front without bytes gives way to it.
+fn join(front: &mut Vec<u8>, piece: Vec<u8>) -> Result<(), NoMemory>
+    ensures ok { OnOk result (front.new.items ≡ front.old.items ++ piece.items) }
+    ensures err { OnErr result (front.new.items ≡ front.old.items) }
+{
+    if front.is_empty() {
+        *front = piece;
+        return Ok(());
+    }
+    front.extend_from_slice(&piece)?;
+    Ok(())
+}
+
 impl PartBytes {
     /// No bytes. It takes no memory.
     pub(crate) fn new(alloc: Global) -> PartBytes
@@ -87,6 +100,27 @@ impl PartBytes {
                 Ok(front)
             }
             Held::Shared(bytes) => Ok(Vec::from_slice(alloc, &bytes.as_slice()[..end])?),
+        }
+    }
+
+    /// Puts a piece behind the first so many of the bytes, and says where it ends. Where memory is
+    /// refused, these stay.
+    pub(crate) fn put_behind(&mut self, alloc: Global, end: usize, piece: Vec<u8>) -> Option<usize>
+        requires { end ≤ length self.old }
+        ensures end { IfSome result (λ next. next ≡ length self.new) }
+        ensures put { IfSome result (λ _. self.new ≡ take end self.old ++ piece.items) }
+        ensures within { IfNone result (end ≤ length self.new) }
+        ensures none { IfNone result (take end self.new ≡ take end self.old) }
+    {
+        let Ok(mut bytes) = self.take_front(alloc, end) else {
+            return None;
+        };
+        let joined = join(&mut bytes, piece);
+        let next = bytes.len();
+        *self = PartBytes::from_vec(bytes);
+        match joined {
+            Ok(()) => Some(next),
+            Err(_) => None,
         }
     }
 
