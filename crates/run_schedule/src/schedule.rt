@@ -116,8 +116,9 @@ const MOST_READS: u32 = 128;
 /// that sources send to has been found without a record.
 const MOST_AHEAD: u32 = 64;
 
-/// A sink takes so many records at a time, at most.
-const MOST_OF_A_SINK: u32 = 256;
+/// A task takes so many records at a time, at most, whatever the batch is. For more, what a job has
+/// looked up is no longer in a cache when its result is taken.
+const MOST_AT_ONCE: u32 = 256;
 
 /// What may have something, so that the next step is found in the same time whatever the number of
 /// tasks and channels. The task that stands furthest downstream comes first, so channels stay
@@ -199,9 +200,9 @@ impl Schedule {
         requires { 1 ≤ batch }
     {
         self.every = every;
-        self.batch = batch;
+        self.batch = batch.min(MOST_AT_ONCE);
         for node in self.nodes.iter_mut() {
-            node.enough = node.enough_of(node.spread, batch as usize);
+            node.enough = node.enough_of(node.spread, self.batch as usize);
         }
         self.went_down();
     }
@@ -218,17 +219,18 @@ impl Schedule {
         ensures { 1 ≤ result }
     {
         match self.nodes.get(task as usize) {
-            Some(node) if node.is_sink => MOST_OF_A_SINK,
+            Some(node) if node.is_sink => MOST_AT_ONCE,
             _ => self.batch,
         }
     }
 
     /// How many records a source sends in one turn, at most: one between two pieces of a copy that
-    /// has time, so that its pieces come soon.
+    /// has time and is written here, so that its pieces come soon.
     pub(crate) fn reads(&self) -> u32
         ensures { 1 ≤ result }
     {
-        let has_time = self.round.next().is_some() && !self.round.is_late();
+        let is_late = self.round.is_late() || self.round.is_shared();
+        let has_time = self.round.next().is_some() && !is_late;
         if has_time && !self.awaits_records() {
             1
         } else {
@@ -628,7 +630,7 @@ impl Schedule {
     /// Work on the next part has gone on, and more is left of it.
     pub(crate) fn has_more(&mut self) {
         self.is_searched = false;
-        self.round.has_more();
+        self.round.has_more(self.batch);
     }
 
     /// Whether the next copy may be written elsewhere: where the task holds no claim.

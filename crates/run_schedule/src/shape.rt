@@ -14,6 +14,7 @@ impl Schedule {
             VecDeque::with_capacity(alloc, room)?,
             VecDeque::with_capacity(alloc, room)?,
             graph.tasks(),
+            graph.channels(),
             graph.sinks(),
         );
         let sources = sources_of(alloc, graph)?;

@@ -38,6 +38,23 @@ const RECORDS_A_PIECE: u64 = 12;
 /// was written elsewhere: two for each of its keys.
 const RECORDS_FOR_A_PIECE: u64 = 512;
 
+/// And in all so many for so many channels, since a checkpoint sends a barrier on each: 48 for each.
+const RECORDS_FOR_BARRIERS: u64 = 3_072;
+
+/// So many channels. Fewer do not count.
+const CHANNELS_TOGETHER: u64 = 64;
+
+/// So many steps of one record come after many pieces that were written elsewhere, for which the
+/// task has waited.
+const STEPS_ONCE_BACK: u64 = 256;
+
+/// How many steps come after pieces that were written elsewhere, where a step takes so many records
+/// at most.
+fn steps_once_back(batch: u32) -> u64 {
+    let steps = STEPS_ONCE_BACK.checked_div(batch as u64).unwrap_or(0);
+    steps.max(1)
+}
+
 /// The checkpoint that is made.
 #[derive(Drop)]
 pub struct Round {
@@ -54,6 +71,8 @@ pub struct Round {
     pieces: u64,
     /// How many of these were written elsewhere.
     pieces_elsewhere: u64,
+    /// Whether the first copy is back from elsewhere, and was not seen since.
+    is_back: bool,
     /// The first barrier waits until so many records are worked after the trigger, so that writing
     /// copies takes a small share of what records take. No copy is there meanwhile, so that waiting
     /// costs nothing.
@@ -63,6 +82,7 @@ pub struct Round {
     /// The next sink to commit.
     sink: u32,
     tasks: u32,
+    channels: u32,
     sinks: u32,
 }
 
@@ -72,6 +92,7 @@ impl Round {
         to_inject: VecDeque<u32>,
         to_persist: VecDeque<u32>,
         tasks: u32,
+        channels: u32,
         sinks: u32,
     ) -> Round {
         Round {
@@ -82,10 +103,12 @@ impl Round {
             steps_left: 0,
             pieces: 0,
             pieces_elsewhere: 0,
+            is_back: false,
             records_waited: 0,
             persisted: 0,
             sink: 0,
             tasks,
+            channels,
             sinks,
         }
     }
@@ -111,6 +134,7 @@ impl Round {
         self.steps_left = 0;
         self.pieces = 0;
         self.pieces_elsewhere = 0;
+        self.is_back = false;
         self.persisted = 0;
         for &task in sources {
             let _ = self.to_inject.push_back(task);
@@ -167,17 +191,29 @@ impl Round {
         let _ = self.to_persist.pop_front();
     }
 
-    /// A copy was written elsewhere, and comes first.
+    /// Pieces of a copy were written elsewhere, and it comes first.
     pub fn handed_in(&mut self, task: u32) {
+        self.is_back = true;
         let _ = self.to_persist.push_front(task);
     }
 
-    /// Work on the first copy has gone on, and more is left of it.
-    pub fn has_more(&mut self) {
+    /// Work on the first copy has gone on, and more is left of it. A step takes so many records at
+    /// most.
+    pub fn has_more(&mut self, batch: u32) {
         self.pieces = self.pieces.saturating_add(1);
         if self.is_late() || self.pieces >= PIECES_AT_ONCE {
-            self.steps_left = self.steps;
+            self.steps_left = if self.is_back {
+                steps_once_back(batch)
+            } else {
+                self.steps
+            };
         }
+        self.is_back = false;
+    }
+
+    /// Whether pieces of this checkpoint's copies were written elsewhere.
+    pub fn is_shared(&self) -> bool {
+        self.pieces_elsewhere > 0
     }
 
     /// Whether barriers wait for more records, of which so many were worked since the trigger.
@@ -205,10 +241,23 @@ impl Round {
     pub fn completed(&mut self, every: u64) {
         let is_late = every > 0 && self.pieces.saturating_mul(RECORDS_A_PIECE) >= every;
         self.steps = if is_late { MOST_STEPS } else { 1 };
-        self.records_waited = self.pieces_elsewhere.saturating_mul(RECORDS_FOR_A_PIECE);
+        self.records_waited = self
+            .records_for_copies()
+            .saturating_add(self.records_for_barriers(every));
         self.stage = Stage::Complete;
         self.sink = 0;
         self.end_if_committed();
+    }
+
+    fn records_for_copies(&self) -> u64 {
+        self.pieces_elsewhere.saturating_mul(RECORDS_FOR_A_PIECE)
+    }
+
+    /// Those that come between two triggers count.
+    fn records_for_barriers(&self, every: u64) -> u64 {
+        let together = self.channels as u64 / CHANNELS_TOGETHER;
+        let records = together.saturating_mul(RECORDS_FOR_BARRIERS);
+        records.saturating_sub(every)
     }
 
     /// The next sink has committed.

@@ -18,8 +18,8 @@ use std::alloc::Global;
 /// So many entries of the work on a task's part are done in one turn.
 const ENTRIES_A_TURN: u32 = 256;
 
-/// A copy of at most so many entries is spelled with no lock held, while its task waits.
-const MOST_HANDED_OUT: u32 = 64 * ENTRIES_A_TURN;
+/// So many entries of a copy are spelled at once with no lock held, at most, while its task waits.
+const MOST_HANDED_OUT: u32 = 256 * ENTRIES_A_TURN;
 
 /// What a worker does next.
 #[derive(Clone, Copy, PartialEq, Eq, Debug)]
