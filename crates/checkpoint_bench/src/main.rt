@@ -26,6 +26,9 @@ const JOB: &str =
 /// So many entries are worked in one call, as a worker does.
 const ENTRIES: u32 = 256;
 
+/// So many are spelled at once where no call is made meanwhile, as a worker does.
+const ENTRIES_ELSEWHERE: u32 = 65_536;
+
 /// So many bytes are more than a processor's caches hold.
 const COOL: usize = 67_108_864;
 
@@ -84,6 +87,24 @@ fn count<O: Operator, S: SnapshotStore, X: Transactions, P: Partitions<Record = 
     Some(())
 }
 
+/// The next entries of the operator's part are handed out, if there are enough, and spelled: how
+/// long it took to hand them out.
+fn spell_elsewhere<
+    O: Operator,
+    S: SnapshotStore,
+    X: Transactions,
+    P: Partitions<Record = O::Record>,
+    R: Clock,
+>(rt: &R, alloc: Global, core: &mut Core<O, S, X, P>) -> Option<u64> {
+    let start = Instant::now(rt).ok()?;
+    let work = core.hand_out(1, ENTRIES_ELSEWHERE);
+    let taken = since(rt, start)?;
+    if let Some(work) = work {
+        work.run(alloc);
+    }
+    Some(taken)
+}
+
 /// The operator's part goes into the store, by as many calls as it takes: the longest of them.
 fn persist<
     O: Operator,
@@ -91,9 +112,10 @@ fn persist<
     X: Transactions,
     P: Partitions<Record = O::Record>,
     R: Clock,
->(rt: &R, core: &mut Core<O, S, X, P>) -> Option<u64> {
+>(rt: &R, alloc: Global, core: &mut Core<O, S, X, P>) -> Option<u64> {
     let mut longest: u64 = 0;
     for _ in 0..MOST_CALLS {
+        longest = longest.max(spell_elsewhere(rt, alloc, core)?);
         let start = Instant::now(rt).ok()?;
         let persisted = core.persist_some(1, ENTRIES).ok()?;
         longest = longest.max(since(rt, start)?);
@@ -119,7 +141,7 @@ fn take<
     X: Transactions,
     P: Partitions<Record = O::Record>,
     R: Clock,
->(rt: &R, core: &mut Core<O, S, X, P>, memory: &mut [u8]) -> Option<Cost> {
+>(rt: &R, alloc: Global, core: &mut Core<O, S, X, P>, memory: &mut [u8]) -> Option<Cost> {
     let start = Instant::now(rt).ok()?;
     core.trigger().ok()?;
     let trigger = since(rt, start)?;
@@ -130,7 +152,7 @@ fn take<
     let before = Instant::now(rt).ok()?;
     core.take_barrier(1, 0).ok()?;
     let barrier = since(rt, before)?;
-    let part = persist(rt, core)?;
+    let part = persist(rt, alloc, core)?;
     let last = Instant::now(rt).ok()?;
     core.complete().ok()?;
     let complete = since(rt, last)?;
@@ -154,11 +176,11 @@ fn work<
     core.restart().ok()?;
     count(core, keys)?;
     let mut memory: Vec<u8> = vec![in alloc; 0; COOL].ok()?;
-    take(rt, core, &mut memory)?;
-    take(rt, core, &mut memory)?;
-    let mut least = take(rt, core, &mut memory)?;
+    take(rt, alloc, core, &mut memory)?;
+    take(rt, alloc, core, &mut memory)?;
+    let mut least = take(rt, alloc, core, &mut memory)?;
     for _ in 1..checkpoints {
-        least = take(rt, core, &mut memory)?.least(least);
+        least = take(rt, alloc, core, &mut memory)?.least(least);
     }
     Some(least)
 }
