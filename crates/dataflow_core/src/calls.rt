@@ -242,10 +242,10 @@ impl<O: Operator, S: SnapshotStore, X: Transactions, P: Partitions<Record = O::R
         engine.persist(task)
     }
 
-    /// Hands out the work on at most `most` of the next entries of an operator's copy, to be done by
-    /// anyone while nothing is held, where that is enough to be worth it, and none is handed out.
-    /// `persist_some` takes what comes of it, as work that was done (`More`); where nothing does, it
-    /// does the work itself.
+    /// Hands out the work on at most `most` of the next entries of an operator's copy, to be done
+    /// by anyone while nothing is held, where that is enough to be worth it, and none is handed
+    /// out. `persist_some` takes what comes of it, as work that was done (`More`); where nothing
+    /// does, it does the work itself.
     pub fn hand_out(&mut self, task: u32, most: u32) -> Option<CopyWork<O::Key, O::State>>
         ensures { self.new ≡ self.old }
     {

@@ -427,8 +427,9 @@ impl<O: Operator, S: SnapshotStore, X: Transactions, P: Partitions<Record = O::R
         leave(&mut self.attempt, outcome)
     }
 
-    /// Hands out the work on at most `most` of the next entries of an operator's copy, to be done by
-    /// anyone while nothing is held, where that is enough to be worth it, and none is handed out.
+    /// Hands out the work on at most `most` of the next entries of an operator's copy, to be done
+    /// by anyone while nothing is held, where that is enough to be worth it, and none is handed
+    /// out.
     /// `persist_some` takes what comes of it.
     pub fn hand_out(&mut self, task: u32, most: u32) -> Option<CopyWork<O::Key, O::State>>
         ensures { self.new ≡ self.old }

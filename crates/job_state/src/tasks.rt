@@ -188,7 +188,8 @@ pub(crate) fn forget_oldest<R: Codec, K: Codec + Ord, S: Codec>(
     tasks[task as usize].forget_oldest();
 }
 
-/// Hands out the work on at most so many of the next entries of a task's copy, where that is enough.
+/// Hands out the work on at most so many of the next entries of a task's copy, where that is
+/// enough.
 pub(crate) fn hand_out<R: Codec, K: Codec + Ord, S: Codec>(
     tasks: &mut [Task<R, K, S>],
     task: u32,

@@ -38,7 +38,7 @@ const RECORDS_A_PIECE: u64 = 12;
 /// was written elsewhere: two for each of its keys.
 const RECORDS_FOR_A_PIECE: u64 = 512;
 
-/// And in all so many for so many channels, since a checkpoint sends a barrier on each: 48 for each.
+/// And in all so many for so many channels, since a checkpoint sends a barrier on each: 48 each.
 const RECORDS_FOR_BARRIERS: u64 = 3_072;
 
 /// So many channels. Fewer do not count.
