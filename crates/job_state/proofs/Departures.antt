@@ -12,7 +12,7 @@ use Rattle.dataflow_model.specs.Graph.{Meaning}
 use Rattle.deliveries.specs.Deliveries.{deliveries_of, deliveries_of_one, delivered_last}
 use Rattle.job_graph.specs.Expanded.{Expanded, meets, takes, is_outlet, outlets_of, targets_of}
 use Rattle.job_graph.proofs.Targets.{targets_are}
-use Rattle.job_state.specs.Sending.{as_puts, AreLanes}
+use Rattle.job_state.specs.Sending.{as_puts, AreLanes, GoByPort, known_at}
 use Rattle.job_state.proofs.Received.{numbers_below}
 
 -- records that stand first stand before the first barrier
@@ -79,15 +79,13 @@ module _ {R K S O : Type 0} (meaning : Meaning R K S O) (graph : Expanded) (task
           ]
 
   -- the first record that was not told its channel yet is told it
-  pub row_told : (rows old : List (ℕ × R)) (i number : ℕ) (seen was : ℕ × R) → i < length rows → i < length old → drop i rows ≡ drop i old → seen ≡ get_or rows i seen → was ≡ get_or rows i was → All (λ s. s.0 ≡ 0) old →
-      deliveries_of_one meaning graph task (0, seen.1) ≡ (number, Record seen.1) ∷ [] → as_puts (take i rows) ≡ deliveries_of meaning graph task (take i old) →
+  pub row_told : (rows old : List (ℕ × R)) (i number : ℕ) (seen was : ℕ × R) → i < length rows → i < length old → drop i rows ≡ drop i old → seen ≡ get_or rows i seen → was ≡ get_or rows i was →
+      deliveries_of_one meaning graph task seen ≡ (number, Record seen.1) ∷ [] → as_puts (take i rows) ≡ deliveries_of meaning graph task (take i old) →
       as_puts (take (i + 1) (slice_set rows i (number, was.1))) ≡ deliveries_of meaning graph task (take (i + 1) old)
-  row_told rows old i number seen was inside within others is was_is first goes told =
+  row_told rows old i number seen was inside within others is was_is goes told =
       let same : get_or old i seen ≡ seen = still_there rows old i seen inside within others is in
       let one : was ≡ seen = was_is ∙ get_or_default rows i was seen inside ∙ sym is in
-      let port : seen.0 ≡ 0 = ap (λ s. s.0) (sym same) ∙ first i seen within in
-      let sent : (number, Record seen.1) ∷ [] ≡ deliveries_of_one meaning graph task (get_or old i seen) =
-      sym goes ∙ ap (λ n. deliveries_of_one meaning graph task (n, seen.1)) (sym port) ∙ ap (deliveries_of_one meaning graph task) (sym same) in
+      let sent : (number, Record seen.1) ∷ [] ≡ deliveries_of_one meaning graph task (get_or old i seen) = sym goes ∙ ap (deliveries_of_one meaning graph task) (sym same) in
       ap as_puts (take_more_set rows i (number, was.1) inside)
       ∙ map-append (λ p. (p.0, Record p.1)) (take i rows) ((number, was.1) ∷ [])
       ∙ ap (λ l. l ++ (number, Record was.1) ∷ []) told
@@ -95,6 +93,17 @@ module _ {R K S O : Type 0} (meaning : Meaning R K S O) (graph : Expanded) (task
       ∙ ap (λ l. deliveries_of meaning graph task (take i old) ++ l) sent
       ∙ sym (sent_more (take i old) (get_or old i seen))
       ∙ ap (deliveries_of meaning graph task) (sym (take_more old i seen within))
+
+  -- where all are sent on the first port, so is this one
+  pub goes_first : (rows old : List (ℕ × R)) (i number : ℕ) (seen : ℕ × R) → i < length rows → i < length old → drop i rows ≡ drop i old → seen ≡ get_or rows i seen → All (λ s. s.0 ≡ 0) old →
+      deliveries_of_one meaning graph task (0, seen.1) ≡ (number, Record seen.1) ∷ [] → deliveries_of_one meaning graph task seen ≡ (number, Record seen.1) ∷ []
+  goes_first rows old i number seen inside within others is first goes =
+      let port : seen.0 ≡ 0 = ap (λ s. s.0) (sym (still_there rows old i seen inside within others is)) ∙ first i seen within in
+      ap (λ n. deliveries_of_one meaning graph task (n, seen.1)) port ∙ goes
+
+  -- a record whose port's channel is known goes into that one
+  pub goes_by_port : (first second : Option ℕ) (seen : ℕ × R) (number : ℕ) → GoByPort meaning graph task first second → Some number ≡ known_at first second seen.0 → deliveries_of meaning graph task (seen ∷ []) ≡ (number, Record seen.1) ∷ []
+  goes_by_port first second seen number known is = subst (λ k. IfSome k (λ n. deliveries_of meaning graph task (seen ∷ []) ≡ (n, Record seen.1) ∷ [])) (sym is) (known seen.0 seen.1)
 
 -- what was not told yet is as it was, behind the one that is told
 pub left_behind : {X : Type 0} (rows old : List X) (i : ℕ) (d x : X) → i < length rows → i < length old → drop i rows ≡ drop i old → drop (i + 1) (slice_set rows i x) ≡ drop (i + 1) old

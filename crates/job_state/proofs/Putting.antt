@@ -12,6 +12,10 @@ use Rattle.job_state.specs.AtOnce.{without_first}
 use Rattle.job_state.specs.Sending.{items_at, put_into, contents_items, room_at, waiting_at, AreChannels, HasRoom, Puts, without_head}
 use Rattle.job_state.proofs.Places.{get_set_same, get_set_other, set_same}
 
+-- none waits for room
+pub waits_none : (n k : ℕ) → waiting_at n 0 k ≡ 0
+waits_none n k = elim (eqb_tells n k) [ inl h ↦ rw h.0 refl | inr h ↦ rw h.0 refl ]
+
 module _ {R : Type 0} where
   -- the same items, and as many channels
   pub are_channels : {puts made : List (ℕ × Item R)} {count counted : ℕ} → puts ≡ made → count ≡ counted → AreChannels counted made → AreChannels count puts

@@ -1,5 +1,5 @@
 -- What stands in channels, and what is put into them.
-use Rattle.std.specs.Prelude.{◌≡◌, ◌⊎◌, ◌≤◌, ◌<◌, ◌==◌, ℕ, List, [], ◌∷◌, ◌++◌, All, length, drop, map, filter, slice_get, slice_set, Option, Some, None, unwrap_or, if◌then◌else◌}
+use Rattle.std.specs.Prelude.{◌≡◌, ◌⊎◌, ◌≤◌, ◌<◌, ◌==◌, ℕ, List, [], ◌∷◌, ◌++◌, All, length, drop, map, filter, slice_get, slice_set, Option, Some, None, unwrap_or, IfSome, if◌then◌else◌}
 use Rattle.std.specs.Option.{option_map_or}
 use Rattle.channels.specs.Channel.{Contents}
 use Rattle.channels.specs.declared.item.Item.{Item}
@@ -65,6 +65,14 @@ AreLanes meaning sent lanes = (lanes ≡ []) ⊎ (lanes ≡ map (λ s. meaning.l
 -- what the task sends is one record, which goes into this channel, and no other
 abbrev pub IsOneInto : {R K S O : Type 0} → Meaning R K S O → Expanded → ℕ → ℕ → List (ℕ × R) → Type 0
 IsOneInto {R} meaning graph task number sent = (port : ℕ) × (row : R) × (sent ≡ (port, row) ∷ []) × (deliveries_of meaning graph task sent ≡ (number, Record row) ∷ [])
+
+-- the channel that is known of a port, of two ports
+abbrev pub known_at : Option ℕ → Option ℕ → ℕ → Option ℕ
+known_at first second port = if port == 0 then first else (if port == 1 then second else None)
+
+-- whatever a task sends on a port whose channel is known goes into that channel, and no other
+abbrev pub GoByPort : {R K S O : Type 0} → Meaning R K S O → Expanded → ℕ → Option ℕ → Option ℕ → Type 0
+GoByPort {R} meaning graph task first second = (port : ℕ) (row : R) → IfSome (known_at first second port) (λ number. deliveries_of meaning graph task ((port, row) ∷ []) ≡ (number, Record row) ∷ [])
 
 module _ {R : Type 0} where
   -- what a task sends, each with the channel that it is put into

@@ -1,15 +1,15 @@
 //! What a task sends, once there is room for it.
 
-ghost use Rattle.std.specs.Prelude.{◌≡◌, ◌<◌, ◌≤◌, ◌+◌, ◌++◌, ℕ, List, All, length, slice_get, OnOk, IfOk, IfSome};
+ghost use Rattle.std.specs.Prelude.{◌≡◌, ◌<◌, ◌≤◌, ◌+◌, ◌^◌, ◌++◌, ℕ, List, All, length, slice_get, OnOk, IfOk, IfSome};
 ghost use Rattle.deliveries.specs.Deliveries.{deliveries_of, TakesEach};
 ghost use Rattle.job_graph.specs.Expanded.{outlets_of};
 ghost use Rattle.job_graph.specs.Runs.{IsRun};
-ghost use Rattle.job_state.specs.Sending.{contents_items, items_at, put_into, as_puts, room_at, AreLanes, HasRoom, IsOneInto, puts_of, waiting_at};
+ghost use Rattle.job_state.specs.Sending.{contents_items, items_at, put_into, as_puts, room_at, AreLanes, HasRoom, IsOneInto, puts_of, waiting_at, known_at, GoByPort};
 
 use crate::sending::{push_all, release_all, reserve_deliveries};
 use abs_codec::NoMemory;
 use channels::{Channel, Item};
-use deliveries::{only_run, run_target, sole_target};
+use deliveries::{fixed_target, only_run, run_target, sole_target};
 use job_graph::Graph;
 use operators::Operator;
 use std::alloc::Global;
@@ -65,6 +65,32 @@ fn reserve_run<R: Drop>(
     Ok(())
 }
 
+/// One record more waits for room, in this channel. Where so many wait for it in another one, they
+/// get theirs first.
+fn wait_for<R: Drop>(
+    channels: &mut [Channel<R>],
+    number: &mut u32,
+    waiting: &mut usize,
+    target: u32,
+) -> Result<(), NoMemory>
+    requires inside { 0 < waiting.old → number.old < length channels.old }
+    requires fits { waiting.old + 1 < 2 ^ 64 }
+    ensures target { OnOk result (number.new ≡ target) }
+    ensures more { OnOk result (waiting.new ≤ waiting.old + 1) }
+    ensures room { OnOk result ((k : ℕ) → room_at channels.old k
+        + waiting_at number.old waiting.old k + waiting_at target 1 k
+        ≤ room_at channels.new k + waiting_at target waiting.new k) }
+    ensures same { contents_items channels.new ≡ contents_items channels.old }
+{
+    if target != *number {
+        reserve_run(channels, *number, *waiting)?;
+        *number = target;
+        *waiting = 0;
+    }
+    *waiting += 1;
+    Ok(())
+}
+
 /// Tells each record that a task sends the channel that it goes into, in place of its port, and
 /// takes the room for it there: once for records that follow one another into one channel. All are
 /// sent on the first port, whose channels are these, one run. Their lanes may be known.
@@ -93,13 +119,56 @@ fn reserve_rows<O: Operator>(
     for place in 0..rows.len() {
         let known = lane_at(lanes, place);
         let target = run_target::<O>(graph, task, numbers, &rows[place].1, known);
-        if target != number {
-            reserve_run(channels, number, waiting)?;
-            number = target;
-            waiting = 0;
-        }
-        waiting += 1;
+        wait_for(channels, &mut number, &mut waiting, target)?;
         rows[place].0 = target;
+    }
+    reserve_run(channels, number, waiting)
+}
+
+/// The channel that is known of a port, of these two.
+fn channel_of(first: Option<u32>, second: Option<u32>, port: u32) -> Option<u32>
+    ensures { result ≡ known_at first second port }
+{
+    match port {
+        0 => first,
+        1 => second,
+        _ => None,
+    }
+}
+
+/// Whether each of these records is sent on a port whose channel is known.
+fn are_known<R>(first: Option<u32>, second: Option<u32>, sent: &[(u32, R)]) -> bool {
+    sent.iter()
+        .all(|each| channel_of(first, second, each.0).is_some())
+}
+
+/// Tells each record that a task sends the channel that it goes into, in place of its port, and
+/// takes the room for it there: once for records that follow one another into one channel. All are
+/// sent on ports whose channels are known.
+fn reserve_by_port<O: Operator>(
+    channels: &mut [Channel<O::Record>],
+    graph: &Graph,
+    task: u32,
+    first: Option<u32>,
+    second: Option<u32>,
+    rows: &mut Vec<(u32, O::Record)>,
+) -> Result<(), NoMemory>
+    requires channels { length channels.old ≡ length graph.now.channels }
+    requires known { GoByPort O.meaning graph.now task first second }
+    ensures puts { OnOk result (as_puts rows.new.items
+        ≡ deliveries_of O.meaning graph.now task rows.old.items) }
+    ensures room { OnOk result (HasRoom channels.new (as_puts rows.new.items)) }
+    ensures same { contents_items channels.new ≡ contents_items channels.old }
+{
+    // (those before a place that go into this channel, and have no room yet)
+    let mut number = 0;
+    let mut waiting: usize = 0;
+    for place in 0..rows.len() {
+        let Some(channel) = channel_of(first, second, rows[place].0) else {
+            return Err(NoMemory);
+        };
+        wait_for(channels, &mut number, &mut waiting, channel)?;
+        rows[place].0 = channel;
     }
     reserve_run(channels, number, waiting)
 }
@@ -162,6 +231,12 @@ fn make_all_ready<O: Operator>(
 {
     if let Some(numbers) = only_run(graph, task, &sent) {
         reserve_rows::<O>(channels, graph, task, numbers, &mut sent, lanes)?;
+        return Ok(Ready::Rows(sent));
+    }
+    let first = fixed_target::<O>(graph, task, 0);
+    let second = fixed_target::<O>(graph, task, 1);
+    if are_known(first, second, &sent) {
+        reserve_by_port::<O>(channels, graph, task, first, second, &mut sent)?;
         return Ok(Ready::Rows(sent));
     }
     let puts = reserve_deliveries::<O>(alloc, channels, graph, task, sent)?;

@@ -1,4 +1,4 @@
-use Rattle.std.proofs.Common.{◌<◌, length, get_or, arith, ap}
+use Rattle.std.proofs.Common.{get_or, arith, ap}
 use Rattle.std.proofs.lemmas.Option.{slice_get-get_or}
 use Rattle.job_state.proofs.Putting.{items_kept}
 use Rattle.job_state.proofs.ready.reserve_run.Goals as goal
