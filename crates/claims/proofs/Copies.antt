@@ -184,6 +184,18 @@ module _ {K S : Type 0} {cmp : K → K → Ordering} (order : IsTotalOrder cmp) 
   pub under_same : (keys others : List K) → IsStrictlySortedBy cmp keys → ((q : K) → IsAmong keys q ↔ IsAmong others q) → states_under cmp entries keys ≡ states_under cmp entries others
   under_same keys others rises same = sym (copied_under keys keys (λ q. (λ among. among, λ among. among)) rises) ∙ copied_under keys others same rises
 
+-- where pairs are none, nothing is on one side
+pub none_beside : {K T : Type 0} (keys : List K) (states : List T) → zip keys states ≡ [] → 0 < length keys → length states ≡ 0
+none_beside [] states none some = absurd (omega (arith, some))
+none_beside (key ∷ keys) [] none some = refl
+none_beside (key ∷ keys) (state ∷ states) none some = absurd cc
+
+-- and then they are none
+pub beside_none : {K T : Type 0} (keys : List K) (states : List T) → length states ≡ 0 → zip keys states ≡ []
+beside_none [] states none = refl
+beside_none (key ∷ keys) [] none = refl
+beside_none (key ∷ keys) (state ∷ states) none = absurd (omega (arith, none))
+
 -- as many states as keys
 pub copies_rise : {K S : Type 0} (cmp : K → K → Ordering) (keys : List K) (states : List (Option S)) → length states ≡ length keys → IsStrictlySortedBy cmp keys → IsStrictlySortedBy cmp (keys_of (zip keys states))
 copies_rise cmp keys states long rises = subst (λ ks. IsStrictlySortedBy cmp ks) (sym (firsts-zip keys states long)) rises

@@ -67,6 +67,14 @@ module _ {K S : Type 0} {cmp : K → K → Ordering} (order : IsTotalOrder cmp) 
   pub there_under : (keys : List K) (q : K) → IsAmong keys q → is_some (value_at cmp (states_under cmp entries keys) q) ≡ true
   there_under keys q among = there_of keys [] q among
 
+  -- where nothing is there, there is no key
+  pub none_under : (keys : List K) → states_under cmp entries keys ≡ [] → length keys ≡ 0
+  none_under [] none = refl
+  none_under (key ∷ keys) none =
+      let there : is_some (value_at cmp (states_under cmp entries (key ∷ keys)) key) ≡ true = there_under (key ∷ keys) key (0, (omega arith, refl)) in
+      let nothing : is_some (value_at {V = Option S} cmp [] key) ≡ true = subst (λ states. is_some (value_at cmp states key) ≡ true) none there in
+      absurd cc
+
   -- ---- and these entries have it, where they agree with those at each of the keys
 
   module _ (exact : OrderIsExact cmp) (mine : List (K × S)) where

@@ -1,5 +1,5 @@
 -- What a claim carries.
-use Rattle.std.specs.Prelude.{◌≡◌, ◌<◌, ℕ, true, List, All, length, Option, Some, None, is_some, unwrap_or}
+use Rattle.std.specs.Prelude.{◌≡◌, ◌<◌, ℕ, true, List, [], All, length, Option, Some, None, is_some, unwrap_or}
 use Rattle.std.specs.List.Sorted.{IsStrictlySortedBy}
 use Rattle.std.specs.Map.{keys_of}
 use Rattle.std.specs.declared.cmp.Ordering.{Ordering}
@@ -41,6 +41,11 @@ module _ {R K S O : Type 0} where
   abbrev pub records_of : Given O K S R → ℕ
   records_of (given.Operator operand) = length operand.rows.items
   records_of (given.Sink row) = 1
+
+  -- the work is given no state: an operator's where none of its records has a key, and a sink's
+  abbrev pub HasNoStates : Given O K S R → Type 0
+  HasNoStates (given.Operator operand) = operand.states ≡ []
+  HasNoStates (given.Sink row) = Unit {0}
 
   -- these states have a place for the record's key, if it has one
   abbrev pub HasItsState : Meaning R K S O → (K → K → Ordering) → O → List (K × Option S) → R → Type 0

@@ -51,6 +51,13 @@ impl<K: Ord, S> Copies<K, S> {
         (&self.keys, &self.states)
     }
 
+    /// Whether there is no key.
+    fn is_empty(&self) -> bool
+        ensures { IsTrue result ↔ self.now ≡ [] }
+    {
+        self.keys.is_empty() || self.states.is_empty()
+    }
+
     /// At which place the key of each keyed record may stand, in the order of the records.
     pub(crate) fn guesses(&self) -> &[u32] {
         &self.guesses
@@ -283,6 +290,16 @@ impl<K: Codec + Ord, S: Codec> States<K, S> {
         };
         States {
             kept: Kept::Copied(copies),
+        }
+    }
+
+    /// Whether there are none.
+    pub(crate) fn is_none(&self) -> bool
+        ensures { IsTrue result ↔ self.now ≡ [] }
+    {
+        match &self.kept {
+            Kept::Copied(copies) => copies.is_empty(),
+            Kept::Lent(keys, _lent) => keys.is_empty(),
         }
     }
 

@@ -61,10 +61,12 @@ pub(crate) struct Node {
     pub(crate) is_busy: bool,
     /// Whether a source sends to it.
     pub(crate) is_fed: bool,
-    /// Whether it takes several records at a time, whatever the batch is.
+    /// Whether it is a sink's.
     pub(crate) is_sink: bool,
     /// Whether it is an operator's.
     pub(crate) is_operator: bool,
+    /// Whether its last claim was given no state.
+    pub(crate) is_stateless: bool,
     /// The worker that claimed from it last, from 0.
     pub(crate) worker: u32,
 }
@@ -207,19 +209,13 @@ impl Schedule {
         self.went_down();
     }
 
-    /// How many records a claim takes at most.
-    pub(crate) fn batch(&self) -> u32
-        ensures { 1 ≤ result }
-    {
-        self.batch
-    }
-
-    /// How many records a task takes at a time, at most.
+    /// How many records a task takes at a time, at most: a batch, if it is an operator's that keeps
+    /// states.
     pub(crate) fn most(&self, task: u32) -> u32
         ensures { 1 ≤ result }
     {
         match self.nodes.get(task as usize) {
-            Some(node) if node.is_sink => MOST_AT_ONCE,
+            Some(node) if node.is_sink || node.is_stateless => MOST_AT_ONCE,
             _ => self.batch,
         }
     }
@@ -706,6 +702,13 @@ impl Schedule {
         self.set_busy(task, true);
     }
 
+    /// The claim that a task holds is given no state, or some.
+    pub(crate) fn found_stateless(&mut self, task: u32, is_stateless: bool) {
+        if let Some(node) = self.nodes.get_mut(task as usize) {
+            node.is_stateless = is_stateless;
+        }
+    }
+
     /// Whether a claim of so many records has all that its input had, and no barrier may follow.
     fn takes_all(&self, task: u32, records: u64) -> bool {
         records < self.most(task) as u64 && !self.is_pending()
@@ -736,7 +739,7 @@ impl Schedule {
     /// An operator's task that goes on holds a claim of so many records of its only input. That is
     /// left out where the claim has all that it had, and no barrier may follow.
     pub(crate) fn claimed_on(&mut self, task: u32, records: u64) {
-        if records < self.batch as u64 && !self.is_pending() {
+        if self.takes_all(task, records) {
             self.drop_first(task);
             self.judge(task);
         }

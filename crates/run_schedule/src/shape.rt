@@ -49,6 +49,7 @@ fn nodes_of(alloc: Global, graph: &Graph) -> Result<Vec<Node>, AllocError> {
             is_fed: false,
             is_sink: graph.role(task).is_some_and(|role| role.is_sink()),
             is_operator: matches!(graph.role(task), Some(Role::Operator(_))),
+            is_stateless: false,
             worker: 0,
         })?;
     }

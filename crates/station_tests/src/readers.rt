@@ -77,6 +77,10 @@ fn readers_read_what_was_committed_across_a_failure(rt: HostRuntime) -> Result<(
 /// How many rows there are where many are read.
 const MANY: u64 = 10_000;
 
+/// So many of their jobs are not held back. A task takes no more than 256 records in one, so most
+/// rows are worked later.
+const FREE_JOBS: u64 = 30;
+
 /// All rows were read, and each reader beside the run has read some before all were there.
 fn expect_many(rt: &impl Abort, alloc: Global, played: &Option<Played>) -> Result<(), Fail> {
     let wanted = ten_more(alloc, MANY)?;
@@ -89,8 +93,8 @@ fn expect_many(rt: &impl Abort, alloc: Global, played: &Option<Played>) -> Resul
     expect_rows(rt, alloc, played.after.told.as_ref(), &wanted)
 }
 
-/// Runs the line over many rows, by four workers, with a checkpoint every ten jobs. Half of them
-/// are held back until each reader has read some.
+/// Runs the line over many rows, by four workers, with a checkpoint every ten records. Later jobs
+/// are held back until each reader has read some rows.
 fn watched_many<R: Threads + Wait + Clock + Sync>(
     rt: &R,
     alloc: Global,
@@ -100,7 +104,13 @@ fn watched_many<R: Threads + Wait + Clock + Sync>(
         workers: 4,
         every: 10,
     };
-    watched(rt, alloc, &rows, how, Meeting::new(MANY as usize, MANY))
+    watched(
+        rt,
+        alloc,
+        &rows,
+        how,
+        Meeting::new(MANY as usize, FREE_JOBS),
+    )
 }
 
 #[test]

@@ -78,8 +78,8 @@ fn ends_commits<O: Operator, S: SnapshotStore, X: Transactions, P: Partitions<Re
     }
 }
 
-/// A task claims records at the head of its input, a batch at most, or takes the barrier that may
-/// be there. A sink claims one, and gets the work on those behind it too.
+/// A task claims records at the head of its input, as many as the turns say at most, or takes the
+/// barrier that may be there. A sink claims one, and gets the work on those behind it too.
 fn claim<O: Operator, S: SnapshotStore, X: Transactions, P: Partitions<Record = O::Record>>(
     core: &mut Core<O, S, X, P>,
     turns: &mut Turns,
@@ -90,11 +90,12 @@ fn claim<O: Operator, S: SnapshotStore, X: Transactions, P: Partitions<Record = 
     ensures once { ClaimsOnce core.old core.new }
     ensures step { Preserves ⟦<O as Rules>⟧.all core.old.engine core.new.engine }
 {
-    match core.claim_in(place.task, place.input, turns.batch(), &mut bench.room) {
+    let most = turns.most(place.task);
+    match core.claim_in(place.task, place.input, most, &mut bench.room) {
         Ok(job) => {
-            let ahead = work_ahead(bench.alloc, core, place, turns.most(place.task));
+            let ahead = work_ahead(bench.alloc, core, place, most);
             let records = job.records().saturating_add(ahead.len() as u64);
-            turns.claimed(worker, place.task, records);
+            turns.claimed(worker, place.task, records, job.is_stateless());
             bench.put_job(place, job);
             bench.put_ahead(ahead);
             Next::Run
@@ -106,8 +107,8 @@ fn claim<O: Operator, S: SnapshotStore, X: Transactions, P: Partitions<Record = 
     }
 }
 
-/// An operator that goes on claims records at the head of its input, a batch at most, or takes the
-/// barrier that may be there. The turns hold its claim already.
+/// An operator that goes on claims records at the head of its input, as many as the turns say at
+/// most, or takes the barrier that may be there. The turns hold its claim already.
 pub fn claim_on<O: Operator, S: SnapshotStore, X: Transactions, P: Partitions<Record = O::Record>>(
     core: &mut Core<O, S, X, P>,
     turns: &mut Turns,
@@ -117,9 +118,10 @@ pub fn claim_on<O: Operator, S: SnapshotStore, X: Transactions, P: Partitions<Re
     ensures once { ClaimsOnce core.old core.new }
     ensures step { Preserves ⟦<O as Rules>⟧.all core.old.engine core.new.engine }
 {
-    match core.claim_in(place.task, place.input, turns.batch(), &mut bench.room) {
+    let most = turns.most(place.task);
+    match core.claim_in(place.task, place.input, most, &mut bench.room) {
         Ok(job) => {
-            turns.claimed_on(place.task, job.records());
+            turns.claimed_on(place.task, job.records(), job.is_stateless());
             bench.put_job(place, job);
             Next::Run
         }
