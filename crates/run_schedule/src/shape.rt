@@ -15,6 +15,7 @@ impl Schedule {
             VecDeque::with_capacity(alloc, room)?,
             graph.tasks(),
             graph.channels(),
+            back_channels_of(graph),
             graph.sinks(),
         );
         let sources = sources_of(alloc, graph)?;
@@ -30,6 +31,17 @@ impl Schedule {
             round,
         ))
     }
+}
+
+/// How many channels are of back-edges.
+fn back_channels_of(graph: &Graph) -> u32 {
+    let mut count: u32 = 0;
+    for number in 0..graph.channels() {
+        if graph.is_marked(number) {
+            count = count.saturating_add(1);
+        }
+    }
+    count
 }
 
 /// A node for each task.

@@ -44,6 +44,9 @@ const RECORDS_FOR_BARRIERS: u64 = 3_072;
 /// So many channels. Fewer do not count.
 const CHANNELS_TOGETHER: u64 = 64;
 
+/// And so many for each channel of a back-edge, since a checkpoint logs what waits in it.
+const RECORDS_FOR_A_LOG: u64 = 1_024;
+
 /// So many steps of one record come after many pieces that were written elsewhere, for which the
 /// task has waited.
 const STEPS_ONCE_BACK: u64 = 256;
@@ -83,6 +86,8 @@ pub struct Round {
     sink: u32,
     tasks: u32,
     channels: u32,
+    /// How many of these are of back-edges.
+    back_channels: u32,
     sinks: u32,
 }
 
@@ -93,6 +98,7 @@ impl Round {
         to_persist: VecDeque<u32>,
         tasks: u32,
         channels: u32,
+        back_channels: u32,
         sinks: u32,
     ) -> Round {
         Round {
@@ -109,6 +115,7 @@ impl Round {
             sink: 0,
             tasks,
             channels,
+            back_channels,
             sinks,
         }
     }
@@ -257,7 +264,8 @@ impl Round {
     fn records_for_barriers(&self, every: u64) -> u64 {
         let together = self.channels as u64 / CHANNELS_TOGETHER;
         let records = together.saturating_mul(RECORDS_FOR_BARRIERS);
-        records.saturating_sub(every)
+        let logged = (self.back_channels as u64).saturating_mul(RECORDS_FOR_A_LOG);
+        records.saturating_add(logged).saturating_sub(every)
     }
 
     /// The next sink has committed.
