@@ -1,8 +1,10 @@
 //! Runs by many workers: over devices that fail, with restarts that are spent, with too many
-//! workers, and two jobs that are out at once. What runs print is compared with rows that are
-//! worked out here.
+//! workers, two jobs that are out at once, and how many records a job is on. What runs print is
+//! compared with rows that are worked out here.
 #![tactic(auto)]
 
+#[cfg(test)]
+mod claims;
 #[cfg(test)]
 mod faults;
 #[cfg(test)]
