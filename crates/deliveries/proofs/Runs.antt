@@ -1,11 +1,12 @@
 -- Of a run of channels, one takes the lane.
-use Rattle.std.proofs.Common.{◌≡◌, ◌<◌, ◌+◌, ◌%◌, ◌⊎◌, ℕ, zero, suc, Bool, true, false, List, [], ◌∷◌, length, take, drop, Option, Some, None, slice_get, slice_index, refl, sym, ap, ◌∙◌, arith, inl, inr}
+use Rattle.std.proofs.Common.{◌≡◌, ◌<◌, ◌≤◌, ◌+◌, ◌%◌, ◌⊎◌, ℕ, zero, suc, Bool, true, false, List, [], ◌∷◌, length, take, drop, Option, Some, None, slice_get, slice_index, refl, sym, ap, ◌∙◌, arith, inl, inr}
 use native.Mathlib.Nat.{mod-lt}
-use Rattle.std.specs.Prelude.{option_map, unwrap_or}
+use Rattle.std.specs.Prelude.{All, IsTrue, option_map, unwrap_or}
 use Rattle.std.specs.List.{filter}
 use Rattle.std.specs.Option.{option_map_or}
 use Rattle.std.proofs.lemmas.Bool.{eq-eqb, ne_eqb}
-use Rattle.std.proofs.lemmas.List.{get_or-take, get_or-drop, length-take, length-drop}
+use Rattle.std.proofs.lemmas.List.{get_or-take, get_or-drop, length-take, length-drop, take_all}
+use Rattle.std.proofs.lemmas.List.Elements.{All-head, All-tail}
 use Rattle.dataflow_model.specs.Graph as model
 use Rattle.job_graph.specs.Expanded.{meets, takes}
 use Rattle.job_graph.specs.Runs.{IsRun, TakesSubtask}
@@ -60,3 +61,11 @@ pub only_passes : (test : ℕ → Bool) (xs : List ℕ) → length xs ≡ 1 → 
 only_passes test [] one held = absurd (omega (arith, one))
 only_passes test (x ∷ []) one held = rw held refl
 only_passes test (x ∷ y ∷ xs) one held = absurd (omega (arith, one))
+
+-- of numbers that all pass
+passing : (test : ℕ → Bool) (xs : List ℕ) → All (λ n. test n ≡ true) xs → filter test xs ≡ xs
+passing test [] all = refl
+passing test (x ∷ xs) all = rw (All-head (λ n. test n ≡ true) x xs all) (ap (λ l. x ∷ l) (passing test xs (All-tail (λ n. test n ≡ true) x xs all)))
+
+pub all_pass : (test : ℕ → Bool) (xs : List ℕ) → All (λ n. IsTrue (test n)) xs → filter test (take (length xs) (drop 0 xs)) ≡ xs
+all_pass test xs all = let whole : length xs ≤ length xs = omega arith in ap (filter test) (take_all (length xs) xs whole) ∙ passing test xs all

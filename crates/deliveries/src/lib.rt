@@ -7,4 +7,4 @@ mod puts;
 mod turns;
 
 pub use by_run::{only_run, run_target};
-pub use puts::{barriers, deliver, deliver_row, fixed_target, sole_target};
+pub use puts::{barriers, deliver, deliver_row, fixed_target, open_port, sole_target};

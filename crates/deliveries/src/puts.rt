@@ -1,6 +1,6 @@
 //! What a task sends, by the channels that it goes into.
 
-ghost use Rattle.std.specs.Prelude.{◌≡◌, ◌++◌, ◌∷◌, ℕ, [], IsTrue, length, filter, take, drop, OnOk, IfOk, IfSome};
+ghost use Rattle.std.specs.Prelude.{◌≡◌, ◌++◌, ◌∷◌, ℕ, [], All, IsTrue, length, map, filter, take, drop, OnOk, IfOk, IfSome};
 ghost use Rattle.std.specs.Option.{option_to_list};
 ghost use Rattle.channels.specs.declared.item.Item.TheVariants.{Record};
 ghost use Rattle.dataflow_model.specs.Graph.{takes_lane};
@@ -102,6 +102,28 @@ pub fn fixed_target<O: Operator>(graph: &Graph, task: u32, port: u32) -> Option<
     let numbers = sole_run(graph, task, port)?;
     if numbers.len() == 1 && takes_all(graph, numbers[0]) {
         Some(numbers[0])
+    } else {
+        None
+    }
+}
+
+/// Whether each of these channels takes each record, whatever its lane is.
+fn take_all(graph: &Graph, numbers: &[u32]) -> bool
+    ensures { IsTrue result → (lane : ℕ)
+        → All (λ n. IsTrue (meets (takes lane) graph.now.channels n)) numbers.now }
+{
+    numbers.iter().all(|number| takes_all(graph, *number))
+}
+
+/// The channels of a port, where each of them takes whatever a task sends there.
+pub fn open_port<O: Operator>(graph: &Graph, task: u32, port: u32) -> Option<&[u32]>
+    ensures are { IfSome result (λ numbers. numbers.now ≡ outlets_of graph.now task port) }
+    ensures all { IfSome result (λ numbers. (row : O.Record) → deliveries_of_one O.meaning graph.now
+        task (port, row) ≡ map (λ n. (n, Record row)) numbers.now) }
+{
+    let numbers = graph.outlets(task, port);
+    if take_all(graph, numbers) {
+        Some(numbers)
     } else {
         None
     }

@@ -49,7 +49,7 @@ module _ {R K S O : Type 0} (meaning : Meaning R K S O) (graph : Expanded) (task
       subst (All (λ p. P p.0)) goes delivered 0 (number, Record row) (omega arith)
 
   -- one record more is sent
-  sent_more : (sent : List (ℕ × R)) (one : ℕ × R) → deliveries_of meaning graph task (sent ++ one ∷ []) ≡ deliveries_of meaning graph task sent ++ deliveries_of_one meaning graph task one
+  pub sent_more : (sent : List (ℕ × R)) (one : ℕ × R) → deliveries_of meaning graph task (sent ++ one ∷ []) ≡ deliveries_of meaning graph task sent ++ deliveries_of_one meaning graph task one
   sent_more sent one = flat_map-append (deliveries_of_one meaning graph task) sent (one ∷ []) ∙ ap (λ l. deliveries_of meaning graph task sent ++ l) (append-nil (deliveries_of_one meaning graph task one))
 
   -- a record that was not told its channel yet is as it was

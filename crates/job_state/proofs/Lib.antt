@@ -3,6 +3,7 @@ pub mod Kept
 pub mod Putting
 pub mod Received
 pub mod Departures
+pub mod FannedOut
 pub mod Logging
 pub mod Opening
 pub mod Standings

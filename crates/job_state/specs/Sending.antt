@@ -1,11 +1,11 @@
 -- What stands in channels, and what is put into them.
-use Rattle.std.specs.Prelude.{◌≡◌, ◌⊎◌, ◌≤◌, ◌<◌, ◌==◌, ℕ, List, [], ◌∷◌, ◌++◌, All, length, drop, map, filter, slice_get, slice_set, Option, Some, None, unwrap_or, IfSome, if◌then◌else◌}
+use Rattle.std.specs.Prelude.{◌≡◌, ◌⊎◌, ◌≤◌, ◌<◌, ◌+◌, ◌==◌, ℕ, List, [], ◌∷◌, ◌++◌, All, length, drop, map, filter, slice_get, slice_set, Option, Some, None, unwrap_or, IfSome, if◌then◌else◌}
 use Rattle.std.specs.Option.{option_map_or}
 use Rattle.channels.specs.Channel.{Contents}
 use Rattle.channels.specs.declared.item.Item.{Item}
 use Rattle.channels.specs.declared.item.Item.TheVariants.{Barrier, Record}
 use Rattle.dataflow_model.specs.Graph.{Channel, Meaning}
-use Rattle.deliveries.specs.Deliveries.{deliveries_of}
+use Rattle.deliveries.specs.Deliveries.{deliveries_of, deliveries_of_one}
 use Rattle.job_graph.specs.Expanded.{Expanded}
 use Rattle.job_state.specs.declared.ready.Ready.{Ready}
 
@@ -69,6 +69,19 @@ IsOneInto {R} meaning graph task number sent = (port : ℕ) × (row : R) × (sen
 -- the channel that is known of a port, of two ports
 abbrev pub known_at : Option ℕ → Option ℕ → ℕ → Option ℕ
 known_at first second port = if port == 0 then first else (if port == 1 then second else None)
+
+-- the channels of a port, of two ports
+abbrev pub numbers_at : List ℕ → List ℕ → ℕ → List ℕ
+numbers_at first second port = if port == 0 then first else (if port == 1 then second else [])
+
+-- whatever a task sends on one of two ports goes into all of the port's channels
+abbrev pub GoToAll : {R K S O : Type 0} → Meaning R K S O → Expanded → ℕ → List ℕ → List ℕ → Type 0
+GoToAll {R} meaning graph task first second = (port : ℕ) (row : R) → port < 2 → deliveries_of_one meaning graph task (port, row) ≡ map (λ n. (n, Record row)) (numbers_at first second port)
+
+-- how many of those are for this channel, of which so many wait for room in each of these
+abbrev pub waiting_in : List ℕ → ℕ → ℕ → ℕ
+waiting_in [] count k = 0
+waiting_in (number ∷ numbers) count k = waiting_at number count k + waiting_in numbers count k
 
 -- whatever a task sends on a port whose channel is known goes into that channel, and no other
 abbrev pub GoByPort : {R K S O : Type 0} → Meaning R K S O → Expanded → ℕ → Option ℕ → Option ℕ → Type 0

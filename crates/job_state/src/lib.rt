@@ -10,6 +10,7 @@
 mod attempt;
 mod barriers;
 mod copies;
+mod fans;
 mod gates;
 mod holding;
 mod logs;

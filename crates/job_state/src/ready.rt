@@ -6,6 +6,7 @@ ghost use Rattle.job_graph.specs.Expanded.{outlets_of};
 ghost use Rattle.job_graph.specs.Runs.{IsRun};
 ghost use Rattle.job_state.specs.Sending.{contents_items, items_at, put_into, as_puts, room_at, AreLanes, HasRoom, IsOneInto, puts_of, waiting_at, known_at, GoByPort};
 
+use crate::fans::{open_ports, reserve_fans};
 use crate::sending::{push_all, release_all, reserve_deliveries};
 use abs_codec::NoMemory;
 use channels::{Channel, Item};
@@ -45,7 +46,7 @@ fn lane_at(lanes: &[u64], place: usize) -> Option<u64>
 }
 
 /// Takes room for so many items more in a channel. Where memory is refused, none is left in any.
-fn reserve_run<R: Drop>(
+pub(crate) fn reserve_run<R: Drop>(
     channels: &mut [Channel<R>],
     number: u32,
     count: usize,
@@ -238,6 +239,10 @@ fn make_all_ready<O: Operator>(
     if are_known(first, second, &sent) {
         reserve_by_port::<O>(channels, graph, task, first, second, &mut sent)?;
         return Ok(Ready::Rows(sent));
+    }
+    if let Some(ports) = open_ports::<O>(graph, task, &sent) {
+        let rows = reserve_fans::<O>(alloc, channels, graph, task, ports, sent)?;
+        return Ok(Ready::Rows(rows));
     }
     let puts = reserve_deliveries::<O>(alloc, channels, graph, task, sent)?;
     Ok(Ready::Each(puts))
