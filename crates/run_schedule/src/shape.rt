@@ -15,7 +15,7 @@ impl Schedule {
             VecDeque::with_capacity(alloc, room)?,
             graph.tasks(),
             graph.channels(),
-            back_channels_of(graph),
+            is_cyclic(graph),
             graph.sinks(),
         );
         let sources = sources_of(alloc, graph)?;
@@ -33,15 +33,14 @@ impl Schedule {
     }
 }
 
-/// How many channels are of back-edges.
-fn back_channels_of(graph: &Graph) -> u32 {
-    let mut count: u32 = 0;
+/// Whether a channel is of a back-edge.
+fn is_cyclic(graph: &Graph) -> bool {
     for number in 0..graph.channels() {
         if graph.is_marked(number) {
-            count = count.saturating_add(1);
+            return true;
         }
     }
-    count
+    false
 }
 
 /// A node for each task.

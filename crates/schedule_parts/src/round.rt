@@ -44,8 +44,9 @@ const RECORDS_FOR_BARRIERS: u64 = 3_072;
 /// So many channels. Fewer do not count.
 const CHANNELS_TOGETHER: u64 = 64;
 
-/// And so many for each channel of a back-edge, since a checkpoint logs what waits in it.
-const RECORDS_FOR_A_LOG: u64 = 1_024;
+/// And so many where there are back-edges, since a checkpoint logs what waits in their channels,
+/// however many these are.
+const RECORDS_FOR_LOGS: u64 = 4_096;
 
 /// So many steps of one record come after many pieces that were written elsewhere, for which the
 /// task has waited.
@@ -86,8 +87,8 @@ pub struct Round {
     sink: u32,
     tasks: u32,
     channels: u32,
-    /// How many of these are of back-edges.
-    back_channels: u32,
+    /// Whether some of these are of back-edges.
+    is_cyclic: bool,
     sinks: u32,
 }
 
@@ -98,7 +99,7 @@ impl Round {
         to_persist: VecDeque<u32>,
         tasks: u32,
         channels: u32,
-        back_channels: u32,
+        is_cyclic: bool,
         sinks: u32,
     ) -> Round {
         Round {
@@ -115,7 +116,7 @@ impl Round {
             sink: 0,
             tasks,
             channels,
-            back_channels,
+            is_cyclic,
             sinks,
         }
     }
@@ -264,7 +265,7 @@ impl Round {
     fn records_for_barriers(&self, every: u64) -> u64 {
         let together = self.channels as u64 / CHANNELS_TOGETHER;
         let records = together.saturating_mul(RECORDS_FOR_BARRIERS);
-        let logged = (self.back_channels as u64).saturating_mul(RECORDS_FOR_A_LOG);
+        let logged = if self.is_cyclic { RECORDS_FOR_LOGS } else { 0 };
         records.saturating_add(logged).saturating_sub(every)
     }
 
