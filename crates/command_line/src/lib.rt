@@ -30,7 +30,7 @@ pub enum Line<'a> {
         every: u64,
         /// The turns after which the run is given up: 1 to 2^40.
         turns: u64,
-        /// The records that an operator takes at a time, at most: 1 to 1,024.
+        /// The records that an operator with states takes at a time, at most: 1 to 1,024.
         batch: u64,
     },
     /// Judge the job in this file.
@@ -113,7 +113,7 @@ fn batch_option<'a>(alloc: Global) -> Arg<'a> {
             low: 1,
             high: MAX_BATCH,
             default: "1",
-            help: "Records that an operator takes at a time at most, 1 to 1024",
+            help: "Records that an operator with states takes at a time at most, 1 to 1024",
         },
     )
 }

@@ -149,7 +149,7 @@ pub struct Schedule {
     /// How many records were read while claims were held, since a task that sources send to had
     /// none.
     ahead: u32,
-    /// A claim takes so many records at most.
+    /// A claim of an operator that keeps states takes so many records at most.
     batch: u32,
     /// How many records are worked between triggers: 0 for any number.
     every: u64,

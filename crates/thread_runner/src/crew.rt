@@ -274,7 +274,7 @@ fn is_seen_over<
     }
 }
 
-/// Takes the job to rest, as [`run_batched`] does where each claim is of one record.
+/// Takes the job to rest, as [`run_batched`] does with a batch of one record.
 pub fn run<
     O: Operator + Send,
     S: SnapshotStore + Drop + Send,
@@ -311,8 +311,8 @@ where
 /// Takes the job to rest, by so many workers, or as many of them as can be of use, and says how
 /// many records they have worked. A job that is down is restarted first. A checkpoint is triggered
 /// after every so many of these records (0: none but the last), and a last one is committed. A
-/// claim is of so many records at most, the `batch`. Where the run is refused otherwise than for
-/// its workers, the job is down.
+/// claim of an operator that keeps states is of so many records at most, the `batch`. Where the run
+/// is refused otherwise than for its workers, the job is down.
 pub fn run_batched<
     O: Operator + Send,
     S: SnapshotStore + Drop + Send,
