@@ -4,13 +4,13 @@
 #![tactic(auto)]
 
 #[cfg(test)]
-mod claims;
-#[cfg(test)]
 mod faults;
 #[cfg(test)]
 mod jobs;
 #[cfg(test)]
 mod meeting;
+#[cfg(test)]
+mod records_taken;
 #[cfg(test)]
 mod refused;
 #[cfg(test)]
