@@ -6,6 +6,7 @@ use Rattle.std.specs.declared.cmp.Ordering.{Ordering}
 use Rattle.abs_codec.specs.Entries.{value_at}
 use Rattle.dataflow_model.specs.Graph.{Meaning}
 use Rattle.job_state.specs.Batch.{Turn, turns_of, sent_by, AreLastStates}
+use Rattle.deliveries.specs.Deliveries.{AreFanned}
 use Rattle.job_state.specs.Sending.{AreLanes}
 use Rattle.claims.specs.declared.parts.Operand.{Operand}
 use Rattle.claims.specs.declared.parts.Outcomes.{Outcomes}
@@ -76,12 +77,13 @@ module _ {R K S O : Type 0} where
       pub same : AreStatesOf cmp entries p.states
 
     -- The outcomes are what the operator makes of the records, one after another: all that is sent, and the last state of each key, by
-    -- rising keys; and the lanes of what is sent, or none of them.
+    -- rising keys; the lanes of what is sent, or none of them; and it, once for each channel of its port, or none of it.
     pub record IsOutcome (p : Operand O K S R) (outcomes : Outcomes K S R) : Type 0 where
       pub sent : outcomes.sent.items ≡ sent_by (turns_given meaning cmp p)
       pub last : AreLastStates meaning.same_key (turns_given meaning cmp p) outcomes.states.items
       pub rising : IsStrictlySortedBy cmp (keys_of outcomes.states.items)
       pub lanes : AreLanes meaning outcomes.sent.items outcomes.lanes.items
+      pub fanned : AreFanned outcomes.sent.items outcomes.fanned
 
   -- what was made is what the work means: an operator's outcomes, or the spelling of a sink's record
   abbrev pub IsMade : (rules : AllRules R K S O) → (R → List ℕ) → Made O K S R → Type 0

@@ -87,6 +87,7 @@ fn operate<O: Operator>(
         expected,
         &mut outcomes.sent,
         &outcomes.lanes,
+        &mut outcomes.fanned,
     )
 }
 

@@ -1,6 +1,7 @@
 //! Work, and what was made of it.
 
 ghost use Rattle.std.specs.Prelude.{◌≡◌, ◌++◌, List, IfOk, OnOk};
+ghost use Rattle.deliveries.specs.Deliveries.{AreFanned};
 ghost use Rattle.job_state.specs.Sending.{AreLanes};
 ghost use Rattle.claims.specs.declared.parts.Given.TheVariants as Given;
 ghost use Rattle.claims.specs.Carried.{HasItsState, IsOperand, IsOutcome, given_of, records_of};
@@ -10,6 +11,7 @@ ghost use Rattle.claims.specs.Places.{given_at, left_at, state_at};
 use crate::left::{Place, entries_of, place_of, places_of, put_at, state_of};
 use crate::parts::{Given, Load, Made, Operand, Outcomes};
 use abs_codec::{Codec, NoMemory};
+use deliveries::{Fanned, Fans};
 use engine_model::Rules;
 use operators::{Operator, Outcome};
 use std::alloc::Global;
@@ -153,12 +155,27 @@ fn lanes_of<O: Operator>(
     Ok(lanes)
 }
 
+/// What is sent, put with these channels, if any are asked for.
+fn fanned_to<R: Codec>(
+    alloc: Global,
+    sent: &[(u32, R)],
+    fans: Option<Fans>,
+) -> Result<Option<Fanned<R>>, NoMemory>
+    ensures { IfOk result (AreFanned sent.now) }
+{
+    let Some(fans) = fans else {
+        return Ok(None);
+    };
+    Ok(Some(fans.fanned(alloc, sent)?))
+}
+
 /// What an operator makes of its records, from the first to the last, each in the state that the
 /// former left under its key.
 fn outcomes_of<O: Operator>(
     alloc: Global,
     operand: &Operand<O, O::Key, O::State, O::Record>,
     by_lane: bool,
+    fans: Option<Fans>,
 ) -> Result<Outcomes<O::Key, O::State, O::Record>, NoMemory>
     requires { IsOperand ⟦<O as Rules>⟧.all operand.now }
     ensures { IfOk result (IsOutcome O.meaning O.Key.cmp operand.now) }
@@ -181,10 +198,12 @@ fn outcomes_of<O: Operator>(
     }
     let states = entries_of(alloc, left)?;
     let lanes = lanes_of::<O>(alloc, &sent, by_lane)?;
+    let fanned = fanned_to(alloc, &sent, fans)?;
     Ok(Outcomes {
         states,
         sent,
         lanes,
+        fanned,
     })
 }
 
@@ -206,8 +225,9 @@ fn worked_operand<O: Operator>(
     requires { IsOperand ⟦<O as Rules>⟧.all load }
     ensures { given_of result ≡ Given.Operator load }
 {
-    let own = settled(alloc, load);
-    match outcomes_of(alloc, own.get(), own.is_by_lane()) {
+    let mut own = settled(alloc, load);
+    let fans = own.take_fans();
+    match outcomes_of(alloc, own.get(), own.is_by_lane(), fans) {
         Ok(outcomes) => Worked {
             made: Made::Operator(own.solved(outcomes)),
         },

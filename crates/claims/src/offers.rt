@@ -1,6 +1,6 @@
 //! Work is offered.
 
-ghost use Rattle.std.specs.Prelude.{◌≡◌, ◌<◌, ◌≤◌, ◌++◌, ◌∷◌, [], List, Some, length, map, take, slice_get, OnOk, OnErr, IfOk};
+ghost use Rattle.std.specs.Prelude.{◌≡◌, ◌<◌, ◌≤◌, ◌++◌, ◌∷◌, [], List, Some, length, map, take, slice_get, OnOk, OnErr, IfOk, vec_len, vec_capacity};
 ghost use Rattle.std.specs.List.{All, IsAmong};
 ghost use Rattle.channels.specs.Items.{leading_records};
 ghost use Rattle.job_graph.specs.Expanded.{IsExpanded};
@@ -20,6 +20,7 @@ use crate::parts::{Given, Load, Operand};
 use crate::rooms::Room;
 use crate::states::states_of;
 use abs_codec::{Codec, NoMemory};
+use deliveries::Fans;
 use engine_model::{CoreFault, Rules};
 use job_graph::{Graph, Role};
 use job_state::Attempt;
@@ -62,8 +63,10 @@ fn gather_record<O: Operator>(
     row: &O::Record,
     gathered: &mut Gathered<O::Record, O::Key>,
 ) -> Result<(), NoMemory>
-    requires { All (HasItsKey O.meaning operator.now gathered.old.keys.items)
+    requires keyed { All (HasItsKey O.meaning operator.now gathered.old.keys.items)
         gathered.old.rows.items }
+    requires room { vec_len gathered.old.rows < vec_capacity gathered.old.rows }
+    ensures room { vec_capacity gathered.new.rows ≡ vec_capacity gathered.old.rows }
     ensures rows { OnOk result (gathered.new.rows.items
         ≡ gathered.old.rows.items ++ row.now ∷ []) }
     ensures keys { OnOk result (All (HasItsKey O.meaning operator.now gathered.new.keys.items)
@@ -71,7 +74,7 @@ fn gather_record<O: Operator>(
 {
     let room = gathered.rows.capacity();
     push_key(&mut gathered.keys, operator.key(alloc, row)?, room)?;
-    gathered.rows.push(row.copied()?)?;
+    gathered.rows.push_reserved(row.copied()?);
     Ok(())
 }
 
@@ -132,11 +135,17 @@ fn operand_of<O: Operator>(
     })
 }
 
-/// Whether it is told by a record's lane where it goes that a task sends on its first port.
-fn goes_by_lane(graph: &Graph, task: u32) -> bool {
-    let outlets = graph.outlets(task, 0).len();
-    let run = graph.runs(task, 0).first();
+/// Whether it is told by a record's lane where it goes that a task sends on a port.
+fn goes_by_lane(graph: &Graph, task: u32, port: u32) -> bool {
+    let outlets = graph.outlets(task, port).len();
+    let run = graph.runs(task, port).first();
     outlets > 1 && run.is_some_and(|run| *run as usize == outlets)
+}
+
+/// Whether the lanes of what a task sends are worth to be reckoned beforehand: where they tell where
+/// records go, on one of its first two ports.
+fn asks_lanes(graph: &Graph, task: u32) -> bool {
+    goes_by_lane(graph, task, 0) || goes_by_lane(graph, task, 1)
 }
 
 /// The same, behind an owner.
@@ -160,7 +169,13 @@ fn load_of<O: Operator>(
         → IsCarried O.meaning O.Key.cmp entries load) }
 {
     let operand = operand_of(alloc, attempt, operator, task, channel, count, room)?;
-    let load = Load::new(alloc, operand, count > 1 && goes_by_lane(graph, task))?;
+    let by_lane = count > 1 && asks_lanes(graph, task);
+    let fans = if count > 1 {
+        Fans::of::<O>(alloc, graph, task)?
+    } else {
+        None
+    };
+    let load = Load::new(alloc, operand, by_lane, fans)?;
     Ok(load)
 }
 

@@ -5,6 +5,7 @@ ghost use Rattle.operators.specs.Operator.{OrderIsExact};
 
 use crate::states::States;
 use abs_codec::{Codec, NoMemory};
+use deliveries::{Fanned, Fans};
 use std::alloc::Global;
 use std::marker::Model;
 use std::mem::replace;
@@ -19,20 +20,24 @@ pub struct Operand<O, K: Ord, S, R> {
 }
 
 /// What an operator makes of its records, one after another: the last state of each key, by rising
-/// keys, and all records that are sent, each with its port; and their lanes, or none of them.
+/// keys, and all records that are sent, each with its port; their lanes, or none of them; and they
+/// may be put with their channels already.
 #[derive(Drop)]
 pub struct Outcomes<K, S, R> {
     pub states: Vec<(K, S)>,
     pub sent: Vec<(u32, R)>,
     pub lanes: Vec<u64>,
+    pub fanned: Option<Fanned<R>>,
 }
 
-/// An operator's work, and what is made of it. The lanes of what is sent may be asked for.
+/// An operator's work, and what is made of it. The lanes of what is sent may be asked for, or that
+/// it is put with its channels.
 #[derive(Drop)]
 pub struct Sheet<O, K: Ord, S, R> {
     pub operand: Operand<O, K, S, R>,
     pub outcomes: Outcomes<K, S, R>,
     pub by_lane: bool,
+    pub fans: Option<Fans>,
 }
 
 /// An operator's work behind an owner, with a place for what will be made of it: it is handed on as
@@ -55,6 +60,7 @@ impl<O: Drop, K: Ord + Drop, S: Drop, R: Drop> Load<O, K, S, R> {
         alloc: Global,
         operand: Operand<O, K, S, R>,
         by_lane: bool,
+        fans: Option<Fans>,
     ) -> Result<Self, NoMemory>
         ensures { IfOk result (λ load. load ≡ operand) }
     {
@@ -62,11 +68,13 @@ impl<O: Drop, K: Ord + Drop, S: Drop, R: Drop> Load<O, K, S, R> {
             states: Vec::new(alloc),
             sent: Vec::new(alloc),
             lanes: Vec::new(alloc),
+            fanned: None,
         };
         let sheet = Sheet {
             operand,
             outcomes,
             by_lane,
+            fans,
         };
         let sheet = Box::new(alloc, sheet)?;
         Ok(Load { sheet })
@@ -83,6 +91,14 @@ impl<O, K: Ord, S, R> Load<O, K, S, R> {
     /// Whether the lanes of what is sent are asked for.
     pub(crate) fn is_by_lane(&self) -> bool {
         self.sheet.by_lane
+    }
+
+    /// The channels that what is sent is to be put with, which may be asked for once.
+    pub(crate) fn take_fans(&mut self) -> Option<Fans>
+        ensures { self.new ≡ self.old }
+    {
+        let sheet = &mut *self.sheet;
+        sheet.fans.take()
     }
 }
 

@@ -1,6 +1,6 @@
 //! Room for the work of a claim.
 
-ghost use Rattle.std.specs.Prelude.{◌≡◌, [], IfOk};
+ghost use Rattle.std.specs.Prelude.{◌≡◌, ◌≤◌, [], IfOk, vec_capacity};
 
 use abs_codec::NoMemory;
 use operators::Operator;
@@ -75,7 +75,8 @@ impl<O: Operator> Room<O> {
         alloc: Global,
         count: usize,
     ) -> Result<Vec<O::Record>, NoMemory>
-        ensures { IfOk result (λ rows. rows.items ≡ []) }
+        ensures none { IfOk result (λ rows. rows.items ≡ []) }
+        ensures room { IfOk result (λ rows. count ≤ vec_capacity rows) }
     {
         let mut rows = taken(alloc, &mut self.rows, count);
         rows.reserve_exact(count)?;

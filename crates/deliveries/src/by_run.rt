@@ -1,22 +1,14 @@
 //! What a task sends on channels that are one run: each record goes into one of them.
 
-ghost use Rattle.std.specs.Prelude.{◌≡◌, ◌↔◌, ◌∷◌, [], All, IfSome, IsTrue, length};
+ghost use Rattle.std.specs.Prelude.{◌≡◌, ◌∷◌, [], IfSome, IsTrue, length};
 ghost use Rattle.channels.specs.declared.item.Item.TheVariants.{Record};
-ghost use Rattle.deliveries.specs.Deliveries.{deliveries_of_one, TakesEach};
-ghost use Rattle.job_graph.specs.Expanded.{outlets_of};
+ghost use Rattle.deliveries.specs.Deliveries.{deliveries_of_one, IsRunOf, TakesEach};
 ghost use Rattle.job_graph.specs.Runs.{IsRun};
 
 use crate::puts::{sole_run, takes_all};
 use crate::turns::turn;
 use job_graph::Graph;
 use operators::Operator;
-
-/// Whether each of these records is sent on the first port.
-fn are_first<R>(sent: &[(u32, R)]) -> bool
-    ensures { IsTrue result ↔ All (λ s. s.0 ≡ 0) sent.now }
-{
-    sent.iter().all(|each| each.0 == 0)
-}
 
 /// Whether each record goes into one of these channels, which are one run.
 fn takes_each(graph: &Graph, numbers: &[u32]) -> bool
@@ -26,18 +18,13 @@ fn takes_each(graph: &Graph, numbers: &[u32]) -> bool
     numbers.len() > 1 || takes_all(graph, numbers[0])
 }
 
-/// The channels of a task's first port, where they are one run, each record goes into one of them,
-/// and each of these records is sent on that port; `None` where it is otherwise. `run_target` tells
-/// which of them a record goes into.
-pub fn only_run<'a, R>(graph: &'a Graph, task: u32, sent: &[(u32, R)]) -> Option<&'a [u32]>
-    ensures are { IfSome result (λ numbers. numbers.now ≡ outlets_of graph.now task 0) }
-    ensures run { IfSome result (λ numbers. IsRun graph.now.channels numbers.now 0
-        (length numbers.now)) }
-    ensures each { IfSome result (λ numbers. TakesEach graph.now.channels numbers.now) }
-    ensures first { IfSome result (λ _. All (λ s. s.0 ≡ 0) sent.now) }
+/// The channels of a port, where they are one run, and each record goes into one of them; `None`
+/// where it is otherwise. `run_target` tells which of them a record goes into.
+pub fn run_of(graph: &Graph, task: u32, port: u32) -> Option<&[u32]>
+    ensures { IfSome result (λ numbers. IsRunOf graph.now task port numbers.now) }
 {
-    let numbers = sole_run(graph, task, 0)?;
-    if takes_each(graph, numbers) && are_first(sent) {
+    let numbers = sole_run(graph, task, port)?;
+    if takes_each(graph, numbers) {
         Some(numbers)
     } else {
         None
@@ -56,20 +43,19 @@ fn lane_of<O: Operator>(row: &O::Record, known: Option<u64>) -> u64
     }
 }
 
-/// The channel that a record goes into when a task sends it on its first port, whose channels are
-/// these, one run, one of which takes it. Its lane may be known.
+/// The channel that a record goes into when a task sends it on a port whose channels are these, one
+/// run, one of which takes it. Its lane may be known.
 pub fn run_target<O: Operator>(
     graph: &Graph,
     task: u32,
+    port: u32,
     numbers: &[u32],
     row: &O::Record,
     known: Option<u64>,
 ) -> u32
-    requires are { numbers.now ≡ outlets_of graph.now task 0 }
-    requires run { IsRun graph.now.channels numbers.now 0 (length numbers.now) }
-    requires each { TakesEach graph.now.channels numbers.now }
+    requires run { IsRunOf graph.now task port numbers.now }
     requires known { IfSome known (λ lane. lane ≡ O.meaning.lane row.now) }
-    ensures { deliveries_of_one O.meaning graph.now task (0, row.now)
+    ensures { deliveries_of_one O.meaning graph.now task (port, row.now)
         ≡ (result, Record row.now) ∷ [] }
 {
     if numbers.len() == 1 {

@@ -3,8 +3,10 @@
 #![tactic(auto)]
 
 mod by_run;
+mod fans;
 mod puts;
 mod turns;
 
-pub use by_run::{only_run, run_target};
+pub use by_run::{run_of, run_target};
+pub use fans::{Fanned, Fans};
 pub use puts::{barriers, deliver, deliver_row, fixed_target, open_port, sole_target};

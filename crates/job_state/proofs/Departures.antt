@@ -12,7 +12,7 @@ use Rattle.dataflow_model.specs.Graph.{Meaning}
 use Rattle.deliveries.specs.Deliveries.{deliveries_of, deliveries_of_one, delivered_last}
 use Rattle.job_graph.specs.Expanded.{Expanded, meets, takes, is_outlet, outlets_of, targets_of}
 use Rattle.job_graph.proofs.Targets.{targets_are}
-use Rattle.job_state.specs.Sending.{as_puts, AreLanes, GoByPort, known_at}
+use Rattle.job_state.specs.Sending.{as_puts, AreLanes}
 use Rattle.job_state.proofs.Received.{numbers_below}
 
 -- records that stand first stand before the first barrier
@@ -41,11 +41,11 @@ module _ {R K S O : Type 0} (meaning : Meaning R K S O) (graph : Expanded) (task
   outlets_below port = numbers_below (is_outlet task port) graph.channels
 
   -- the channel that a record goes into is one of its port's
-  pub goes_among : (P : ℕ → Type 0) (row : R) (number : ℕ) → All P (outlets_of graph task 0) → deliveries_of_one meaning graph task (0, row) ≡ delivered_last row (Some number) → P number
-  goes_among P row number all goes =
+  pub goes_among : (P : ℕ → Type 0) (port : ℕ) (row : R) (number : ℕ) → All P (outlets_of graph task port) → deliveries_of_one meaning graph task (port, row) ≡ delivered_last row (Some number) → P number
+  goes_among P port row number all goes =
       let lane = meaning.lane row in
-      let targets : All P (targets_of graph task 0 lane) = subst (All P) (sym (targets_are graph task 0 lane)) (All-filter (meets (takes lane) graph.channels) P (outlets_of graph task 0) all) in
-      let delivered = All-map {X = ℕ × Item R} (λ p. P p.0) (λ n. (n, Record row)) (targets_of graph task 0 lane) targets in
+      let targets : All P (targets_of graph task port lane) = subst (All P) (sym (targets_are graph task port lane)) (All-filter (meets (takes lane) graph.channels) P (outlets_of graph task port) all) in
+      let delivered = All-map {X = ℕ × Item R} (λ p. P p.0) (λ n. (n, Record row)) (targets_of graph task port lane) targets in
       subst (All (λ p. P p.0)) goes delivered 0 (number, Record row) (omega arith)
 
   -- one record more is sent
@@ -93,17 +93,6 @@ module _ {R K S O : Type 0} (meaning : Meaning R K S O) (graph : Expanded) (task
       ∙ ap (λ l. deliveries_of meaning graph task (take i old) ++ l) sent
       ∙ sym (sent_more (take i old) (get_or old i seen))
       ∙ ap (deliveries_of meaning graph task) (sym (take_more old i seen within))
-
-  -- where all are sent on the first port, so is this one
-  pub goes_first : (rows old : List (ℕ × R)) (i number : ℕ) (seen : ℕ × R) → i < length rows → i < length old → drop i rows ≡ drop i old → seen ≡ get_or rows i seen → All (λ s. s.0 ≡ 0) old →
-      deliveries_of_one meaning graph task (0, seen.1) ≡ (number, Record seen.1) ∷ [] → deliveries_of_one meaning graph task seen ≡ (number, Record seen.1) ∷ []
-  goes_first rows old i number seen inside within others is first goes =
-      let port : seen.0 ≡ 0 = ap (λ s. s.0) (sym (still_there rows old i seen inside within others is)) ∙ first i seen within in
-      ap (λ n. deliveries_of_one meaning graph task (n, seen.1)) port ∙ goes
-
-  -- a record whose port's channel is known goes into that one
-  pub goes_by_port : (first second : Option ℕ) (seen : ℕ × R) (number : ℕ) → GoByPort meaning graph task first second → Some number ≡ known_at first second seen.0 → deliveries_of meaning graph task (seen ∷ []) ≡ (number, Record seen.1) ∷ []
-  goes_by_port first second seen number known is = subst (λ k. IfSome k (λ n. deliveries_of meaning graph task (seen ∷ []) ≡ (n, Record seen.1) ∷ [])) (sym is) (known seen.0 seen.1)
 
 -- what was not told yet is as it was, behind the one that is told
 pub left_behind : {X : Type 0} (rows old : List X) (i : ℕ) (d x : X) → i < length rows → i < length old → drop i rows ≡ drop i old → drop (i + 1) (slice_set rows i x) ≡ drop (i + 1) old

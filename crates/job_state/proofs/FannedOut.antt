@@ -1,15 +1,15 @@
 -- What a task sends on ports each of whose channels takes it: how much room it takes.
-use Rattle.std.proofs.Common.{◌≡◌, ◌<◌, ◌+◌, ◌==◌, ◌∷◌, ℕ, zero, suc, List, [], length, map, filter, take, slice_index, refl, ap, inl, inr, arith}
+use Rattle.std.proofs.Common.{◌≡◌, ◌<◌, ◌+◌, ◌==◌, ◌∷◌, ◌++◌, ℕ, zero, suc, List, [], length, map, filter, take, slice_index, refl, sym, ap, ◌∙◌, inl, inr, arith}
 use Rattle.std.specs.Prelude.{All}
 use Rattle.std.proofs.lemmas.Bool.Decides.{eqb_tells}
-use Rattle.std.proofs.lemmas.List.{length-append}
+use Rattle.std.proofs.lemmas.List.{length-append, map-append}
 use Rattle.std.proofs.lemmas.List.Elements.{All-head, All-tail}
 use Rattle.channels.specs.declared.item.Item.{Item}
 use Rattle.channels.specs.declared.item.Item.TheVariants.{Record}
 use Rattle.dataflow_model.specs.Graph.{Meaning}
-use Rattle.deliveries.specs.Deliveries.{deliveries_of, deliveries_of_one}
+use Rattle.deliveries.specs.Deliveries.{deliveries_of, deliveries_of_one, fanned_by, numbers_at}
 use Rattle.job_graph.specs.Expanded.{Expanded}
-use Rattle.job_state.specs.Sending.{numbers_at, put_into, waiting_at, waiting_in, GoToAll}
+use Rattle.job_state.specs.Sending.{as_puts, put_into, waiting_at, waiting_in, GoToAll}
 use Rattle.job_state.proofs.Putting.{put_into_append, waits_more, waits_none}
 
 -- one channel more
@@ -86,3 +86,25 @@ module _ {R K S O : Type 0} (meaning : Meaning R K S O) (graph : Expanded) (task
           let numbers : waiting_in (numbers_at first second (suc zero)) 1 k ≡ waiting_in second 1 k = refl in
           omega (arith, is, counted, others, numbers, both (suc zero) below, each_waits_more k second (on 1 sent))
       by (suc (suc p)) below is = absurd (omega (arith, below))
+
+module _ {R K S O : Type 0} (meaning : Meaning R K S O) (graph : Expanded) (task : ℕ) (first second : List ℕ) (all : GoToAll meaning graph task first second) where
+  -- what is sent, once for each channel of its port, is what goes into them
+  pub fanned_are_sent : (sent : List (ℕ × R)) → All (λ s. s.0 < 2) sent → as_puts (fanned_by first second sent) ≡ deliveries_of meaning graph task sent
+  fanned_are_sent [] two = refl
+  fanned_are_sent ((port, row) ∷ sent) two =
+      let numbers = numbers_at first second port in
+      map-append item (map (λ n. (n, row)) numbers) (fanned_by first second sent)
+      ∙ ap (λ l. l ++ as_puts (fanned_by first second sent)) (each_as_put numbers)
+      ∙ ap (λ l. l ++ as_puts (fanned_by first second sent)) (sym (all port row (All-head (λ s. s.0 < 2) (port, row) sent two)))
+      ∙ ap (λ l. deliveries_of_one meaning graph task (port, row) ++ l) (fanned_are_sent sent (All-tail (λ s. s.0 < 2) (port, row) sent two))
+    where
+      item : ℕ × R → ℕ × Item R
+      item p = (p.0, Record p.1)
+
+      each_as_put : (ns : List ℕ) → map item (map (λ n. (n, row)) ns) ≡ map (λ n. (n, Record row)) ns
+      each_as_put [] = refl
+      each_as_put (n ∷ ns) = ap (λ l. (n, Record row) ∷ l) (each_as_put ns)
+
+  pub known_are_sent : (rows sent : List (ℕ × R)) (f s : List ℕ) → rows ≡ fanned_by f s sent → (f ≡ first) × (s ≡ second) → All (λ e. e.0 < 2) sent → as_puts rows ≡ deliveries_of meaning graph task sent
+  known_are_sent rows sent f s known same two =
+      ap as_puts (known ∙ ap (λ l. fanned_by l s sent) same.0 ∙ ap (λ l. fanned_by first l sent) same.1) ∙ fanned_are_sent sent two

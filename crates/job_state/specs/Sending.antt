@@ -5,7 +5,7 @@ use Rattle.channels.specs.Channel.{Contents}
 use Rattle.channels.specs.declared.item.Item.{Item}
 use Rattle.channels.specs.declared.item.Item.TheVariants.{Barrier, Record}
 use Rattle.dataflow_model.specs.Graph.{Channel, Meaning}
-use Rattle.deliveries.specs.Deliveries.{deliveries_of, deliveries_of_one}
+use Rattle.deliveries.specs.Deliveries.{deliveries_of, deliveries_of_one, numbers_at}
 use Rattle.job_graph.specs.Expanded.{Expanded}
 use Rattle.job_state.specs.declared.ready.Ready.{Ready}
 
@@ -66,13 +66,9 @@ AreLanes meaning sent lanes = (lanes ≡ []) ⊎ (lanes ≡ map (λ s. meaning.l
 abbrev pub IsOneInto : {R K S O : Type 0} → Meaning R K S O → Expanded → ℕ → ℕ → List (ℕ × R) → Type 0
 IsOneInto {R} meaning graph task number sent = (port : ℕ) × (row : R) × (sent ≡ (port, row) ∷ []) × (deliveries_of meaning graph task sent ≡ (number, Record row) ∷ [])
 
--- the channel that is known of a port, of two ports
-abbrev pub known_at : Option ℕ → Option ℕ → ℕ → Option ℕ
+-- what is known of a port, of two ports
+abbrev pub known_at : {A : Type 0} → Option A → Option A → ℕ → Option A
 known_at first second port = if port == 0 then first else (if port == 1 then second else None)
-
--- the channels of a port, of two ports
-abbrev pub numbers_at : List ℕ → List ℕ → ℕ → List ℕ
-numbers_at first second port = if port == 0 then first else (if port == 1 then second else [])
 
 -- whatever a task sends on one of two ports goes into all of the port's channels
 abbrev pub GoToAll : {R K S O : Type 0} → Meaning R K S O → Expanded → ℕ → List ℕ → List ℕ → Type 0
@@ -82,10 +78,6 @@ GoToAll {R} meaning graph task first second = (port : ℕ) (row : R) → port < 
 abbrev pub waiting_in : List ℕ → ℕ → ℕ → ℕ
 waiting_in [] count k = 0
 waiting_in (number ∷ numbers) count k = waiting_at number count k + waiting_in numbers count k
-
--- whatever a task sends on a port whose channel is known goes into that channel, and no other
-abbrev pub GoByPort : {R K S O : Type 0} → Meaning R K S O → Expanded → ℕ → Option ℕ → Option ℕ → Type 0
-GoByPort {R} meaning graph task first second = (port : ℕ) (row : R) → IfSome (known_at first second port) (λ number. deliveries_of meaning graph task ((port, row) ∷ []) ≡ (number, Record row) ∷ [])
 
 module _ {R : Type 0} where
   -- what a task sends, each with the channel that it is put into

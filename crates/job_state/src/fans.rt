@@ -2,14 +2,15 @@
 
 ghost use Rattle.std.specs.Prelude.{◌≡◌, ◌<◌, ◌≤◌, ◌+◌, ◌==◌, ◌++◌, ℕ, List, All, IsTrue, map, filter, length, OnOk, IfOk, IfSome};
 ghost use Rattle.channels.specs.declared.item.Item.TheVariants.{Record};
-ghost use Rattle.deliveries.specs.Deliveries.{deliveries_of};
+ghost use Rattle.deliveries.specs.Deliveries.{deliveries_of, fanned_by, numbers_at};
 ghost use Rattle.job_graph.specs.Expanded.{outlets_of};
-ghost use Rattle.job_state.specs.Sending.{as_puts, contents_items, numbers_at, room_at, waiting_in, GoToAll, HasRoom};
+ghost use Rattle.job_state.specs.Sending.{as_puts, contents_items, room_at, waiting_in, GoToAll, HasRoom};
 
 use crate::ready::reserve_run;
+use crate::sending::release_all;
 use abs_codec::{Codec, NoMemory};
 use channels::Channel;
-use deliveries::open_port;
+use deliveries::{Fanned, open_port};
 use job_graph::Graph;
 use operators::Operator;
 use std::alloc::Global;
@@ -82,11 +83,12 @@ fn put_each<R: Codec>(numbers: &[u32], row: R, rows: &mut Vec<(u32, R)>) -> Resu
     ensures { OnOk result (as_puts rows.new.items
         ≡ as_puts rows.old.items ++ map (λ n. (n, Record row)) numbers.now) }
 {
+    rows.reserve(numbers.len())?;
     for place in 1..numbers.len() {
-        rows.push((numbers[place - 1], row.copied()?))?;
+        rows.push_reserved((numbers[place - 1], row.copied()?));
     }
     if let Some(last) = numbers.last() {
-        rows.push((*last, row))?;
+        rows.push_reserved((*last, row));
     }
     Ok(())
 }
@@ -134,6 +136,36 @@ fn reserve_each<R: Drop>(
     Ok(())
 }
 
+/// Takes room for what a task sends, in each of its channels: for so many records in all. All go out
+/// on the first port and the second, whose channels are these, each of which takes whatever is sent
+/// there.
+fn reserve_ports<O: Operator>(
+    channels: &mut [Channel<O::Record>],
+    graph: &Graph,
+    task: u32,
+    ports: Ports<'_>,
+    sent: &[(u32, O::Record)],
+) -> Result<usize, NoMemory>
+    requires channels { length channels.old ≡ length graph.now.channels }
+    requires first { ports.first.now ≡ outlets_of graph.now task 0 }
+    requires second { ports.second.now ≡ outlets_of graph.now task 1 }
+    requires all { GoToAll O.meaning graph.now task ports.first.now ports.second.now }
+    requires two { All (λ s. s.0 < 2) sent.now }
+    ensures room { OnOk result (HasRoom channels.new
+        (deliveries_of O.meaning graph.now task sent.now)) }
+    ensures same { contents_items channels.new ≡ contents_items channels.old }
+{
+    // (the clauses alone name them)
+    let _ = graph;
+    let _ = task;
+    let on_first = count_on(sent, 0);
+    let on_second = count_on(sent, 1);
+    reserve_each(channels, ports.first, on_first)?;
+    reserve_each(channels, ports.second, on_second)?;
+    let into_first = on_first.saturating_mul(ports.first.len());
+    Ok(into_first.saturating_add(on_second.saturating_mul(ports.second.len())))
+}
+
 /// Each record that a task sends, once for each channel that it goes into, with that channel in
 /// place of its port, and room taken for it there. All go out on the first port and the second,
 /// whose channels are these, each of which takes whatever is sent there.
@@ -155,13 +187,38 @@ pub(crate) fn reserve_fans<O: Operator>(
     ensures room { IfOk result (λ rows. HasRoom channels.new (as_puts rows.items)) }
     ensures same { contents_items channels.new ≡ contents_items channels.old }
 {
-    let on_first = count_on(&sent, 0);
-    let on_second = count_on(&sent, 1);
-    let room = on_first
-        .saturating_mul(ports.first.len())
-        .saturating_add(on_second.saturating_mul(ports.second.len()));
-    let rows = fan_out::<O>(alloc, graph, task, ports, sent, room)?;
-    reserve_each(channels, ports.first, on_first)?;
-    reserve_each(channels, ports.second, on_second)?;
+    let room = reserve_ports::<O>(channels, graph, task, ports, &sent)?;
+    let Ok(rows) = fan_out::<O>(alloc, graph, task, ports, sent, room) else {
+        release_all(channels);
+        return Err(NoMemory);
+    };
     Ok(rows)
+}
+
+/// What a task sends, which was put with channels beforehand, and room taken for it there; `None`
+/// where these are not the channels that it goes into.
+pub(crate) fn reserve_known<O: Operator>(
+    channels: &mut [Channel<O::Record>],
+    graph: &Graph,
+    task: u32,
+    sent: &[(u32, O::Record)],
+    known: Fanned<O::Record>,
+) -> Result<Option<Vec<(u32, O::Record)>>, NoMemory>
+    requires channels { length channels.old ≡ length graph.now.channels }
+    requires known { known.rows.items
+        ≡ fanned_by known.fans.first.items known.fans.second.items sent.now }
+    ensures puts { IfOk result (λ found. IfSome found (λ rows. as_puts rows.items
+        ≡ deliveries_of O.meaning graph.now task sent.now)) }
+    ensures room { IfOk result (λ found. IfSome found
+        (λ rows. HasRoom channels.new (as_puts rows.items))) }
+    ensures same { contents_items channels.new ≡ contents_items channels.old }
+{
+    let Some(ports) = open_ports::<O>(graph, task, sent) else {
+        return Ok(None);
+    };
+    if !known.fans.are(ports.first, ports.second) {
+        return Ok(None);
+    }
+    reserve_ports::<O>(channels, graph, task, ports, sent)?;
+    Ok(Some(known.rows))
 }

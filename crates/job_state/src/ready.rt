@@ -1,16 +1,14 @@
 //! What a task sends, once there is room for it.
 
-ghost use Rattle.std.specs.Prelude.{◌≡◌, ◌<◌, ◌≤◌, ◌+◌, ◌^◌, ◌++◌, ℕ, List, All, length, slice_get, OnOk, IfOk, IfSome};
-ghost use Rattle.deliveries.specs.Deliveries.{deliveries_of, TakesEach};
-ghost use Rattle.job_graph.specs.Expanded.{outlets_of};
-ghost use Rattle.job_graph.specs.Runs.{IsRun};
-ghost use Rattle.job_state.specs.Sending.{contents_items, items_at, put_into, as_puts, room_at, AreLanes, HasRoom, IsOneInto, puts_of, waiting_at, known_at, GoByPort};
+ghost use Rattle.std.specs.Prelude.{◌≡◌, ◌<◌, ◌≤◌, ◌+◌, ◌^◌, ◌++◌, ℕ, List, length, slice_get, OnOk, IfOk, IfSome};
+ghost use Rattle.deliveries.specs.Deliveries.{deliveries_of, AreFanned, IsRunOf};
+ghost use Rattle.job_state.specs.Sending.{contents_items, items_at, put_into, as_puts, room_at, AreLanes, HasRoom, IsOneInto, puts_of, waiting_at, known_at};
 
-use crate::fans::{open_ports, reserve_fans};
+use crate::fans::{open_ports, reserve_fans, reserve_known};
 use crate::sending::{push_all, release_all, reserve_deliveries};
 use abs_codec::NoMemory;
 use channels::{Channel, Item};
-use deliveries::{fixed_target, only_run, run_target, sole_target};
+use deliveries::{Fanned, run_of, run_target, sole_target};
 use job_graph::Graph;
 use operators::Operator;
 use std::alloc::Global;
@@ -92,22 +90,39 @@ fn wait_for<R: Drop>(
     Ok(())
 }
 
+/// The channels that are known of a port, of these two.
+#[inline(always)]
+fn run_at<'a>(first: Option<&'a [u32]>, second: Option<&'a [u32]>, port: u32) -> Option<&'a [u32]>
+    ensures { result ≡ known_at first.entry second.entry port }
+{
+    match port {
+        0 => first,
+        1 => second,
+        _ => None,
+    }
+}
+
+/// Whether each of these records is sent on a port whose channels are known.
+fn are_known<R>(first: Option<&[u32]>, second: Option<&[u32]>, sent: &[(u32, R)]) -> bool {
+    sent.iter()
+        .all(|each| run_at(first, second, each.0).is_some())
+}
+
 /// Tells each record that a task sends the channel that it goes into, in place of its port, and
 /// takes the room for it there: once for records that follow one another into one channel. All are
-/// sent on the first port, whose channels are these, one run. Their lanes may be known.
+/// sent on ports whose channels are known, one run each. Their lanes may be known.
 fn reserve_rows<O: Operator>(
     channels: &mut [Channel<O::Record>],
     graph: &Graph,
     task: u32,
-    numbers: &[u32],
+    first: Option<&[u32]>,
+    second: Option<&[u32]>,
     rows: &mut Vec<(u32, O::Record)>,
     lanes: &[u64],
 ) -> Result<(), NoMemory>
     requires channels { length channels.old ≡ length graph.now.channels }
-    requires are { numbers.now ≡ outlets_of graph.now task 0 }
-    requires run { IsRun graph.now.channels numbers.now 0 (length numbers.now) }
-    requires each { TakesEach graph.now.channels numbers.now }
-    requires first { All (λ s. s.0 ≡ 0) rows.old.items }
+    requires known { (port : ℕ) → IfSome (known_at first second port)
+        (λ numbers. IsRunOf graph.now task port numbers.now) }
     requires lanes { AreLanes O.meaning rows.old.items lanes.now }
     ensures puts { OnOk result (as_puts rows.new.items
         ≡ deliveries_of O.meaning graph.now task rows.old.items) }
@@ -118,58 +133,14 @@ fn reserve_rows<O: Operator>(
     let mut number = 0;
     let mut waiting: usize = 0;
     for place in 0..rows.len() {
-        let known = lane_at(lanes, place);
-        let target = run_target::<O>(graph, task, numbers, &rows[place].1, known);
-        wait_for(channels, &mut number, &mut waiting, target)?;
-        rows[place].0 = target;
-    }
-    reserve_run(channels, number, waiting)
-}
-
-/// The channel that is known of a port, of these two.
-fn channel_of(first: Option<u32>, second: Option<u32>, port: u32) -> Option<u32>
-    ensures { result ≡ known_at first second port }
-{
-    match port {
-        0 => first,
-        1 => second,
-        _ => None,
-    }
-}
-
-/// Whether each of these records is sent on a port whose channel is known.
-fn are_known<R>(first: Option<u32>, second: Option<u32>, sent: &[(u32, R)]) -> bool {
-    sent.iter()
-        .all(|each| channel_of(first, second, each.0).is_some())
-}
-
-/// Tells each record that a task sends the channel that it goes into, in place of its port, and
-/// takes the room for it there: once for records that follow one another into one channel. All are
-/// sent on ports whose channels are known.
-fn reserve_by_port<O: Operator>(
-    channels: &mut [Channel<O::Record>],
-    graph: &Graph,
-    task: u32,
-    first: Option<u32>,
-    second: Option<u32>,
-    rows: &mut Vec<(u32, O::Record)>,
-) -> Result<(), NoMemory>
-    requires channels { length channels.old ≡ length graph.now.channels }
-    requires known { GoByPort O.meaning graph.now task first second }
-    ensures puts { OnOk result (as_puts rows.new.items
-        ≡ deliveries_of O.meaning graph.now task rows.old.items) }
-    ensures room { OnOk result (HasRoom channels.new (as_puts rows.new.items)) }
-    ensures same { contents_items channels.new ≡ contents_items channels.old }
-{
-    // (those before a place that go into this channel, and have no room yet)
-    let mut number = 0;
-    let mut waiting: usize = 0;
-    for place in 0..rows.len() {
-        let Some(channel) = channel_of(first, second, rows[place].0) else {
+        let (port, row) = &rows[place];
+        let Some(numbers) = run_at(first, second, *port) else {
             return Err(NoMemory);
         };
-        wait_for(channels, &mut number, &mut waiting, channel)?;
-        rows[place].0 = channel;
+        let known = lane_at(lanes, place);
+        let target = run_target::<O>(graph, task, *port, numbers, row, known);
+        wait_for(channels, &mut number, &mut waiting, target)?;
+        rows[place].0 = target;
     }
     reserve_run(channels, number, waiting)
 }
@@ -188,7 +159,8 @@ fn target_of_one<O: Operator>(graph: &Graph, task: u32, sent: &[(u32, O::Record)
 }
 
 /// Takes the room for what a task sends, which the answer then holds in place of the list. Where
-/// memory is refused, the list may have lost it. The lanes of several records may be known.
+/// memory is refused, the list may have lost it. The lanes of several records may be known, and they
+/// may be put with their channels already.
 pub(crate) fn make_ready<O: Operator>(
     alloc: Global,
     channels: &mut [Channel<O::Record>],
@@ -196,9 +168,11 @@ pub(crate) fn make_ready<O: Operator>(
     task: u32,
     sent: &mut Vec<(u32, O::Record)>,
     lanes: &[u64],
+    fanned: &mut Option<Fanned<O::Record>>,
 ) -> Result<Ready<O::Record>, NoMemory>
     requires channels { length channels.old ≡ length graph.now.channels }
     requires lanes { AreLanes O.meaning sent.old.items lanes.now }
+    requires fanned { AreFanned sent.old.items fanned.old }
     ensures puts { IfOk result (λ ready. puts_of ready
         ≡ deliveries_of O.meaning graph.now task sent.old.items) }
     ensures room { IfOk result (λ ready. HasRoom channels.new (puts_of ready)) }
@@ -208,6 +182,11 @@ pub(crate) fn make_ready<O: Operator>(
         reserve_one(channels, number)?;
         if let Some((_, row)) = sent.pop() {
             return Ok(Ready::One(number, row));
+        }
+    }
+    if let Some(known) = fanned.take() {
+        if let Some(rows) = reserve_known::<O>(channels, graph, task, sent, known)? {
+            return Ok(Ready::Rows(rows));
         }
     }
     let sent = replace(sent, Vec::new(alloc));
@@ -230,14 +209,10 @@ fn make_all_ready<O: Operator>(
     ensures room { IfOk result (λ ready. HasRoom channels.new (puts_of ready)) }
     ensures same { contents_items channels.new ≡ contents_items channels.old }
 {
-    if let Some(numbers) = only_run(graph, task, &sent) {
-        reserve_rows::<O>(channels, graph, task, numbers, &mut sent, lanes)?;
-        return Ok(Ready::Rows(sent));
-    }
-    let first = fixed_target::<O>(graph, task, 0);
-    let second = fixed_target::<O>(graph, task, 1);
+    let first = run_of(graph, task, 0);
+    let second = run_of(graph, task, 1);
     if are_known(first, second, &sent) {
-        reserve_by_port::<O>(channels, graph, task, first, second, &mut sent)?;
+        reserve_rows::<O>(channels, graph, task, first, second, &mut sent, lanes)?;
         return Ok(Ready::Rows(sent));
     }
     if let Some(ports) = open_ports::<O>(graph, task, &sent) {

@@ -16,7 +16,7 @@ use crate::taking::pass_on_all;
 use crate::tasks::{advance, keep, keep_all};
 use abs_codec::NoMemory;
 use channels::Item;
-use deliveries::fixed_target;
+use deliveries::{Fanned, fixed_target};
 use job_graph::Graph;
 use keyed_state::{Seen, SetFault};
 use operators::Operator;
@@ -27,6 +27,7 @@ impl<O: Operator> Attempt<O> {
     ghost use Rattle.job_state.specs.Held.{Held, gate_at, Reads, Operates, record_logged};
     ghost use Rattle.job_state.specs.AtOnce.{HaveExpected, without_first};
     ghost use Rattle.alignment.specs.Table.{is_logged};
+    ghost use Rattle.deliveries.specs.Deliveries.{AreFanned};
     ghost use Rattle.channels.specs.Items.{leading_records};
     ghost use Rattle.job_state.specs.Batch.{Turn, StandFirst, OperatesEach, AreLastStates, rows_of, sent_by};
     ghost use Rattle.std.specs.List.Sorted.{IsStrictlySortedBy};
@@ -105,7 +106,8 @@ impl<O: Operator> Attempt<O> {
     /// of each key, and sends what all of them send: as it would one after another. The records are
     /// logged where the task's gate logs the input. Nothing changes where memory is refused, or
     /// where a key has another state than the one that is expected, if any are. What is left of the
-    /// states, and of what is sent, is to be let go. The lanes of what is sent may be known.
+    /// states, and of what is sent, is to be let go. The lanes of what is sent may be known, and it
+    /// may be put with its channels already.
     pub fn operate_some(
         &mut self,
         graph: &Graph,
@@ -117,6 +119,7 @@ impl<O: Operator> Attempt<O> {
         expected: Option<&[Seen<O::State>]>,
         sent: &mut Vec<(u32, O::Record)>,
         lanes: &[u64],
+        fanned: &mut Option<Fanned<O::Record>>,
     ) -> Result<(), SetFault>
         ghost turns: { List (Turn O.Record O.Key O.State) }
         requires holds { (entries : List (O.Key × O.State))
@@ -131,6 +134,7 @@ impl<O: Operator> Attempt<O> {
         requires states { AreLastStates O.meaning.same_key turns states.old.items }
         requires sent { sent.old.items ≡ sent_by turns }
         requires lanes { AreLanes O.meaning sent.old.items lanes.now }
+        requires fanned { AreFanned sent.old.items fanned.old }
         ensures ok { OnOk result (OperatesEach O.meaning O.Key.cmp graph.now task input channel
             turns self.old self.new) }
         ensures expected { 0 < count → (entries : List (O.Key × O.State))
@@ -149,7 +153,15 @@ impl<O: Operator> Attempt<O> {
         }
         let logged = is_logged(&self.gates, task, input);
         reserve_log(&mut self.logs, channel, logged, count)?;
-        let ready = make_ready::<O>(self.alloc, &mut self.channels, graph, task, sent, lanes)?;
+        let ready = make_ready::<O>(
+            self.alloc,
+            &mut self.channels,
+            graph,
+            task,
+            sent,
+            lanes,
+            fanned,
+        )?;
         if let Err(fault) = keep_all(self.alloc, &mut self.tasks, task, states, expected) {
             release_all(&mut self.channels);
             return Err(fault);

@@ -589,6 +589,7 @@ impl Schedule {
         self.round.begin(&self.all_sources);
         if !is_new {
             self.is_last = false;
+            self.round.begun_before();
             for task in self.order.iter() {
                 self.round.copied(*task);
             }
@@ -605,7 +606,13 @@ impl Schedule {
         }
     }
 
-    /// A task has taken the barrier of its first input.
+    /// A task has taken the barrier of its first input, which waits for those of others now.
+    pub(crate) fn blocked_by_barrier(&mut self, task: u32) {
+        self.is_searched = false;
+        self.is_blocked(task);
+    }
+
+    /// A task has taken the barrier of its first input, which goes on.
     pub(crate) fn took_barrier(&mut self, task: u32, is_copy: bool, is_done: bool) {
         self.is_searched = false;
         if let Some(node) = self.nodes.get_mut(task as usize) {
@@ -682,8 +689,9 @@ impl Schedule {
         self.round.clear();
     }
 
-    pub(crate) fn is_pending(&self) -> bool {
-        self.round.is_pending()
+    /// Whether barriers of a pending checkpoint may stand in channels.
+    pub(crate) fn awaits_barriers(&self) -> bool {
+        self.round.awaits_barriers()
     }
 
     /// A worker holds a task's claim of so many records of its first input, which comes last now.
@@ -711,7 +719,7 @@ impl Schedule {
 
     /// Whether a claim of so many records has all that its input had, and no barrier may follow.
     fn takes_all(&self, task: u32, records: u64) -> bool {
-        records < self.most(task) as u64 && !self.is_pending()
+        records < self.most(task) as u64 && !self.awaits_barriers()
     }
 
     /// Whether a task whose claim has ended would be the next to claim from this input: nothing

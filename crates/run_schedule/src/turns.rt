@@ -130,7 +130,7 @@ impl Turns {
 
     /// Whether barriers of a pending checkpoint may stand at the heads of inputs.
     pub fn awaits_barriers(&self) -> bool {
-        self.schedule.is_pending()
+        self.schedule.awaits_barriers()
     }
 
     /// On how many channels a task sends.
@@ -240,6 +240,7 @@ impl Turns {
     /// What came of a task's taking of a barrier.
     pub fn took_barrier(&mut self, place: Place, outcome: Result<Effect, CoreFault>) {
         match outcome {
+            Ok(Effect::Blocked) => self.schedule.blocked_by_barrier(place.task),
             Ok(effect) => {
                 let is_copy = matches!(effect, Effect::Copy | Effect::CopyAndDone);
                 let is_done = matches!(effect, Effect::Done | Effect::CopyAndDone);

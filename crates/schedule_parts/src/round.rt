@@ -65,6 +65,8 @@ pub struct Round {
     stage: Stage,
     to_inject: VecDeque<u32>,
     to_persist: VecDeque<u32>,
+    /// Whether a source has injected, or may have.
+    is_injected: bool,
     /// So many steps of records come between two pieces of a copy, where they are to be had: more
     /// where the last checkpoint had many pieces for the records between two of them. So what
     /// writing copies takes is a share of what records take, however many keys there are.
@@ -106,6 +108,7 @@ impl Round {
             stage: Stage::None,
             to_inject,
             to_persist,
+            is_injected: false,
             steps: 1,
             steps_left: 0,
             pieces: 0,
@@ -139,6 +142,7 @@ impl Round {
         self.stage = Stage::Pending;
         self.to_inject.clear();
         self.to_persist.clear();
+        self.is_injected = false;
         self.steps_left = 0;
         self.pieces = 0;
         self.pieces_elsewhere = 0;
@@ -157,6 +161,16 @@ impl Round {
     /// Whether one is pending.
     pub fn is_pending(&self) -> bool {
         self.stage == Stage::Pending
+    }
+
+    /// Whether barriers of one that is pending may stand in channels.
+    pub fn awaits_barriers(&self) -> bool {
+        self.is_pending() && self.is_injected
+    }
+
+    /// Others have begun the one that is pending, so sources may have injected.
+    pub fn begun_before(&mut self) {
+        self.is_injected = true;
     }
 
     /// What is needed next, if anything can be done for it now.
@@ -188,6 +202,7 @@ impl Round {
 
     /// The first source has injected, now or before.
     pub fn injected(&mut self) {
+        self.is_injected = true;
         let _ = self.to_inject.pop_front();
     }
 

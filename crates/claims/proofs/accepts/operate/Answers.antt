@@ -57,7 +57,10 @@ operate_some-requires g c =
                             subst (λ ts. AreLastStates meaning.same_key ts c.args.outcomes.now.states.items) (sym is) made.last,
                             (
                               made.sent ∙ sym (ap (λ (ts : List (Turn g.row.O-Record.Denot g.row.O-Key.Denot g.row.O-State.Denot)). sent_by ts) is),
-                              subst (λ ls. AreLanes meaning c.args.outcomes.now.sent.items ls) (sym c.deref-2.ensures.value) made.lanes,
+                              (
+                                subst (λ ls. AreLanes meaning c.args.outcomes.now.sent.items ls) (sym c.deref-2.ensures.value) made.lanes,
+                                made.fanned,
+                              ),
                             ),
                           ),
                         ),

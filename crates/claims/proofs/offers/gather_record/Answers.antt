@@ -11,6 +11,6 @@ returns-clause-keys g c =
     let Before = HasItsKey g.O.Operator.meaning c.args.operator.now old.keys.items in
     let After = HasItsKey g.O.Operator.meaning c.args.operator.now c.push_key.new.keys.items in
     let row = c.in_ok-copied.field-0 in
-    let rows = All-weaker Before After (λ r held key is. c.in_ok-push_key.ensures.stay key (held key is)) old.rows.items c.requires in
+    let rows = All-weaker Before After (λ r held key is. c.in_ok-push_key.ensures.stay key (held key is)) old.rows.items c.requires.keyed in
     let last : After row = λ key is. c.in_ok-push_key.ensures.there key (c.in_ok-key.ensures ∙ ap key_of (sym c.in_ok-copied.ensures) ∙ is) in
-    subst (λ rs. All After rs) (sym c.in_ok-push.ensures.items) (All-push After old.rows.items row rows last)
+    subst (λ rs. All After rs) (sym c.push_reserved.ensures.items) (All-push After old.rows.items row rows last)

@@ -11,8 +11,8 @@ returns-then-numbers-eq1 g c =
     let graph = c.args.graph.now in
     let row = c.args.row.now in
     let numbers = c.args.numbers.now in
-    let passes = only_passes (meets (takes (meaning.lane row)) graph.channels) numbers c.if-numbers-eq1.true (c.requires.each c.if-numbers-eq1.true (meaning.lane row)) in
-    run_delivers meaning graph c.args.task 0 row numbers (slice_index numbers 0 ∷ []) c.requires.are passes
+    let passes = only_passes (meets (takes (meaning.lane row)) graph.channels) numbers c.if-numbers-eq1.true (c.requires.run.each c.if-numbers-eq1.true (meaning.lane row)) in
+    run_delivers meaning graph c.args.task c.args.port row numbers (slice_index numbers 0 ∷ []) c.requires.run.are passes
 
 -- the channels share the lanes
 pub returns : goal.returns
@@ -21,9 +21,9 @@ returns g c =
     let graph = c.args.graph.now in
     let row = c.args.row.now in
     let numbers = c.args.numbers.now in
-    let several : 1 < length numbers = several-of (length numbers) c.requires.run.some c.if-numbers-eq1.false in
+    let several : 1 < length numbers = several-of (length numbers) c.requires.run.run.some c.if-numbers-eq1.false in
     let is : c.turn.result ≡ meaning.lane row % length numbers = c.turn.ensures ∙ ap (λ l. l % length numbers) c.lane_of.ensures in
-    run_delivers meaning graph c.args.task 0 row numbers (slice_index numbers c.turn.result ∷ []) c.requires.are (run_target graph.channels numbers 0 (length numbers) (meaning.lane row) c.requires.run several ∙ ap (λ n. slice_index numbers n ∷ []) (omega (arith, is)))
+    run_delivers meaning graph c.args.task c.args.port row numbers (slice_index numbers c.turn.result ∷ []) c.requires.run.are (run_target graph.channels numbers 0 (length numbers) (meaning.lane row) c.requires.run.run several ∙ ap (λ n. slice_index numbers n ∷ []) (omega (arith, is)))
   where
     several-of : (n : ℕ) → 0 < n → (n ≡ 1 → ⊥) → 1 < n
     several-of zero some many = absurd (omega (arith, some))

@@ -3,8 +3,8 @@ use Rattle.std.proofs.lemmas.Iterator.Adapters.{YieldsList-from_vec}
 use Rattle.std.proofs.lemmas.Iterator.Consumers.{YieldsList-turn}
 use Rattle.channels.specs.declared.item.Item.{Item}
 use Rattle.channels.specs.declared.item.Item.TheVariants.{Record}
-use Rattle.deliveries.specs.Deliveries.{deliveries_of}
-use Rattle.job_state.specs.Sending.{as_puts, numbers_at}
+use Rattle.deliveries.specs.Deliveries.{deliveries_of, numbers_at}
+use Rattle.job_state.specs.Sending.{as_puts}
 use Rattle.job_state.proofs.Departures.{sent_more}
 use Rattle.job_state.proofs.fans.fan_out.Goals as goal
 
