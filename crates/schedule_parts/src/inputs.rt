@@ -136,15 +136,26 @@ impl Inputs {
         }
     }
 
-    /// The barriers that inputs have waited for have come.
+    /// The barriers that inputs have waited for have come. Those that were marked for no more than
+    /// their own barriers have nothing behind these.
     pub fn unblock(&mut self) {
         for _ in 0..self.blocked.len() {
             let Some(input) = self.blocked.pop_front() else {
                 return;
             };
             self.unlist(input);
-            self.mark(input);
+            if self.was_marked_twice(input) {
+                self.mark(input);
+            } else {
+                self.empty(input);
+            }
         }
+    }
+
+    /// Whether the input's sender has marked it twice since it was last found without a record.
+    fn was_marked_twice(&self, input: u32) -> bool {
+        let batches = self.batches.get(input as usize);
+        batches.is_some_and(|batches| *batches > 1)
     }
 
     fn take_first(&mut self) -> Option<u32> {
