@@ -142,8 +142,8 @@ fn goes_by_lane(graph: &Graph, task: u32, port: u32) -> bool {
     outlets > 1 && run.is_some_and(|run| *run as usize == outlets)
 }
 
-/// Whether the lanes of what a task sends are worth to be reckoned beforehand: where they tell where
-/// records go, on one of its first two ports.
+/// Whether the lanes of what a task sends are worth to be reckoned beforehand: where they tell
+/// where records go, on one of its first two ports.
 fn asks_lanes(graph: &Graph, task: u32) -> bool {
     goes_by_lane(graph, task, 0) || goes_by_lane(graph, task, 1)
 }

@@ -94,8 +94,9 @@ impl Fans {
 
     /// Copies of what a task sends on the two ports, once for each channel of its port.
     pub fn fanned<R: Codec>(self, alloc: Global, sent: &[(u32, R)]) -> Result<Fanned<R>, NoMemory>
-        ensures { IfOk result (λ made. made.rows.items
-            ≡ fanned_by made.fans.first.items made.fans.second.items sent.now) }
+        ensures fans { IfOk result (λ made. made.fans ≡ self) }
+        ensures rows { IfOk result (λ made. made.rows.items
+            ≡ fanned_by self.first.items self.second.items sent.now) }
     {
         let mut rows = Vec::with_capacity(alloc, sent.len())?;
         for each in sent {

@@ -136,9 +136,9 @@ fn reserve_each<R: Drop>(
     Ok(())
 }
 
-/// Takes room for what a task sends, in each of its channels: for so many records in all. All go out
-/// on the first port and the second, whose channels are these, each of which takes whatever is sent
-/// there.
+/// Takes room for what a task sends, in each of its channels: for so many records in all. All go
+/// out on the first port and the second, whose channels are these, each of which takes whatever is
+/// sent there.
 fn reserve_ports<O: Operator>(
     channels: &mut [Channel<O::Record>],
     graph: &Graph,

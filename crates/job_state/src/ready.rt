@@ -159,8 +159,8 @@ fn target_of_one<O: Operator>(graph: &Graph, task: u32, sent: &[(u32, O::Record)
 }
 
 /// Takes the room for what a task sends, which the answer then holds in place of the list. Where
-/// memory is refused, the list may have lost it. The lanes of several records may be known, and they
-/// may be put with their channels already.
+/// memory is refused, the list may have lost it. The lanes of several records may be known, and
+/// they may be put with their channels already.
 pub(crate) fn make_ready<O: Operator>(
     alloc: Global,
     channels: &mut [Channel<O::Record>],

@@ -1,6 +1,6 @@
 -- Several entries that are put into a map one after another: in which order, how they are undone, and how many there are.
 use Rattle.std.proofs.Common.{◌≡◌, ℕ, ◌+◌, ◌≤◌, Bool, true, false, not, cond, Option, Some, None, List, [], ◌∷◌, ◌++◌, length, filter, count_by, Ordering, refl, sym, ap, ◌∙◌, arith}
-use Rattle.std.specs.Prelude.{is_some, unwrap_or, Result, Ok, Err, OnOk}
+use Rattle.std.specs.Prelude.{IsTrue, is_some, unwrap_or, Result, Ok, Err, OnOk}
 use Rattle.std.specs.Option.{option_or}
 use Rattle.std.specs.BTreeMap.{insert_entry, is_at}
 use Rattle.std.specs.Cmp.{IsTotalOrder, eq_by_cmp_equiv}
@@ -97,6 +97,20 @@ module _ {K S : Type 0} {cmp : K → K → Ordering} (order : IsTotalOrder cmp) 
       by : (former : Option S) → value_at cmp es k ≡ former → with_former cmp (insert_entry cmp es k v) k former ≡ es
       by None p = new_out es k v p
       by (Some former) p = ap (λ (l : List (K × S)). set_value (is_at (cmp k)) l former) (sym (set_out es k former v rises p)) ∙ set_back (is_at (cmp k)) es former v p
+
+  -- the state that was there is set again, at a key whose state was replaced, if a state is set there at all
+  pub swapped_back : (es after last : List (K × S)) (k : K) (v former : S) (found : Bool) (There More : Type 0) → IsStrictlySortedBy cmp (keys_of es) → value_at cmp es k ≡ Some former → after ≡ insert_entry cmp es k v
+      → (IsTrue found → There × (last ≡ set_value (is_at (cmp k)) after former)) → (found ≡ false → (value_at cmp after k ≡ None) × (last ≡ after) × More) → last ≡ es
+  swapped_back es after last k v former found There More rises was put there none = by found there none
+    where
+      same : set_value (is_at (cmp k)) after former ≡ es
+      same = ap (λ (l : List (K × S)). set_value (is_at (cmp k)) l former) put ∙ ap (with_former cmp (insert_entry cmp es k v) k) (sym was) ∙ former_back es k v rises
+
+      by : (b : Bool) → (IsTrue b → There × (last ≡ set_value (is_at (cmp k)) after former)) → (b ≡ false → (value_at cmp after k ≡ None) × (last ≡ after) × More) → last ≡ es
+      by true there none = (there refl).1 ∙ same
+      by false there none =
+          let left = none refl in
+          left.1 ∙ sym (none_set (is_at (cmp k)) after former left.0) ∙ same
 
   undone-push : (notes : List (K × Option S)) (note : K × Option S) (es : List (K × S)) → undone cmp (notes ++ note ∷ []) es ≡ undone cmp notes (with_former cmp es note.0 note.1)
   undone-push [] note es = refl

@@ -1,7 +1,7 @@
 //! Several entries that are put into a map at once where each key has the state that is expected of
 //! it, or none of them.
 
-ghost use Rattle.std.specs.Prelude.{◌≡◌, ◌↔◌, Err, None, IsTrue, IfErr, IfSome, IfNone, count_by, is_none, option_map, slice_get, take, OnOk, OnErr};
+ghost use Rattle.std.specs.Prelude.{◌≡◌, ◌↔◌, Err, None, Some, false, IsTrue, IfErr, IfSome, IfNone, count_by, is_none, option_map, slice_get, take, OnOk, OnErr};
 ghost use Rattle.std.specs.List.Sorted.{IsStrictlySortedBy};
 ghost use Rattle.std.specs.Map.{keys_of};
 ghost use Rattle.std.specs.BTreeMap.{insert_entry};
@@ -97,6 +97,34 @@ fn put_first<K: Codec + Ord, S: Codec>(
     }
 }
 
+/// Swaps a key's state with this one, where it is the expected one, of which there is some. Whether
+/// it was is told; else nothing changes. The key is searched for once where it is.
+fn swap_expected<K: Ord + Drop, S: Eq + Drop>(
+    table: &mut Table<K, S>,
+    key: &K,
+    state: &mut S,
+    expected: &Seen<S>,
+) -> bool
+    requires exact { EqualIsSame S.Eq.eq }
+    requires some { ¬ (expected.now ≡ None) }
+    ensures same { IsTrue result ↔ (value_at K.Ord.cmp table.old key.now ≡ expected.now) }
+    ensures put { IsTrue result
+        → table.new ≡ insert_entry K.Ord.cmp table.old key.now state.old }
+    ensures taken { IsTrue result → Some state.new ≡ expected.now }
+    ensures stays { result ≡ false → table.new ≡ table.old }
+    // The keys rise.
+    ensures ordered { IsStrictlySortedBy K.Ord.cmp (keys_of table.old) }
+{
+    if !table.swap_near(key, expected.place(), state) {
+        return false;
+    }
+    if is_expected(Some(state), expected.state()) {
+        return true;
+    }
+    table.swap_near(key, expected.place(), state);
+    false
+}
+
 /// Gives an entry's key its state where it has the expected one, which the entry takes for its own.
 /// A key that has none, as is expected of it, is given a copy.
 fn exchange_one<K: Codec + Ord, S: Codec + Eq>(
@@ -120,13 +148,11 @@ fn exchange_one<K: Codec + Ord, S: Codec + Eq>(
     if expected.state().is_none() {
         return put_first(table, key, state);
     }
-    if !is_expected(table.get_near(key, expected.place()), expected.state()) {
-        return Err(SetFault::Changed);
+    if swap_expected(table, key, state, expected) {
+        Ok(())
+    } else {
+        Err(SetFault::Changed)
     }
-    if table.swap_near(key, expected.place(), state) {
-        return Ok(());
-    }
-    Err(SetFault::Changed)
 }
 
 /// What is expected of the entry at a place, if something is said of it.

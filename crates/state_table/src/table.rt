@@ -168,24 +168,12 @@ impl<K: Ord, S> Table<K, S> {
         }
     }
 
-    /// The state at a key, with its place, which may be handed to `get_near` and `swap_near`.
+    /// The state at a key, with its place, which may be handed to `swap_near`.
     pub fn find(&self, key: &K) -> Option<(u32, &S)>
         ensures { option_map (λ found. found.1.now) result ≡ value_at K.cmp self.now key.now }
     {
         match self.places.get(key) {
             Some(place) => placed(*place, state_at(&self.slots, *place)),
-            None => None,
-        }
-    }
-
-    /// The state at a key, which may stand at the place that is near.
-    pub fn get_near(&self, key: &K, near: u32) -> Option<&S>
-        ensures value { option_copied result ≡ value_at K.cmp self.now key.now }
-        // The keys rise.
-        ensures ordered { IsStrictlySortedBy K.cmp (keys_of self.now) }
-    {
-        match place_near(&self.places, &self.slots, key, near) {
-            Some(place) => state_at(&self.slots, place),
             None => None,
         }
     }
