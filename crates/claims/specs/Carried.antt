@@ -1,5 +1,5 @@
 -- What a claim carries.
-use Rattle.std.specs.Prelude.{◌≡◌, ◌<◌, ℕ, true, List, [], All, length, Option, Some, None, is_some, unwrap_or}
+use Rattle.std.specs.Prelude.{◌≡◌, ◌<◌, ℕ, true, List, [], ◌∷◌, All, length, Option, Some, None, is_some, unwrap_or}
 use Rattle.std.specs.List.Sorted.{IsStrictlySortedBy}
 use Rattle.std.specs.Map.{keys_of}
 use Rattle.std.specs.declared.cmp.Ordering.{Ordering}
@@ -8,6 +8,8 @@ use Rattle.dataflow_model.specs.Graph.{Meaning}
 use Rattle.job_state.specs.Batch.{Turn, turns_of, sent_by, AreLastStates}
 use Rattle.deliveries.specs.Deliveries.{AreFanned}
 use Rattle.job_state.specs.Sending.{AreLanes}
+use Rattle.claims.specs.declared.parts.Lanes.{Lanes}
+use Rattle.claims.specs.declared.parts.Lanes.TheVariants as lanes
 use Rattle.claims.specs.declared.parts.Operand.{Operand}
 use Rattle.claims.specs.declared.parts.Outcomes.{Outcomes}
 use Rattle.claims.specs.declared.parts.Given.{Given}
@@ -15,6 +17,11 @@ use Rattle.claims.specs.declared.parts.Given.TheVariants as given
 use Rattle.claims.specs.declared.parts.Made.{Made}
 use Rattle.claims.specs.declared.parts.Made.TheVariants as made
 use Rattle.engine_model.specs.AllRules.{AllRules, IsGood}
+
+-- the lanes that are told
+abbrev pub lanes_in : Lanes → List ℕ
+lanes_in (lanes.One lane) = lane ∷ []
+lanes_in (lanes.Each each) = each.items
 
 module _ {K S : Type 0} where
   -- the states that are given, by key
@@ -82,7 +89,7 @@ module _ {R K S O : Type 0} where
       pub sent : outcomes.sent.items ≡ sent_by (turns_given meaning cmp p)
       pub last : AreLastStates meaning.same_key (turns_given meaning cmp p) outcomes.states.items
       pub rising : IsStrictlySortedBy cmp (keys_of outcomes.states.items)
-      pub lanes : AreLanes meaning outcomes.sent.items outcomes.lanes.items
+      pub lanes : AreLanes meaning outcomes.sent.items (lanes_in outcomes.lanes)
       pub fanned : AreFanned outcomes.sent.items outcomes.fanned
 
   -- what was made is what the work means: an operator's outcomes, or the spelling of a sink's record

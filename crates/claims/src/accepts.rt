@@ -86,7 +86,7 @@ fn operate<O: Operator>(
         &mut outcomes.states,
         expected,
         &mut outcomes.sent,
-        &outcomes.lanes,
+        outcomes.lanes.as_slice(),
         &mut outcomes.fanned,
     )
 }

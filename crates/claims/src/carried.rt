@@ -1,15 +1,15 @@
 //! Work, and what was made of it.
 
-ghost use Rattle.std.specs.Prelude.{◌≡◌, ◌++◌, List, IfOk, OnOk};
+ghost use Rattle.std.specs.Prelude.{◌≡◌, ◌++◌, List, map, IfOk, OnOk};
 ghost use Rattle.deliveries.specs.Deliveries.{AreFanned};
 ghost use Rattle.job_state.specs.Sending.{AreLanes};
 ghost use Rattle.claims.specs.declared.parts.Given.TheVariants as Given;
-ghost use Rattle.claims.specs.Carried.{HasItsState, IsOperand, IsOutcome, given_of, records_of};
+ghost use Rattle.claims.specs.Carried.{HasItsState, IsOperand, IsOutcome, given_of, lanes_in, records_of};
 ghost use Rattle.claims.specs.Left.{AllGood, WorksRow, made_of, state_left};
 ghost use Rattle.claims.specs.Places.{given_at, left_at, state_at};
 
 use crate::left::{Place, entries_of, place_of, places_of, put_at, state_of};
-use crate::parts::{Given, Load, Made, Operand, Outcomes};
+use crate::parts::{Given, Lanes, Load, Made, Operand, Outcomes};
 use abs_codec::{Codec, NoMemory};
 use deliveries::{Fanned, Fans};
 use engine_model::Rules;
@@ -137,22 +137,32 @@ fn work_row<O: Operator>(
     Ok(())
 }
 
-/// The lanes of what is sent, where they are asked for, and what is sent is several records.
-fn lanes_of<O: Operator>(
-    alloc: Global,
-    sent: &[(u32, O::Record)],
-    by_lane: bool,
-) -> Result<Vec<u64>, NoMemory>
-    ensures { IfOk result (λ lanes. AreLanes O.meaning sent.now lanes.items) }
+/// The lane of each record that is sent.
+fn each_lane<O: Operator>(alloc: Global, sent: &[(u32, O::Record)]) -> Result<Vec<u64>, NoMemory>
+    ensures { IfOk result (λ lanes. lanes.items ≡ map (λ s. O.meaning.lane s.1) sent.now) }
 {
-    if !by_lane || sent.len() < 2 {
-        return Ok(Vec::new(alloc));
-    }
     let mut lanes = Vec::with_capacity(alloc, sent.len())?;
     for each in sent {
         lanes.push(O::lane(&each.1))?;
     }
     Ok(lanes)
+}
+
+/// The lanes of what is sent, where they are asked for. One takes no memory.
+fn lanes_of<O: Operator>(
+    alloc: Global,
+    sent: &[(u32, O::Record)],
+    by_lane: bool,
+) -> Result<Lanes, NoMemory>
+    ensures { IfOk result (λ lanes. AreLanes O.meaning sent.now (lanes_in lanes)) }
+{
+    if !by_lane {
+        return Ok(Lanes::Each(Vec::new(alloc)));
+    }
+    if sent.len() == 1 {
+        return Ok(Lanes::One(O::lane(&sent[0].1)));
+    }
+    Ok(Lanes::Each(each_lane::<O>(alloc, sent)?))
 }
 
 /// What is sent, put with these channels, if any are asked for.

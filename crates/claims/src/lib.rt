@@ -35,7 +35,7 @@ pub use due::{channel_of, operator_of};
 pub use inputs::input_of;
 pub use leavings::Leavings;
 pub use offers::{offer, offer_behind};
-pub use parts::{Given, Load, Made, Operand, Outcomes, Sheet, Solved};
+pub use parts::{Given, Lanes, Load, Made, Operand, Outcomes, Sheet, Solved};
 pub use rooms::Room;
 pub use rows::accept_rows;
 pub use states::States;

@@ -169,7 +169,7 @@ fn load_of<O: Operator>(
         → IsCarried O.meaning O.Key.cmp entries load) }
 {
     let operand = operand_of(alloc, attempt, operator, task, channel, count, room)?;
-    let by_lane = count > 1 && asks_lanes(graph, task);
+    let by_lane = asks_lanes(graph, task);
     let fans = if count > 1 {
         Fans::of::<O>(alloc, graph, task)?
     } else {

@@ -9,6 +9,7 @@ use deliveries::{Fanned, Fans};
 use std::alloc::Global;
 use std::marker::Model;
 use std::mem::replace;
+use std::slice::from_ref;
 
 /// What an operator works: the first records of an input, and under each of their keys the present
 /// state, `None` where the key has none yet.
@@ -19,6 +20,28 @@ pub struct Operand<O, K: Ord, S, R> {
     pub rows: Vec<R>,
 }
 
+/// The lanes of what is sent, one for each record, or none.
+#[derive(Drop)]
+pub enum Lanes {
+    /// That of one record.
+    One(u64),
+    Each(Vec<u64>),
+}
+
+impl Lanes {
+    ghost use Rattle.claims.specs.Carried.{lanes_in};
+
+    /// The lanes.
+    pub(crate) fn as_slice(&self) -> &[u64]
+        ensures { result.now ≡ lanes_in self.now }
+    {
+        match self {
+            Lanes::One(lane) => from_ref(lane),
+            Lanes::Each(lanes) => lanes,
+        }
+    }
+}
+
 /// What an operator makes of its records, one after another: the last state of each key, by rising
 /// keys, and all records that are sent, each with its port; their lanes, or none of them; and they
 /// may be put with their channels already.
@@ -26,7 +49,7 @@ pub struct Operand<O, K: Ord, S, R> {
 pub struct Outcomes<K, S, R> {
     pub states: Vec<(K, S)>,
     pub sent: Vec<(u32, R)>,
-    pub lanes: Vec<u64>,
+    pub lanes: Lanes,
     pub fanned: Option<Fanned<R>>,
 }
 
@@ -67,7 +90,7 @@ impl<O: Drop, K: Ord + Drop, S: Drop, R: Drop> Load<O, K, S, R> {
         let outcomes = Outcomes {
             states: Vec::new(alloc),
             sent: Vec::new(alloc),
-            lanes: Vec::new(alloc),
+            lanes: Lanes::Each(Vec::new(alloc)),
             fanned: None,
         };
         let sheet = Sheet {

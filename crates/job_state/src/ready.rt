@@ -8,7 +8,7 @@ use crate::fans::{open_ports, reserve_fans, reserve_known};
 use crate::sending::{push_all, release_all, reserve_deliveries};
 use abs_codec::NoMemory;
 use channels::{Channel, Item};
-use deliveries::{Fanned, run_of, run_target, sole_target};
+use deliveries::{Fanned, run_of, run_target};
 use job_graph::Graph;
 use operators::Operator;
 use std::alloc::Global;
@@ -145,22 +145,29 @@ fn reserve_rows<O: Operator>(
     reserve_run(channels, number, waiting)
 }
 
-/// The one channel that what a task sends goes into, where that is one record; `None` where it is
-/// not, or where there is no such channel.
-fn target_of_one<O: Operator>(graph: &Graph, task: u32, sent: &[(u32, O::Record)]) -> Option<u32>
+/// The one channel that what a task sends goes into, where that is one record, sent on a port whose
+/// channels are one run; `None` where it is otherwise. Its lane may be known.
+fn target_of_one<O: Operator>(
+    graph: &Graph,
+    task: u32,
+    sent: &[(u32, O::Record)],
+    lanes: &[u64],
+) -> Option<u32>
+    requires lanes { AreLanes O.meaning sent.now lanes.now }
     ensures { IfSome result (λ number. IsOneInto O.meaning graph.now task number sent.now) }
 {
-    if sent.len() == 1 {
-        let (port, row) = &sent[0];
-        sole_target::<O>(graph, task, *port, row)
-    } else {
-        None
+    if sent.len() != 1 {
+        return None;
     }
+    let (port, row) = &sent[0];
+    let numbers = run_of(graph, task, *port)?;
+    let known = lane_at(lanes, 0);
+    Some(run_target::<O>(graph, task, *port, numbers, row, known))
 }
 
 /// Takes the room for what a task sends, which the answer then holds in place of the list. Where
-/// memory is refused, the list may have lost it. The lanes of several records may be known, and
-/// they may be put with their channels already.
+/// memory is refused, the list may have lost it. The lanes of the records may be known, and they
+/// may be put with their channels already.
 pub(crate) fn make_ready<O: Operator>(
     alloc: Global,
     channels: &mut [Channel<O::Record>],
@@ -178,7 +185,7 @@ pub(crate) fn make_ready<O: Operator>(
     ensures room { IfOk result (λ ready. HasRoom channels.new (puts_of ready)) }
     ensures same { contents_items channels.new ≡ contents_items channels.old }
 {
-    if let Some(number) = target_of_one::<O>(graph, task, sent) {
+    if let Some(number) = target_of_one::<O>(graph, task, sent, lanes) {
         reserve_one(channels, number)?;
         if let Some((_, row)) = sent.pop() {
             return Ok(Ready::One(number, row));

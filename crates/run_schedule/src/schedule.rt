@@ -202,6 +202,7 @@ impl Schedule {
         requires { 1 ≤ batch }
     {
         self.every = every;
+        self.round.start(every);
         self.batch = batch.min(MOST_AT_ONCE);
         for node in self.nodes.iter_mut() {
             node.enough = node.enough_of(node.spread, self.batch as usize);
@@ -599,7 +600,9 @@ impl Schedule {
     /// The next source has injected: now, or it had before.
     pub(crate) fn injected(&mut self, task: u32, is_new: bool) {
         self.is_searched = false;
-        self.round.injected();
+        if self.round.injected() {
+            self.finished = 0;
+        }
         if is_new {
             self.round.copied(task);
             self.mark_ends(task);

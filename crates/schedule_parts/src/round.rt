@@ -1,6 +1,7 @@
 //! How far the checkpoint is.
 
 use std::collections::VecDeque;
+use std::mem::replace;
 
 /// What a checkpoint needs next.
 #[derive(Clone, Copy, PartialEq, Eq, Debug)]
@@ -129,6 +130,12 @@ impl Round {
         self.steps > 1
     }
 
+    /// A run begins, with so many records between two checkpoints: the first comes when there were
+    /// as many as its barriers ask for.
+    pub fn start(&mut self, every: u64) {
+        self.records_waited = self.records_between(0, every);
+    }
+
     /// No checkpoint is pending.
     pub fn clear(&mut self) {
         self.stage = Stage::None;
@@ -200,10 +207,10 @@ impl Round {
         let _ = self.to_persist.push_back(task);
     }
 
-    /// The first source has injected, now or before.
-    pub fn injected(&mut self) {
-        self.is_injected = true;
+    /// The next source has injected, now or before. Whether it is the first is told.
+    pub fn injected(&mut self) -> bool {
         let _ = self.to_inject.pop_front();
+        !replace(&mut self.is_injected, true)
     }
 
     /// The first copy, which has so many pieces, is written elsewhere.
@@ -241,7 +248,7 @@ impl Round {
 
     /// Whether barriers wait for more records, of which so many were worked since the trigger.
     pub fn awaits_records(&self, worked: u64) -> bool {
-        worked < self.records_waited && !self.to_inject.is_empty()
+        worked < self.records_waited && self.is_pending() && !self.is_injected
     }
 
     /// Whether a record has its turn before what is needed next. It has had one where it is asked.
@@ -264,9 +271,7 @@ impl Round {
     pub fn completed(&mut self, every: u64) {
         let is_late = every > 0 && self.pieces.saturating_mul(RECORDS_A_PIECE) >= every;
         self.steps = if is_late { MOST_STEPS } else { 1 };
-        self.records_waited = self
-            .records_for_copies()
-            .saturating_add(self.records_for_barriers(every));
+        self.records_waited = self.records_between(self.records_for_copies(), every);
         self.stage = Stage::Complete;
         self.sink = 0;
         self.end_if_committed();
@@ -276,12 +281,19 @@ impl Round {
         self.pieces_elsewhere.saturating_mul(RECORDS_FOR_A_PIECE)
     }
 
-    /// Those that come between two triggers count.
-    fn records_for_barriers(&self, every: u64) -> u64 {
+    /// How many records barriers wait for, where copies ask for so many between two checkpoints:
+    /// those that come before the trigger count.
+    fn records_between(&self, for_copies: u64, every: u64) -> u64 {
+        for_copies
+            .saturating_add(self.records_for_barriers())
+            .saturating_sub(every)
+    }
+
+    fn records_for_barriers(&self) -> u64 {
         let together = self.channels as u64 / CHANNELS_TOGETHER;
         let records = together.saturating_mul(RECORDS_FOR_BARRIERS);
         let logged = if self.is_cyclic { RECORDS_FOR_LOGS } else { 0 };
-        records.saturating_add(logged).saturating_sub(every)
+        records.saturating_add(logged)
     }
 
     /// The next sink has committed.

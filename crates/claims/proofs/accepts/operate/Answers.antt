@@ -58,7 +58,7 @@ operate_some-requires g c =
                             (
                               made.sent ∙ sym (ap (λ (ts : List (Turn g.row.O-Record.Denot g.row.O-Key.Denot g.row.O-State.Denot)). sent_by ts) is),
                               (
-                                subst (λ ls. AreLanes meaning c.args.outcomes.now.sent.items ls) (sym c.deref-2.ensures.value) made.lanes,
+                                subst (λ ls. AreLanes meaning c.args.outcomes.now.sent.items ls) (sym c.as_slice.ensures) made.lanes,
                                 made.fanned,
                               ),
                             ),

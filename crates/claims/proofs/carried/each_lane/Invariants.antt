@@ -1,5 +1,5 @@
 use Rattle.std.proofs.Common.{◌≡◌, map, take}
-use Rattle.claims.proofs.carried.lanes_of.Given as goal
+use Rattle.claims.proofs.carried.each_lane.Given as goal
 
 -- the lanes of what was sent so far
 abbrev pub invariant-loop-each : goal.invariant-loop-each
