@@ -22,7 +22,7 @@ ghost use Rattle.engine_model.specs.View.{job_of, devices_of};
 ghost use Rattle.engine_model.specs.declared.fault.CoreFault.TheVariants as CoreFault;
 ghost use Rattle.engine_plain.specs.Plain.{StepsIfOk, Stays};
 ghost use Rattle.engine.specs.Claimed.{StepsSoMany};
-ghost use Rattle.engine.specs.Readers.{HasItem};
+ghost use Rattle.engine.specs.Readers.{HasHead};
 ghost use Rattle.engine.specs.Reading.{ReadsSome};
 ghost use Rattle.engine.specs.Running.{IsCounted};
 ghost use Rattle.dataflow_core.specs.Calls.{Fails, Restarts, Reads, Injects, Triggers, Persists, PersistsSome, Completes, Commits, Appends};
@@ -335,11 +335,11 @@ impl<O: Operator, S: SnapshotStore, X: Transactions, P: Partitions<Record = O::R
         engine.into_durable()
     }
 
-    /// Whether something stands in a channel: a record, or a barrier.
-    pub fn has_item(&self, channel: u32) -> bool
-        ensures { IsTrue result ↔ MatchOption self.now.engine.held ⊥ (λ h. HasItem h channel) }
+    /// Whether a record stands first in a channel.
+    pub fn has_head(&self, channel: u32) -> bool
+        ensures { IsTrue result ↔ MatchOption self.now.engine.held ⊥ (λ h. HasHead h channel) }
     {
-        self.engine.has_item(channel)
+        self.engine.has_head(channel)
     }
 
     /// How many sink subtasks there are.

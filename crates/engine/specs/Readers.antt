@@ -1,6 +1,5 @@
 -- What is asked of a job.
 use Rattle.std.specs.Prelude.{◌≡◌, ℕ, Bool, false, Option, Some, None, slice_get}
-use Rattle.channels.specs.declared.item.Item.{Item}
 use Rattle.channels.specs.declared.item.Item.TheVariants.{Record}
 use Rattle.job_state.specs.Held.{Held, came_at}
 use Rattle.job_state.specs.Sending.{items_at}
@@ -9,10 +8,6 @@ module _ {R K S : Type 0} where
   -- a record stands first in the channel
   abbrev pub HasHead : Held R K S → ℕ → Type 0
   HasHead h channel = (row : R) × (slice_get (items_at h.channels channel) 0 ≡ Some (Record row))
-
-  -- something stands first in the channel: a record, or a barrier
-  abbrev pub HasItem : Held R K S → ℕ → Type 0
-  HasItem h channel = (item : Item R) × (slice_get (items_at h.channels channel) 0 ≡ Some item)
 
   -- the number of the checkpoint that is pending, if the job runs
   abbrev pub pending_in : Option (Held R K S) → Option ℕ

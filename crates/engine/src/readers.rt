@@ -2,7 +2,7 @@
 
 ghost use Rattle.std.specs.Prelude.{◌≡◌, ◌↔◌, IsTrue, MatchOption};
 ghost use Rattle.engine_model.specs.Calls.{HasNext};
-ghost use Rattle.engine.specs.Readers.{pending_in, came_in, HasHead, HasItem};
+ghost use Rattle.engine.specs.Readers.{pending_in, came_in, HasHead};
 
 use crate::calls::Engine;
 use channels::Item;
@@ -75,19 +75,6 @@ impl<O: Operator, S: SnapshotStore, X: Transactions, P: Partitions<Record = O::R
         match attempt.head(channel) {
             Some(Item::Record(_)) => true,
             Some(Item::Barrier(_)) => false,
-            None => false,
-        }
-    }
-
-    /// Whether something stands in a channel: a record, or a barrier.
-    pub fn has_item(&self, channel: u32) -> bool
-        ensures { IsTrue result ↔ MatchOption self.now.held ⊥ (λ h. HasItem h channel) }
-    {
-        let Some(attempt) = &self.attempt else {
-            return false;
-        };
-        match attempt.head(channel) {
-            Some(_) => true,
             None => false,
         }
     }

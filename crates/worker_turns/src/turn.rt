@@ -172,16 +172,17 @@ fn work_ahead<O: Operator, S: SnapshotStore, X: Transactions, P: Partitions<Reco
     }
 }
 
-/// Those that a task sends to are told of the channels in which something stands.
+/// Those that a task sends to are told of the channels in which a record stands, or a barrier may.
 fn tell<O: Operator, S: SnapshotStore, X: Transactions, P: Partitions<Record = O::Record>>(
     core: &Core<O, S, X, P>,
     turns: &mut Turns,
     task: u32,
 ) -> Next {
+    let awaits_barriers = turns.awaits_barriers();
     let mut told: usize = 0;
     for number in 0..turns.ends_of(task) {
         if let Some(end) = turns.end_of(task, number) {
-            if core.has_item(end.channel) {
+            if core.has_head(end.channel) || awaits_barriers {
                 turns.mark(end.place);
                 told = told.saturating_add(1);
             }
