@@ -1,7 +1,7 @@
 //! Claims.
 
 ghost use Rattle.std.specs.Prelude.{◌≡◌, ◌<◌, ◌≤◌, ◌↔◌, ◌++◌, ◌∷◌, [], ℕ, List, length, IsTrue, OnOk, IfSome, IfNone, IfErr};
-ghost use Rattle.std.specs.List.{All};
+ghost use Rattle.std.specs.List.{All, remove};
 ghost use Rattle.engine_model.specs.declared.fault.CoreFault.TheVariants as CoreFault;
 ghost use Rattle.dataflow_core.specs.Claims.{IsBusy, IsClaimAt, claims_left};
 ghost use Rattle.dataflow_core.specs.CoreState.{claims_after};
@@ -68,6 +68,21 @@ pub(crate) fn keep_claim(claims: &mut Vec<Claim>, claim: Claim) -> Result<(), Co
     Ok(())
 }
 
+/// Takes a claim away. The last, which is the only one where one worker runs, is taken with the
+/// others left where they lie.
+fn take_out(claims: &mut Vec<Claim>, at: usize)
+    requires { at < length claims.old.items }
+    ensures claims { claims.new.items ≡ remove claims.old.items at }
+    ensures below { (bound : ℕ) → All (λ claim. claim.serial < bound) claims.old.items
+        → All (λ claim. claim.serial < bound) claims.new.items }
+{
+    if at + 1 == claims.len() {
+        let _ = claims.pop();
+    } else {
+        let _ = claims.remove(at);
+    }
+}
+
 /// Ends a claim, but where the result was a wrong one.
 pub(crate) fn end_claim(claims: &mut Vec<Claim>, at: usize, outcome: &Result<(), CoreFault>)
     requires { at < length claims.old.items }
@@ -78,8 +93,6 @@ pub(crate) fn end_claim(claims: &mut Vec<Claim>, at: usize, outcome: &Result<(),
 {
     match outcome {
         Err(CoreFault::WrongResult) => {}
-        _ => {
-            let _ = claims.remove(at);
-        }
+        _ => take_out(claims, at),
     }
 }
