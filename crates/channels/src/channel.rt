@@ -22,13 +22,14 @@ const ROOM_AT_ONCE: usize = 7;
 #[derive(Drop)]
 pub struct Channel<R: Drop> {
     records: VecDeque<R>,
-    barriers: VecDeque<SpacedBarrier>,
     /// How many records stand behind the last barrier.
     behind: usize,
     /// How many items more each queue takes without memory.
     spare: usize,
     /// For how many items of these room was taken.
     room: usize,
+    /// (Last, since a record that is sent doesn't ask for it.)
+    barriers: VecDeque<SpacedBarrier>,
 }
 
 impl<R: Drop> Model for Channel<R> {
@@ -58,10 +59,10 @@ impl<R: Drop> Channel<R> {
     {
         Channel {
             records: VecDeque::new(alloc),
-            barriers: VecDeque::new(alloc),
             behind: 0,
             spare: 0,
             room: 0,
+            barriers: VecDeque::new(alloc),
         }
     }
 

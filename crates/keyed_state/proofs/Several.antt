@@ -112,6 +112,17 @@ module _ {K S : Type 0} {cmp : K → K → Ordering} (order : IsTotalOrder cmp) 
           let left = none refl in
           left.1 ∙ sym (none_set (is_at (cmp k)) after former left.0) ∙ same
 
+  -- and whoever set it has his own again
+  pub handed_back : (es after : List (K × S)) (k : K) (v own : S) (found : Bool) (Last Stays More : Type 0) → after ≡ insert_entry cmp es k v → (IsTrue found → (value_at cmp after k ≡ Some own) × Last) → (found ≡ false → (value_at cmp after k ≡ None) × Stays × More) → own ≡ v
+  handed_back es after k v own found Last Stays More put there none = by found there none
+    where
+      seen : value_at cmp after k ≡ Some v
+      seen = ap (λ (l : List (K × S)). value_at cmp l k) put ∙ value_at-insert_entry order es k v k ∙ ap (λ (b : Bool). cond b (Some v) (value_at cmp es k)) ((eq_by_cmp_equiv order).refl k)
+
+      by : (b : Bool) → (IsTrue b → (value_at cmp after k ≡ Some own) × Last) → (b ≡ false → (value_at cmp after k ≡ None) × Stays × More) → own ≡ v
+      by true there none = ap (λ (o : Option S). unwrap_or o own) (sym (there refl).0 ∙ seen)
+      by false there none = absurd (false≢true (ap is_some (sym (none refl).0 ∙ seen)))
+
   undone-push : (notes : List (K × Option S)) (note : K × Option S) (es : List (K × S)) → undone cmp (notes ++ note ∷ []) es ≡ undone cmp notes (with_former cmp es note.0 note.1)
   undone-push [] note es = refl
   undone-push (first ∷ notes) note es = ap (λ (l : List (K × S)). with_former cmp l first.0 first.1) (undone-push notes note es)

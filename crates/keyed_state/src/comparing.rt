@@ -111,7 +111,7 @@ fn swap_expected<K: Ord + Drop, S: Eq + Drop>(
     ensures put { IsTrue result
         → table.new ≡ insert_entry K.Ord.cmp table.old key.now state.old }
     ensures taken { IsTrue result → Some state.new ≡ expected.now }
-    ensures stays { result ≡ false → table.new ≡ table.old }
+    ensures stays { result ≡ false → (table.new ≡ table.old) × (state.new ≡ state.old) }
     // The keys rise.
     ensures ordered { IsStrictlySortedBy K.Ord.cmp (keys_of table.old) }
 {

@@ -57,6 +57,21 @@ pub(crate) fn state_at<K, S>(slots: &[Slot<K, S>], place: u32) -> Option<&S>
     }
 }
 
+/// A key's state at a place, which is borne out by the key that stands there: whoever hands the
+/// place to `swap_near` afterwards finds that key in a cache.
+fn state_of<'a, K: Ord, S>(slots: &'a [Slot<K, S>], place: u32, key: &K) -> Option<&'a S>
+    ensures { (own : K) (state : S) → slice_get slots.now place
+        ≡ Some (record { key = own; state = Some state }) → IsTrue (is_at (K.cmp key.now) own)
+        → option_copied result ≡ Some state }
+{
+    let slot = slots.get(place as usize)?;
+    if key.cmp(&slot.key) == Ordering::Equal {
+        slot.state.as_ref()
+    } else {
+        None
+    }
+}
+
 /// A state with its place.
 fn placed<S>(place: u32, state: Option<&S>) -> Option<(u32, &S)>
     ensures { option_map (λ found. found.1.now) result ≡ option_copied state.entry }
@@ -173,7 +188,7 @@ impl<K: Ord, S> Table<K, S> {
         ensures { option_map (λ found. found.1.now) result ≡ value_at K.cmp self.now key.now }
     {
         match self.places.get(key) {
-            Some(place) => placed(*place, state_at(&self.slots, *place)),
+            Some(place) => placed(*place, state_of(&self.slots, *place, key)),
             None => None,
         }
     }
