@@ -1,7 +1,7 @@
 //! Several entries that are put into a map at once where each key has the state that is expected of
 //! it, or none of them.
 
-ghost use Rattle.std.specs.Prelude.{◌≡◌, ◌↔◌, Err, None, Some, false, IsTrue, IfErr, IfSome, IfNone, count_by, is_none, option_map, slice_get, take, OnOk, OnErr};
+ghost use Rattle.std.specs.Prelude.{◌≡◌, ◌↔◌, ◌∷◌, [], length, Err, None, Some, false, IsTrue, IfErr, IfSome, IfNone, count_by, is_none, option_map, slice_get, take, OnOk, OnErr};
 ghost use Rattle.std.specs.List.Sorted.{IsStrictlySortedBy};
 ghost use Rattle.std.specs.Map.{keys_of};
 ghost use Rattle.std.specs.BTreeMap.{insert_entry};
@@ -74,23 +74,22 @@ pub(crate) fn count_none<S>(states: &[Seen<S>]) -> usize
     count
 }
 
-/// Gives a key a copy of this state, where it has none: it is searched for once.
+/// Gives a key this state, where it has none: it is searched for once.
 #[inline(never)]
 fn put_first<K: Codec + Ord, S: Codec>(
     table: &mut Table<K, S>,
-    key: &K,
-    state: &S,
+    key: K,
+    state: S,
 ) -> Result<(), SetFault>
-    ensures ok { OnOk result (table.new ≡ insert_entry K.Ord.cmp table.old key.now state.now) }
-    ensures none { OnOk result (value_at K.Ord.cmp table.old key.now ≡ None) }
+    ensures ok { OnOk result (table.new ≡ insert_entry K.Ord.cmp table.old key state) }
+    ensures none { OnOk result (value_at K.Ord.cmp table.old key ≡ None) }
     ensures changed { result ≡ Err SetFault.Changed
-        → ¬ (value_at K.Ord.cmp table.old key.now ≡ None) }
+        → ¬ (value_at K.Ord.cmp table.old key ≡ None) }
     ensures err { OnErr result (table.new ≡ table.old) }
     // The keys rise.
     ensures ordered { OnOk result (IsStrictlySortedBy K.Ord.cmp (keys_of table.old)) }
 {
-    let (own, first) = (key.copied()?, state.copied()?);
-    if table.add_new(own, first)? {
+    if table.add_new(key, state)? {
         Ok(())
     } else {
         Err(SetFault::Changed)
@@ -146,7 +145,7 @@ fn exchange_one<K: Codec + Ord, S: Codec + Eq>(
 {
     let (key, state) = entry;
     if expected.state().is_none() {
-        return put_first(table, key, state);
+        return put_first(table, key.copied()?, state.copied()?);
     }
     if swap_expected(table, key, state, expected) {
         Ok(())
@@ -221,6 +220,36 @@ fn exchange_back<K: Codec + Ord, S: Drop>(
     }
 }
 
+/// Whether there is one entry, of whose key no state is expected.
+fn is_first<K, S>(entries: &[(K, S)], expected: &[Seen<S>]) -> bool
+    ensures { IsTrue result
+        → (length entries.now ≡ 1) × (expected.now ≡ None ∷ []) }
+{
+    match expected {
+        [only] => entries.len() == 1 && only.state().is_none(),
+        _ => false,
+    }
+}
+
+/// Gives the only key its state, where it has none: neither is copied.
+fn put_only<K: Codec + Ord, S: Codec>(
+    table: &mut Table<K, S>,
+    entries: &mut Vec<(K, S)>,
+) -> Result<(), SetFault>
+    requires { length entries.old.items ≡ 1 }
+    ensures ok { OnOk result (table.new ≡ put_over K.Ord.cmp table.old entries.old.items) }
+    ensures none { OnOk result (HaveStates K.Ord.cmp table.old (keys_of entries.old.items)
+        (None ∷ [])) }
+    ensures changed { result ≡ Err SetFault.Changed
+        → ¬ HaveStates K.Ord.cmp table.old (keys_of entries.old.items) (None ∷ []) }
+    ensures err { OnErr result (table.new ≡ table.old) }
+{
+    match entries.pop() {
+        Some((key, state)) => put_first(table, key, state),
+        None => Err(SetFault::Memory),
+    }
+}
+
 /// Gives each of these keys, which rise, its state, or none of them where memory is refused or a
 /// state is not the expected one. What is left in the list is to be let go.
 #[inline(never)]
@@ -239,6 +268,9 @@ fn exchange_all<K: Codec + Ord, S: Codec + Eq>(
         → ¬ HaveStates K.Ord.cmp table.old (keys_of entries.old.items) expected.now }
     ensures err { OnErr result (table.new ≡ table.old) }
 {
+    if is_first(entries, expected) {
+        return put_only(table, entries);
+    }
     if let Err((count, fault)) = exchange_each(table, entries, expected) {
         entries.truncate(count);
         exchange_back(table, entries, expected);

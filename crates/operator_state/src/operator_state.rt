@@ -29,7 +29,7 @@ use task_part::{write_count, write_logs};
 const ROOM: usize = 1_024;
 
 /// Fewer entries are not handed out: to spell them takes less than to hand them over.
-const FEW: usize = 256;
+const FEW: usize = 16;
 
 /// The states of an operator by key, and its copy for the pending checkpoint.
 #[derive(Drop)]

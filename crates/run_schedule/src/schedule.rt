@@ -645,11 +645,10 @@ impl Schedule {
         node.is_some_and(|node| !node.is_busy)
     }
 
-    /// A worker writes the next copy, a task's, which has so many pieces. The task works no record
-    /// meanwhile.
-    pub(crate) fn handed_out(&mut self, worker: u32, task: u32, pieces: u64) -> HandedOut {
+    /// A worker writes so many entries of the next copy, a task's, which works no record meanwhile.
+    pub(crate) fn handed_out(&mut self, worker: u32, task: u32, entries: u64) -> HandedOut {
         self.is_searched = false;
-        self.round.handed_out(pieces);
+        self.round.handed_out(entries);
         self.claims = self.claims.saturating_add(1);
         if let Some(node) = self.nodes.get_mut(task as usize) {
             node.worker = worker;

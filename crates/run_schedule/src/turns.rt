@@ -256,9 +256,9 @@ impl Turns {
         self.schedule.may_hand_out(task)
     }
 
-    /// A worker writes this copy, which has so many pieces, with nothing held.
-    pub fn handed_out(&mut self, worker: u32, task: u32, pieces: u64) -> HandedOut {
-        self.schedule.handed_out(worker, task, pieces)
+    /// A worker writes so many entries of this copy with nothing held.
+    pub fn handed_out(&mut self, worker: u32, task: u32, entries: u64) -> HandedOut {
+        self.schedule.handed_out(worker, task, entries)
     }
 
     /// A worker has written a copy, as far as there was memory for that.

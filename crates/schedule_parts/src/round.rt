@@ -35,15 +35,18 @@ const PIECES_AT_ONCE: u64 = 64;
 /// A copy is late where it has a piece or more for so many records between two checkpoints.
 const RECORDS_A_PIECE: u64 = 12;
 
-/// Between two checkpoints so many records are worked, at least, for each piece of the former that
-/// was written elsewhere: two for each of its keys.
-const RECORDS_FOR_A_PIECE: u64 = 512;
+/// A piece has so many entries.
+const ENTRIES_A_PIECE: u64 = 256;
+
+/// Between two checkpoints so many records are worked, at least, for each key of the former whose
+/// state was written elsewhere.
+const RECORDS_FOR_A_KEY: u64 = 2;
 
 /// And in all so many for so many channels, since a checkpoint sends a barrier on each: 48 each.
-const RECORDS_FOR_BARRIERS: u64 = 3_072;
+const RECORDS_FOR_BARRIERS: u64 = 384;
 
 /// So many channels. Fewer do not count.
-const CHANNELS_TOGETHER: u64 = 64;
+const CHANNELS_TOGETHER: u64 = 8;
 
 /// And so many where there are back-edges, since a checkpoint logs what waits in their channels,
 /// however many these are.
@@ -76,8 +79,8 @@ pub struct Round {
     steps_left: u64,
     /// How many pieces of copies were written behind which more is left.
     pieces: u64,
-    /// How many of these were written elsewhere.
-    pieces_elsewhere: u64,
+    /// How many entries were written elsewhere.
+    entries_elsewhere: u64,
     /// Whether the first copy is back from elsewhere, and was not seen since.
     is_back: bool,
     /// The first barrier waits until so many records are worked after the trigger, so that writing
@@ -113,7 +116,7 @@ impl Round {
             steps: 1,
             steps_left: 0,
             pieces: 0,
-            pieces_elsewhere: 0,
+            entries_elsewhere: 0,
             is_back: false,
             records_waited: 0,
             persisted: 0,
@@ -152,7 +155,7 @@ impl Round {
         self.is_injected = false;
         self.steps_left = 0;
         self.pieces = 0;
-        self.pieces_elsewhere = 0;
+        self.entries_elsewhere = 0;
         self.is_back = false;
         self.persisted = 0;
         for &task in sources {
@@ -213,15 +216,15 @@ impl Round {
         !replace(&mut self.is_injected, true)
     }
 
-    /// The first copy, which has so many pieces, is written elsewhere.
-    pub fn handed_out(&mut self, pieces: u64) {
+    /// So many entries of the first copy are written elsewhere.
+    pub fn handed_out(&mut self, entries: u64) {
         self.steps_left = 0;
-        self.pieces = self.pieces.saturating_add(pieces);
-        self.pieces_elsewhere = self.pieces_elsewhere.saturating_add(pieces);
+        self.pieces = self.pieces.saturating_add(entries / ENTRIES_A_PIECE);
+        self.entries_elsewhere = self.entries_elsewhere.saturating_add(entries);
         let _ = self.to_persist.pop_front();
     }
 
-    /// Pieces of a copy were written elsewhere, and it comes first.
+    /// Entries of a copy were written elsewhere, and it comes first.
     pub fn handed_in(&mut self, task: u32) {
         self.is_back = true;
         let _ = self.to_persist.push_front(task);
@@ -241,9 +244,9 @@ impl Round {
         self.is_back = false;
     }
 
-    /// Whether pieces of this checkpoint's copies were written elsewhere.
+    /// Whether entries of this checkpoint's copies were written elsewhere.
     pub fn is_shared(&self) -> bool {
-        self.pieces_elsewhere > 0
+        self.entries_elsewhere > 0
     }
 
     /// Whether barriers wait for more records, of which so many were worked since the trigger.
@@ -278,7 +281,7 @@ impl Round {
     }
 
     fn records_for_copies(&self) -> u64 {
-        self.pieces_elsewhere.saturating_mul(RECORDS_FOR_A_PIECE)
+        self.entries_elsewhere.saturating_mul(RECORDS_FOR_A_KEY)
     }
 
     /// How many records barriers wait for, where copies ask for so many between two checkpoints:

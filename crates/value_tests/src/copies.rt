@@ -85,7 +85,7 @@ fn what_the_task_has_spelled_itself_is_not_taken(rt: HostRuntime) -> Result<(), 
 
 #[test]
 fn few_keys_are_not_handed_out(rt: HostRuntime) -> Result<(), Fail> {
-    assert!(&rt; copied(rt.alloc(), 255)?.hand_out(300).is_none());
-    assert!(&rt; copied(rt.alloc(), 300)?.hand_out(255).is_none());
+    assert!(&rt; copied(rt.alloc(), 15)?.hand_out(300).is_none());
+    assert!(&rt; copied(rt.alloc(), 300)?.hand_out(15).is_none());
     Ok(())
 }

@@ -243,8 +243,7 @@ fn hand_out<O: Operator, S: SnapshotStore, X: Transactions, P: Partitions<Record
         return None;
     }
     let work = core.hand_out(task, MOST_HANDED_OUT)?;
-    let pieces = work.entries() as u64 / ENTRIES_A_TURN as u64;
-    let copy = turns.handed_out(worker, task, pieces);
+    let copy = turns.handed_out(worker, task, work.entries() as u64);
     Some(Spelling { copy, work })
 }
 

@@ -1,4 +1,4 @@
-use Rattle.std.proofs.Common.{◌≡◌, ◌++◌, ◌∷◌, [], List, Option, Some, None, slice_get, length, arith, ap, sym, ◌∙◌}
+use Rattle.std.proofs.Common.{◌≡◌, List, Some, None, slice_get, length, arith, ap, sym, ◌∙◌}
 use Rattle.keyed_state.specs.Putting.{note_of, notes_of, undone, with_former}
 use Rattle.keyed_state.proofs.Exchanged.{notes_last, notes_beyond}
 use Rattle.keyed_state.proofs.Several.{last_undone}

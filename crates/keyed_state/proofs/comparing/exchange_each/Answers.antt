@@ -1,10 +1,9 @@
-use Rattle.std.proofs.Common.{◌≡◌, ◌↔◌, ◌∷◌, ◌+◌, ◌<◌, arith, List, Option, length, drop, get_or, Err, slice_get, Some, refl, sym, ap, subst, ◌∙◌}
+use Rattle.std.proofs.Common.{◌≡◌, ◌↔◌, ◌∷◌, ◌+◌, ◌<◌, arith, List, Option, length, drop, get_or, Err, slice_get, Some, sym, ap, subst, ◌∙◌}
 use Rattle.std.specs.List.Sorted.{IsStrictlySortedBy}
 use Rattle.std.specs.Map.{keys_of}
 use Rattle.std.proofs.lemmas.Option.{slice_get-get_or}
 use Rattle.keyed_state.specs.Comparing.{HaveStates}
 use Rattle.keyed_state.specs.Overlay.{put_over}
-use Rattle.keyed_state.specs.Putting.{note_of}
 use Rattle.keyed_state.proofs.Compared.{one_differs, one_exchanged, others_rise}
 use Rattle.keyed_state.proofs.Exchanged.{dropped, at_first, exchanged_undone, rest_stays}
 use Rattle.keyed_state.proofs.comparing.exchange_each.Goals as goal
