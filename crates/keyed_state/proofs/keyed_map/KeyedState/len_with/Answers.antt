@@ -1,4 +1,4 @@
-use Rattle.std.proofs.Common.{arith, ap, length, ◌≡◌, ◌∙◌}
+use Rattle.std.proofs.Common.{arith, ap, length, ◌≡◌}
 use Rattle.keyed_state.proofs.Laid.{length-put_over}
 use Rattle.keyed_state.proofs.keyed_map.KeyedState.len_with.Goals as goal
 

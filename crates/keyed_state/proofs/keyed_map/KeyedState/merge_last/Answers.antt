@@ -1,4 +1,4 @@
-use Rattle.std.proofs.Common.{◌≡◌, ◌∙◌, ◌-◌, ◌++◌, [], ◌∷◌, List, Some, None, if◌then◌else◌, length, slice_get, sym, ap, ap₂, refl}
+use Rattle.std.proofs.Common.{◌≡◌, ◌∙◌, ◌-◌, Some, None, if◌then◌else◌, length, sym, ap, ap₂, refl}
 use Rattle.keyed_state.specs.KeyedMap.{KeyedMap}
 use Rattle.keyed_state.specs.Overlay.{put_over}
 use Rattle.keyed_state.proofs.Laid.{merged_last, none_frozen}
