@@ -16,6 +16,10 @@ use job_graph::{Graph, Route};
 use operators::Operator;
 use std::alloc::Global;
 
+/// Room for what goes into channels is taken at once for so many of these at most: of a hash edge
+/// few take a record.
+const ROOM_AT_ONCE: usize = 8;
+
 /// Whether a route takes each record, whatever its lane is: there is no choice, or one lane.
 fn takes_any(route: Route) -> bool
     ensures { IsTrue result → (lane : ℕ) → IsTrue (takes_lane (route_view route) lane) }
@@ -186,7 +190,8 @@ pub fn deliver_row<O: Operator>(
     ensures { IfOk result (λ puts. puts.items
         ≡ deliveries_of O.meaning graph.now task ((0, row) ∷ [])) }
 {
-    let mut puts = Vec::new(alloc);
+    let room = graph.outlets(task, 0).len().min(ROOM_AT_ONCE);
+    let mut puts = Vec::with_capacity(alloc, room)?;
     deliver_one::<O>(graph, task, 0, row, &mut puts)?;
     Ok(puts)
 }
