@@ -55,7 +55,7 @@ def measured(folder, rows, repeats):
     light, wide, narrow, broad = (put(name, json.dumps(job)) for name, job in (("light", LIGHT), ("wide", WIDE), ("narrow", layers(1)), ("broad", layers(32))))
     batch, layered = ["--batch", "1024"], ["--batch", "64", "--every", "0"]
     runs = {
-        "batch 1": [light, whole],
+        "batch 1": [light, whole, "--batch", "1"],
         "none": [light, whole, *batch, "--every", "0"],
         "checkpoints": [light, whole, *batch, "--every", "10000"],
         "tenth": [light, tenth, *batch, "--every", "0"],

@@ -6,8 +6,9 @@
 #                            standard error is the whole of that, nothing is on standard output, and the status is 1
 # jobs/NAME.json             a job file for `absflow check`, in the same way
 # examples/NAME.out          what examples/NAME.json comes to, in the same way
-# runs/NAME/                 `absflow run`, in this folder and with the words of each line of args: out, err and status are wanted (nothing, nothing and 0
-#                            where they are not there; of status 2 clap's text is not compared); where there is any-order, the sorted lines of out
+# runs/NAME/                 `absflow run`, in this folder and with the words of each line of args, and with `--batch 1` too where they say nothing of it: out, err
+#                            and status are wanted (nothing, nothing and 0 where they are not there; of status 2 clap's text is not compared); where there
+#                            is any-order, the sorted lines of out
 # examples/NAME/             the same of its job and its inputs, which come to tests/examples/NAME.out
 # crashes/NAME.json          a run that fails at each of its places (see crashes.py)
 # conformance/STAGE/N.json   random scripts, with the output of an independent reference: 400 for each stage that is served, or begun (see beginnings.py)
@@ -94,11 +95,17 @@ expect_run() {
   judge "$wanted, run $*" "$out" "$work/ordered" "$err" "$status" $ended
 }
 
+# expect_each WANTED FOLDER WORD..: the same, and with claims of one record too, where the words say nothing of that.
+expect_each() {
+  expect_run "$@"
+  [[ " $* " == *" --batch "* ]] || expect_run "$@" --batch 1
+}
+
 # expect_runs FOLDER..: each line of its args.
 expect_runs() {
   local folder words
   for folder in "$@"; do
-    while read -r -a words; do expect_run "$PWD/$folder" "$folder" "${words[@]}"; done < "$folder/args"
+    while read -r -a words; do expect_each "$PWD/$folder" "$folder" "${words[@]}"; done < "$folder/args"
   done
 }
 
@@ -107,7 +114,7 @@ expect_example() {
   rm -rf "$work/example"
   mkdir "$work/example"
   cp "tests/examples/$1.out" "$work/example/out"
-  expect_run "$work/example" "examples/$1" job.json "${@:2}"
+  expect_each "$work/example" "examples/$1" job.json "${@:2}"
 }
 
 # expect_long_line LENGTH OUT|ERR TEXT: a line of so many bytes, all but a row's being spaces, and its end, read by one, two and four workers.

@@ -91,8 +91,8 @@ pub(crate) trait Entries<K: Codec + Ord, S: Codec> {
     /// These are the entries.
     ghost AreEntries: { Self → List (K × S) → Type 0 };
 
-    /// A copy of the state at a key, if there is one.
-    fn seen(&self, key: &K) -> Result<Seen<S>, NoMemory>
+    /// A copy of the state at a key, if there is one, which may be looked up alone.
+    fn seen(&self, key: &K, is_alone: bool) -> Result<Seen<S>, NoMemory>
         ensures { IfOk result (λ seen. (entries : List (K × S)) → AreEntries self.now entries
             → seen ≡ value_at K.Ord.cmp entries key.now) };
 }
@@ -100,8 +100,8 @@ pub(crate) trait Entries<K: Codec + Ord, S: Codec> {
 impl<K: Codec + Ord, S: Codec> Entries<K, S> for LentStates<K, S> {
     ghost AreEntries = { λ lent entries. lent ≡ entries };
 
-    fn seen(&self, key: &K) -> Result<Seen<S>, NoMemory> {
-        self.seen(key)
+    fn seen(&self, key: &K, is_alone: bool) -> Result<Seen<S>, NoMemory> {
+        self.seen(key, is_alone)
     }
 }
 
@@ -116,7 +116,7 @@ impl<O: Operator> Entries<O::Key, O::State> for TaskStates<'_, O> {
     ghost AreEntries = { λ t entries. slice_get t.attempt.now.tasks t.task
         ≡ Some (Holding.Operator entries) };
 
-    fn seen(&self, key: &O::Key) -> Result<Seen<O::State>, NoMemory> {
+    fn seen(&self, key: &O::Key, _is_alone: bool) -> Result<Seen<O::State>, NoMemory> {
         match self.attempt.state(self.task, key) {
             Some(state) => Ok(Seen::somewhere(Some(state.copied()?))),
             None => Ok(Seen::somewhere(None)),
@@ -227,8 +227,9 @@ fn copied_states<K: Codec + Ord, S: Codec, E: Entries<K, S>>(
         → states.items ≡ map (value_at K.Ord.cmp es) keys.now) }
 {
     let mut states = Vec::with_capacity(alloc, keys.len())?;
+    let is_alone = keys.len() == 1;
     for key in keys {
-        states.push(entries.seen(key)?)?;
+        states.push(entries.seen(key, is_alone)?)?;
     }
     Ok(states)
 }

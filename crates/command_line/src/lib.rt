@@ -112,7 +112,7 @@ fn batch_option<'a>(alloc: Global) -> Arg<'a> {
             id: "batch",
             low: 1,
             high: MAX_BATCH,
-            default: "1",
+            default: "256",
             help: "Records that an operator with states takes at a time at most, 1 to 1024",
         },
     )

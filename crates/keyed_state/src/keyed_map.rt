@@ -215,11 +215,17 @@ impl<K: Ord, S> KeyedState<K, S> {
 }
 
 impl<K: Codec + Ord, S: Codec> LentStates<K, S> {
-    /// A copy of the state at a key, if there is one, and where it stands.
-    pub fn seen(&self, key: &K) -> Result<Seen<S>, NoMemory>
+    /// A copy of the state at a key, if there is one, and where it stands. (Whether the key is looked
+    /// up alone decides what is in a cache afterwards, and nothing else.)
+    pub fn seen(&self, key: &K, is_alone: bool) -> Result<Seen<S>, NoMemory>
         ensures { IfOk result (λ seen. seen ≡ value_at K.Ord.cmp self.now key.now) }
     {
-        match self.base.value().find(key) {
+        let found = if is_alone {
+            self.base.value().find_alone(key)
+        } else {
+            self.base.value().find(key)
+        };
+        match found {
             Some((place, state)) => Ok(Seen::at(state.copied()?, place)),
             None => Ok(Seen::somewhere(None)),
         }

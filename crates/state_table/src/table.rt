@@ -188,6 +188,17 @@ impl<K: Ord, S> Table<K, S> {
         ensures { option_map (λ found. found.1.now) result ≡ value_at K.cmp self.now key.now }
     {
         match self.places.get(key) {
+            Some(place) => placed(*place, state_at(&self.slots, *place)),
+            None => None,
+        }
+    }
+
+    /// The same. The key that stands at the place is looked at too, as `swap_near` will: of a key
+    /// alone it is in a cache then, while of several keys that waits longer than it spares.
+    pub fn find_alone(&self, key: &K) -> Option<(u32, &S)>
+        ensures { option_map (λ found. found.1.now) result ≡ value_at K.cmp self.now key.now }
+    {
+        match self.places.get(key) {
             Some(place) => placed(*place, state_of(&self.slots, *place, key)),
             None => None,
         }
