@@ -50,11 +50,6 @@ module _ {R K S O : Type 0} where
   records_of (given.Operator operand) = length operand.rows.items
   records_of (given.Sink row) = 1
 
-  -- the work is given no state: an operator's where none of its records has a key, and a sink's
-  abbrev pub HasNoStates : Given O K S R → Type 0
-  HasNoStates (given.Operator operand) = operand.states ≡ []
-  HasNoStates (given.Sink row) = Unit {0}
-
   -- these states have a place for the record's key, if it has one
   abbrev pub HasItsState : Meaning R K S O → (K → K → Ordering) → O → List (K × Option S) → R → Type 0
   HasItsState meaning cmp operator states row = (key : K) → meaning.key operator row ≡ Some key → is_some (value_at cmp states key) ≡ true

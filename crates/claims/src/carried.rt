@@ -286,19 +286,8 @@ fn count_of<O, K: Ord, S, R>(given: &Given<O, K, S, R>) -> usize
 }
 
 impl<O: Operator> Work<O> {
-    ghost use Rattle.std.specs.Prelude.{◌≡◌, ◌↔◌, IsTrue};
-    ghost use Rattle.claims.specs.Carried.{given_of, records_of, HasNoStates};
-
-    /// Whether the work is given no state, as an operator's is where none of its records has a key,
-    /// and a sink's: then what is made of a record has nothing to do with the others.
-    pub fn is_stateless(&self) -> bool
-        ensures { IsTrue result ↔ HasNoStates self.now }
-    {
-        match &self.given {
-            Given::Operator(load) => load.get().states.is_none(),
-            Given::Sink(_) => true,
-        }
-    }
+    ghost use Rattle.std.specs.Prelude.{◌≡◌};
+    ghost use Rattle.claims.specs.Carried.{given_of, records_of};
 
     /// How many records the work takes: one, where it is a sink's.
     pub fn records(&self) -> usize

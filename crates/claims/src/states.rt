@@ -1,6 +1,6 @@
 //! The states under the keys of the records that are claimed.
 
-ghost use Rattle.std.specs.Prelude.{◌≡◌, ◌≤◌, ◌↔◌, List, [], Some, IsTrue, IfOk, IfErr, IfSome, length, map, slice_get, vec_len, vec_capacity};
+ghost use Rattle.std.specs.Prelude.{◌≡◌, ◌≤◌, ◌↔◌, List, [], Some, IfOk, IfErr, IfSome, length, map, slice_get, vec_len, vec_capacity};
 ghost use Rattle.std.specs.List.{IsAmong, zip};
 ghost use Rattle.std.specs.List.Sorted.{IsPermutation, IsStrictlySortedBy};
 ghost use Rattle.std.specs.Map.{keys_of};
@@ -49,13 +49,6 @@ impl<K: Ord, S> Copies<K, S> {
         ensures rising { IsStrictlySortedBy K.cmp (keys_of self.now) }
     {
         (&self.keys, &self.states)
-    }
-
-    /// Whether there is no key.
-    fn is_empty(&self) -> bool
-        ensures { IsTrue result ↔ self.now ≡ [] }
-    {
-        self.keys.is_empty() || self.states.is_empty()
     }
 
     /// At which place the key of each keyed record may stand, in the order of the records.
@@ -291,16 +284,6 @@ impl<K: Codec + Ord, S: Codec> States<K, S> {
         };
         States {
             kept: Kept::Copied(copies),
-        }
-    }
-
-    /// Whether there are none.
-    pub(crate) fn is_none(&self) -> bool
-        ensures { IsTrue result ↔ self.now ≡ [] }
-    {
-        match &self.kept {
-            Kept::Copied(copies) => copies.is_empty(),
-            Kept::Lent(keys, _lent) => keys.is_empty(),
         }
     }
 

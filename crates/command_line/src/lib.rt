@@ -112,8 +112,8 @@ fn batch_option<'a>(alloc: Global) -> Arg<'a> {
             id: "batch",
             low: 1,
             high: MAX_BATCH,
-            default: "256",
-            help: "Records that an operator with states takes at a time at most, 1 to 1024",
+            default: "1",
+            help: "Records that an operator takes at a time at first, 1 to 1024; more while there are more",
         },
     )
 }

@@ -1,7 +1,7 @@
 //! Jobs, and what is done of them.
 
-ghost use Rattle.std.specs.Prelude.{◌≡◌, ◌↔◌, IsTrue};
-ghost use Rattle.claims.specs.Carried.{given_of, records_of, HasNoStates};
+ghost use Rattle.std.specs.Prelude.{◌≡◌};
+ghost use Rattle.claims.specs.Carried.{given_of, records_of};
 
 use claims::{Work, Worked};
 use operators::Operator;
@@ -56,13 +56,6 @@ impl<O: Operator> Job<O> {
         ensures { result ≡ records_of self.now.work }
     {
         self.work.records() as u64
-    }
-
-    /// Whether the work is given no state, since none of the records has a key.
-    pub fn is_stateless(&self) -> bool
-        ensures { IsTrue result ↔ HasNoStates self.now.work }
-    {
-        self.work.is_stateless()
     }
 
     /// Does the work. It waits for nobody, and touches nothing shared. What is done is of the same

@@ -59,14 +59,12 @@ pub(crate) struct Node {
     pub(crate) enough: usize,
     /// Whether it holds a claim.
     pub(crate) is_busy: bool,
-    /// Whether a source sends to it.
-    pub(crate) is_fed: bool,
     /// Whether it is a sink's.
     pub(crate) is_sink: bool,
     /// Whether it is an operator's.
     pub(crate) is_operator: bool,
-    /// Whether its last claim was given no state.
-    pub(crate) is_stateless: bool,
+    /// Twice as many records as its last claim had.
+    pub(crate) twice_as_many: u32,
     /// The worker that claimed from it last, from 0.
     pub(crate) worker: u32,
 }
@@ -80,43 +78,29 @@ pub struct HandedOut {
 
 impl Node {
     /// After so many records those that it sends to are told, where these records go into so many
-    /// channels, and claims are of so many: about a batch for each channel, which counts as 128
-    /// records at least, but no more in all than four batches, or 512 records of an operator and
-    /// 2,048 of a source, so that what waits in channels stays small however many there are; and no
-    /// fewer than there are ends, so that telling costs the same for each record.
-    fn enough_of(&self, channels: usize, batch: usize) -> usize {
-        let of_channels = channels.saturating_mul(batch.max(TOLD_TOGETHER));
-        let untold = if self.is_operator {
+    /// channels: about as many for each channel as a task takes at once, but no more in all than
+    /// four times as many, or 2,048 of a source, so that what waits in channels stays small however
+    /// many there are; and no fewer than there are ends, so that telling costs the same for each
+    /// record.
+    fn enough_of(&self, channels: usize) -> usize {
+        let most = if self.is_operator {
             MOST_UNTOLD
         } else {
             MOST_READ_UNTOLD
         };
-        let most = batch.saturating_mul(MOST_BATCHES).max(untold);
+        let of_channels = channels.saturating_mul(MOST_AT_ONCE as usize);
         self.ends.len().max(of_channels.min(most))
     }
 }
 
-/// So many records at least are sent to a task before it is asked for them, unless there is nothing
-/// else to do: else a task would be asked after each record, also in vain, where claims are of one.
-const TOLD_TOGETHER: usize = 128;
-
-/// A task sends so many batches before those that it sends to are asked for them, at most, where
-/// these are more than 512 records.
-const MOST_BATCHES: usize = 4;
-
-/// A task sends so many records before those that it sends to are asked for them, at most, where
-/// four batches are fewer.
-const MOST_UNTOLD: usize = 512;
+/// An operator sends so many records before those that it sends to are asked for them, at most.
+const MOST_UNTOLD: usize = 1024;
 
 /// So many of a source's, of which there are few.
 const MOST_READ_UNTOLD: usize = 2048;
 
 /// A source sends so many records in one turn, at most.
 const MOST_READS: u32 = 128;
-
-/// Where claims are of one record, so many are read ahead of the claims that are held, until a task
-/// that sources send to has been found without a record.
-const MOST_AHEAD: u32 = 64;
 
 /// A task takes so many records at a time, at most, whatever the batch is. For more, what a job has
 /// looked up is no longer in a cache when its result is taken.
@@ -146,10 +130,8 @@ pub struct Schedule {
     claims: u64,
     /// The ranks of tasks that have a full input.
     full: RankSet,
-    /// How many records were read while claims were held, since a task that sources send to had
-    /// none.
-    ahead: u32,
-    /// A claim of an operator that keeps states takes so many records at most.
+    /// An operator's task takes so many records at most, where its last claim had fewer than half
+    /// of that.
     batch: u32,
     /// How many records are worked between triggers: 0 for any number.
     every: u64,
@@ -186,7 +168,6 @@ impl Schedule {
             round,
             claims: 0,
             full: RankSet::new(),
-            ahead: 0,
             batch: 1,
             every: 0,
             finished: 0,
@@ -205,19 +186,21 @@ impl Schedule {
         self.round.start(every);
         self.batch = batch.min(MOST_AT_ONCE);
         for node in self.nodes.iter_mut() {
-            node.enough = node.enough_of(node.spread, self.batch as usize);
+            node.enough = node.enough_of(node.spread);
+            node.twice_as_many = 0;
         }
         self.went_down();
     }
 
-    /// How many records a task takes at a time, at most: a batch, if it is an operator's that keeps
-    /// states.
+    /// How many records a task takes next, at most: an operator's a batch, or twice as many as its
+    /// last claim had, if that is more. So claims grow while there are records for them.
     pub(crate) fn most(&self, task: u32) -> u32
         ensures { 1 ≤ result }
     {
         match self.nodes.get(task as usize) {
-            Some(node) if node.is_sink || node.is_stateless => MOST_AT_ONCE,
-            _ => self.batch,
+            Some(node) if node.is_sink => MOST_AT_ONCE,
+            Some(node) => self.batch.max(node.twice_as_many),
+            None => self.batch,
         }
     }
 
@@ -301,22 +284,12 @@ impl Schedule {
             return Some(Step::Work(place));
         }
         if self.claims > 0 && self.is_far_ahead() {
-            return self.told_of_one();
+            return None;
         }
         if let Some(task) = self.sources.front() {
             return Some(Step::Read(*task));
         }
         self.next_sender()
-    }
-
-    /// Where enough was read ahead of claims of one record: a look at what was sent, if something
-    /// was that no task was told of.
-    fn told_of_one(&self) -> Option<Step> {
-        if self.batch == 1 {
-            self.next_sender()
-        } else {
-            None
-        }
     }
 
     /// Of the tasks that have sent since, the one furthest downstream tells of it.
@@ -339,14 +312,9 @@ impl Schedule {
         self.at_rest()
     }
 
-    /// Whether enough was read ahead of the claims that are held. Where these are of several
-    /// records, an input may be full long after a task that sources send to was without a record: a
-    /// sink takes fewer at a time.
+    /// Whether enough was read ahead of the claims that are held: an input is full.
     fn is_far_ahead(&self) -> bool {
-        if self.batch > 1 {
-            return self.full.greatest().is_some();
-        }
-        self.ahead >= MOST_AHEAD
+        self.full.greatest().is_some()
     }
 
     /// Of the ready tasks that this worker claimed from last, the one furthest downstream: it has
@@ -411,7 +379,6 @@ impl Schedule {
         self.is_down = false;
         self.restarts = self.restarts.wrapping_add(1);
         self.claims = 0;
-        self.ahead = 0;
         self.finished = 0;
         self.round.clear();
         for node in self.nodes.iter_mut() {
@@ -477,7 +444,7 @@ impl Schedule {
             return;
         };
         node.sent = 0;
-        node.enough = node.enough_of(channels.clamp(1, node.spread.max(1)), self.batch as usize);
+        node.enough = node.enough_of(channels.clamp(1, node.spread.max(1)));
         let rank = node.rank;
         self.senders.remove(rank);
         self.due.remove(rank);
@@ -552,9 +519,6 @@ impl Schedule {
     fn drop_first(&mut self, task: u32) {
         if let Some(node) = self.nodes.get_mut(task as usize) {
             node.inputs.drop_first();
-            if node.is_fed {
-                self.ahead = 0;
-            }
         }
     }
 
@@ -569,9 +533,6 @@ impl Schedule {
     /// The next source has sent so many records.
     pub(crate) fn read(&mut self, records: u32) {
         self.moved();
-        if self.claims > 0 {
-            self.ahead = self.ahead.saturating_add(records);
-        }
         if let Some(task) = self.sources.pop_front() {
             let _ = self.sources.push_back(task);
             self.sent(task, records as u64);
@@ -636,7 +597,7 @@ impl Schedule {
     /// Work on the next part has gone on, and more is left of it.
     pub(crate) fn has_more(&mut self) {
         self.is_searched = false;
-        self.round.has_more(self.batch);
+        self.round.has_more();
     }
 
     /// Whether the next copy may be written elsewhere: where the task holds no claim.
@@ -709,13 +670,14 @@ impl Schedule {
         if let Some(node) = self.nodes.get_mut(task as usize) {
             node.worker = worker;
         }
+        self.took(task, records);
         self.set_busy(task, true);
     }
 
-    /// The claim that a task holds is given no state, or some.
-    pub(crate) fn found_stateless(&mut self, task: u32, is_stateless: bool) {
+    /// A task's claim has so many records.
+    fn took(&mut self, task: u32, records: u64) {
         if let Some(node) = self.nodes.get_mut(task as usize) {
-            node.is_stateless = is_stateless;
+            node.twice_as_many = twice(records);
         }
     }
 
@@ -753,6 +715,7 @@ impl Schedule {
             self.drop_first(task);
             self.judge(task);
         }
+        self.took(task, records);
     }
 
     /// A task's claim has ended.
@@ -767,6 +730,12 @@ impl Schedule {
         }
         self.judge_ready(task);
     }
+}
+
+/// Twice so many records, or as many as a task takes at once, if these are fewer.
+fn twice(records: u64) -> u32 {
+    let twice = records.saturating_mul(2);
+    u32::try_from(twice).map_or(MOST_AT_ONCE, |twice| twice.min(MOST_AT_ONCE))
 }
 
 fn step_for(need: Need) -> Step {

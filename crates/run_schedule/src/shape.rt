@@ -19,12 +19,8 @@ impl Schedule {
             graph.sinks(),
         );
         let sources = sources_of(alloc, graph)?;
-        let mut nodes = nodes_of(alloc, graph)?;
-        for source in sources.iter() {
-            feed(&mut nodes, *source);
-        }
         Ok(Schedule::over(
-            nodes,
+            nodes_of(alloc, graph)?,
             order_of(alloc, graph)?,
             sources,
             VecDeque::with_capacity(alloc, room)?,
@@ -57,10 +53,9 @@ fn nodes_of(alloc: Global, graph: &Graph) -> Result<Vec<Node>, AllocError> {
             sent: 0,
             enough: 0,
             is_busy: false,
-            is_fed: false,
             is_sink: graph.role(task).is_some_and(|role| role.is_sink()),
             is_operator: matches!(graph.role(task), Some(Role::Operator(_))),
-            is_stateless: false,
+            twice_as_many: 0,
             worker: 0,
         })?;
     }
@@ -137,22 +132,6 @@ fn parts_of(route: Route) -> usize {
         Route::Every => 1,
         Route::Lanes { parallelism, .. } => parallelism as usize,
     }
-}
-
-/// Says of the tasks that a source sends to that they are fed.
-fn feed(nodes: &mut [Node], source: u32) {
-    let ends = nodes.get(source as usize).map_or(0, |node| node.ends.len());
-    for number in 0..ends {
-        let fed = end_of(nodes, source, number);
-        if let Some(node) = fed.and_then(|end| nodes.get_mut(end.place.task as usize)) {
-            node.is_fed = true;
-        }
-    }
-}
-
-/// The end of a task's channel of this number.
-fn end_of(nodes: &[Node], task: u32, number: usize) -> Option<End> {
-    nodes.get(task as usize)?.ends.get(number).copied()
 }
 
 /// The order.

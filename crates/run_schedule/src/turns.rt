@@ -64,8 +64,8 @@ impl Turns {
         step
     }
 
-    /// How many records a task takes at a time, at most: a batch, if it is an operator's that keeps
-    /// states.
+    /// How many records a task takes next, at most: an operator's a batch at first, and more while
+    /// there are more.
     pub fn most(&self, task: u32) -> u32
         ensures { 1 ≤ result }
     {
@@ -174,11 +174,9 @@ impl Turns {
         }
     }
 
-    /// A worker holds a task's claim of so many records, of the input that was chosen, which is
-    /// given no state, or some.
-    pub fn claimed(&mut self, worker: u32, task: u32, records: u64, is_stateless: bool) {
+    /// A worker holds a task's claim of so many records, of the input that was chosen.
+    pub fn claimed(&mut self, worker: u32, task: u32, records: u64) {
         self.schedule.claimed(worker, task, records);
-        self.schedule.found_stateless(task, is_stateless);
     }
 
     /// A task's job of so many records of this input was taken: whether its worker claims there
@@ -197,11 +195,9 @@ impl Turns {
         self.left = self.left.saturating_sub(1);
     }
 
-    /// A worker that claims again at once holds a claim of so many records, which is given no
-    /// state, or some.
-    pub fn claimed_on(&mut self, task: u32, records: u64, is_stateless: bool) {
+    /// A worker that claims again at once holds a claim of so many records.
+    pub fn claimed_on(&mut self, task: u32, records: u64) {
         self.schedule.claimed_on(task, records);
-        self.schedule.found_stateless(task, is_stateless);
     }
 
     /// A task that was to be claimed from again at once is not.

@@ -52,17 +52,6 @@ const CHANNELS_TOGETHER: u64 = 8;
 /// however many these are.
 const RECORDS_FOR_LOGS: u64 = 4_096;
 
-/// So many steps of one record come after many pieces that were written elsewhere, for which the
-/// task has waited.
-const STEPS_ONCE_BACK: u64 = 256;
-
-/// How many steps come after pieces that were written elsewhere, where a step takes so many records
-/// at most.
-fn steps_once_back(batch: u32) -> u64 {
-    let steps = STEPS_ONCE_BACK.checked_div(batch as u64).unwrap_or(0);
-    steps.max(1)
-}
-
 /// The checkpoint that is made.
 #[derive(Drop)]
 pub struct Round {
@@ -230,16 +219,12 @@ impl Round {
         let _ = self.to_persist.push_front(task);
     }
 
-    /// Work on the first copy has gone on, and more is left of it. A step takes so many records at
-    /// most.
-    pub fn has_more(&mut self, batch: u32) {
+    /// Work on the first copy has gone on, and more is left of it. One step of records comes after
+    /// pieces that were written elsewhere, for which the task has waited.
+    pub fn has_more(&mut self) {
         self.pieces = self.pieces.saturating_add(1);
         if self.is_late() || self.pieces >= PIECES_AT_ONCE {
-            self.steps_left = if self.is_back {
-                steps_once_back(batch)
-            } else {
-                self.steps
-            };
+            self.steps_left = if self.is_back { 1 } else { self.steps };
         }
         self.is_back = false;
     }

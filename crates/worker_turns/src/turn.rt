@@ -95,7 +95,7 @@ fn claim<O: Operator, S: SnapshotStore, X: Transactions, P: Partitions<Record = 
         Ok(job) => {
             let ahead = work_ahead(bench.alloc, core, place, most);
             let records = job.records().saturating_add(ahead.len() as u64);
-            turns.claimed(worker, place.task, records, job.is_stateless());
+            turns.claimed(worker, place.task, records);
             bench.put_job(place, job);
             bench.put_ahead(ahead);
             Next::Run
@@ -121,7 +121,7 @@ pub fn claim_on<O: Operator, S: SnapshotStore, X: Transactions, P: Partitions<Re
     let most = turns.most(place.task);
     match core.claim_in(place.task, place.input, most, &mut bench.room) {
         Ok(job) => {
-            turns.claimed_on(place.task, job.records(), job.is_stateless());
+            turns.claimed_on(place.task, job.records());
             bench.put_job(place, job);
             Next::Run
         }
