@@ -11,7 +11,7 @@ pub struct Options {
     pub every: u64,
     /// The turns after which the run is given up.
     pub turns: u64,
-    /// The records that a worker takes at a time, at most.
+    /// The records that an operator takes at a time at first.
     pub batch: u32,
     ghost in_range: { (1 ≤ batch) × (batch ≤ 1024) },
 }

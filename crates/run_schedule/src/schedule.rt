@@ -130,8 +130,7 @@ pub struct Schedule {
     claims: u64,
     /// The ranks of tasks that have a full input.
     full: RankSet,
-    /// An operator's task takes so many records at most, where its last claim had fewer than half
-    /// of that.
+    /// An operator's task takes so many records at a time at first.
     batch: u32,
     /// How many records are worked between triggers: 0 for any number.
     every: u64,
@@ -483,7 +482,7 @@ impl Schedule {
         }
     }
 
-    /// A task may have sent for so many records. Once there may be a batch in each of the channels
+    /// A task may have sent for so many records. Once there may be enough in each of the channels
     /// that they go into, those that it sends to are told: at once where it sends on one channel
     /// alone, and else by the next step, which finds out on which. Who has sent fewer is among the
     /// senders.

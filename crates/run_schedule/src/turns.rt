@@ -36,7 +36,7 @@ impl Turns {
 
     /// A run of so many turns and restarts begins, by so many workers, all of whom are awake. A
     /// checkpoint is triggered after every so many records that were worked, or at the end alone
-    /// where that is 0. A claim of an operator that keeps states takes so many records at most.
+    /// where that is 0. An operator's claims are of so many records at first.
     pub fn begin(&mut self, workers: u64, every: u64, turns: u64, restarts: u64, batch: u32)
         requires { 1 ≤ batch }
     {

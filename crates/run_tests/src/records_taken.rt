@@ -1,6 +1,6 @@
-//! How many records a job is on, where claims are of one record.
+//! How many records a job is on, where claims are of one record at first.
 
-use crate::jobs::{COUNT, LINE, rows, rows_of_ten_keys};
+use crate::jobs::{LINE, rows};
 use crate::runs::{How, run_job};
 use job_runner::{Options, Pause};
 use std::alloc::Global;
@@ -54,18 +54,13 @@ fn jobs_of<R: Threads + Wait + Clock + Sync>(
     }
 }
 
-/// A count of a hundred records takes a job for each, since it keeps states.
+/// Of a hundred records that are there at once an operator takes 1, 2, 4, 8, 16, 32 and 37, and the
+/// sink takes what they leave.
 #[test]
-fn an_operator_with_states_takes_one_record_at_a_time(rt: HostRuntime) -> Result<(), Fail> {
-    let rows = rows_of_ten_keys(rt.alloc())?;
-    assert!(rt; jobs_of(&rt, rt.alloc(), COUNT, &rows)? > 100);
-    Ok(())
-}
-
-/// An operator that adds takes one record first, and then all that it has, as the sink does.
-#[test]
-fn an_operator_with_no_state_takes_several(rt: HostRuntime) -> Result<(), Fail> {
+fn claims_begin_with_one_record_and_grow(rt: HostRuntime) -> Result<(), Fail> {
     let rows = rows(rt.alloc(), 1, 1)?;
-    assert!(rt; jobs_of(&rt, rt.alloc(), LINE, &rows)? < 10);
+    let jobs = jobs_of(&rt, rt.alloc(), LINE, &rows)?;
+    assert!(rt; jobs > 7);
+    assert!(rt; jobs < 20);
     Ok(())
 }

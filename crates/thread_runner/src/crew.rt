@@ -310,9 +310,9 @@ where
 
 /// Takes the job to rest, by so many workers, or as many of them as can be of use, and says how
 /// many records they have worked. A job that is down is restarted first. A checkpoint is triggered
-/// after every so many of these records (0: none but the last), and a last one is committed. A
-/// claim of an operator that keeps states is of so many records at most, the `batch`. Where the run
-/// is refused otherwise than for its workers, the job is down.
+/// after every so many of these records (0: none but the last), and a last one is committed. An
+/// operator's claims are of so many records at first, the `batch`, and of more while there are
+/// more. Where the run is refused otherwise than for its workers, the job is down.
 pub fn run_batched<
     O: Operator + Send,
     S: SnapshotStore + Drop + Send,

@@ -332,8 +332,8 @@ impl<
         book.audit(share);
     }
 
-    /// A run of so many turns and restarts begins, by so many workers. A claim of an
-    /// operator that keeps states takes so many records at most.
+    /// A run of so many turns and restarts begins, by so many workers. An operator's claims are of
+    /// so many records at first.
     pub(crate) fn begin(
         &mut self,
         workers: usize,
