@@ -6,7 +6,7 @@
 #                            standard error is the whole of that, nothing is on standard output, and the status is 1
 # jobs/NAME.json             a job file for `absflow check`, in the same way
 # examples/NAME.out          what examples/NAME.json comes to, in the same way
-# runs/NAME/                 `absflow run`, in this folder and with the words of each line of args, and with `--batch 1` too where they say nothing of it: out, err
+# runs/NAME/                 `absflow run`, in this folder and with the words of each line of args, and with `--batch 256` too where they say nothing of it: out, err
 #                            and status are wanted (nothing, nothing and 0 where they are not there; of status 2 clap's text is not compared); where there
 #                            is any-order, the sorted lines of out
 # examples/NAME/             the same of its job and its inputs, which come to tests/examples/NAME.out
@@ -95,10 +95,10 @@ expect_run() {
   judge "$wanted, run $*" "$out" "$work/ordered" "$err" "$status" $ended
 }
 
-# expect_each WANTED FOLDER WORD..: the same, and with claims of one record too, where the words say nothing of that.
+# expect_each WANTED FOLDER WORD..: the same, and with claims of 256 records from the first on too, where the words say nothing of that.
 expect_each() {
   expect_run "$@"
-  [[ " $* " == *" --batch "* ]] || expect_run "$@" --batch 1
+  [[ " $* " == *" --batch "* ]] || expect_run "$@" --batch 256
 }
 
 # expect_runs FOLDER..: each line of its args.
