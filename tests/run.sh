@@ -197,6 +197,17 @@ expect_full() {
   fi
 }
 
+# expect_default OPTION NUMBER: what `run` takes where this option is not given, as its help tells.
+expect_default() {
+  if "$program" run --help | grep -q -- "^ *--$1 <N> .*\[default: $2\]\$"; then
+    passed=$((passed + 1))
+  else
+    failed=$((failed + 1))
+    echo "FAILED run --help: $2 is wanted for --$1 where it is not given"
+    "$program" run --help | grep -- "--$1 "
+  fi
+}
+
 # count_told COMMAND..: what a command passed and failed, as its last line says.
 count_told() {
   "$@" > "$work/told"
@@ -233,6 +244,10 @@ for program in "${programs[@]}"; do
   expect_rounds
   expect_little_memory
   expect_full
+  expect_default workers 1
+  expect_default every 100
+  expect_default turns 1000000000
+  expect_default batch 1
 
   count_told tests/crashes.py "$program" tests/crashes/*.json
   for stage in $begun; do count_told tests/beginnings.py "$program" "tests/conformance/$stage"/*.json; done
