@@ -1,6 +1,7 @@
 -- The records that stand first in a channel.
-use Rattle.std.proofs.Common.{◌≡◌, ◌≤◌, List, [], ◌∷◌, length, map, take, refl, sym, ap, ◌∙◌, arith}
-use Rattle.std.proofs.lemmas.List.{length-take, take-take}
+use Rattle.std.proofs.Common.{zero, suc, ◌≡◌, ◌≤◌, ◌+◌, ◌-◌, ◌++◌, ℕ, List, [], ◌∷◌, length, map, min, take, drop, refl, sym, ap, ◌∙◌, inl, inr, arith}
+use Rattle.std.proofs.lemmas.List.{length-take, take-take, take_min, drop-take, drop_all}
+use Rattle.std.proofs.lemmas.Bool.{cases_lt}
 use Rattle.channels.specs.Items.{leading_records}
 use Rattle.channels.specs.Queues.{interleaved}
 use Rattle.channels.specs.declared.item.Item.{Item}
@@ -91,3 +92,45 @@ module _ {R : Type 0} where
 
     pub queue_from_stand : Stand rows (interleaved barriers records) → Begin rows records
     queue_from_stand stand = sym same_first ∙ begin_where_stand rows (interleaved barriers records) stand
+
+  take_none : (n : ℕ) (rows : List R) → n ≡ 0 → take n rows ≡ []
+  take_none n rows none = ap (λ (m : ℕ). take m rows) none
+
+  -- of no records a part is none
+  part_of_none : (from end : ℕ) (rows : List R) → min end (length rows) ≡ 0 → drop from (take end rows) ≡ []
+  part_of_none from end rows none = drop_all from (take end rows) (omega (arith, none, length-take end rows))
+
+  -- a part that goes no further than there are records
+  pub part_within : (rows : List R) (from end to at : ℕ) → to ≡ min end (length rows) → at ≡ min from to → take (to - at) (drop at rows) ≡ drop from (take end rows)
+  part_within rows from end to at last first =
+      let cut : take to rows ≡ take end rows = ap (λ (n : ℕ). take n rows) last ∙ take_min end rows in
+      elim (cases_lt to from) [
+        | inl past ↦
+            let none : take (to - at) (drop at rows) ≡ [] = take_none (to - at) (drop at rows) (omega arith) in
+            none ∙ sym (drop_all from (take to rows) (omega (arith, length-take to rows))) ∙ ap (drop from) cut
+        | inr before ↦
+            let here : at ≡ from = omega arith in
+            let sum : from + (to - from) ≡ to = omega arith in
+            ap (λ (n : ℕ). take (to - n) (drop n rows)) here ∙ sym (drop-take from (to - from) rows) ∙ ap (λ (n : ℕ). drop from (take n rows)) sum ∙ ap (drop from) cut
+      ]
+
+  -- a part of two lists is one of each
+  pub part_of_two : (first second : List R) (from end at to : ℕ) → at ≡ from - length first → to ≡ end - length first → drop from (take end (first ++ second)) ≡ drop from (take end first) ++ drop at (take to second)
+  part_of_two [] second from end at to here there =
+      let none : drop from (take end []) ≡ [] = part_of_none from end [] (omega arith) in
+      let same : at ≡ from = omega (arith, here) in
+      let last : to ≡ end = omega (arith, there) in
+      ap (λ (n : ℕ). drop n (take end second)) (sym same) ∙ ap (λ (n : ℕ). drop at (take n second)) (sym last) ∙ sym (ap (λ (xs : List R). xs ++ drop at (take to second)) none)
+  part_of_two (r ∷ first) second from zero at to here there =
+      let one : drop from (take zero (r ∷ first)) ≡ [] = part_of_none from zero (r ∷ first) (omega arith) in
+      let two : drop at (take to second) ≡ [] = part_of_none at to second (omega (arith, there)) in
+      part_of_none from zero (r ∷ first ++ second) (omega arith) ∙ sym (ap (λ (xs : List R). xs ++ drop at (take to second)) one ∙ two)
+  part_of_two (r ∷ first) second zero (suc end) at to here there = ap (λ (xs : List R). r ∷ xs) (part_of_two first second zero end at to (omega (arith, here)) (omega (arith, there)))
+  part_of_two (r ∷ first) second (suc from) (suc end) at to here there = part_of_two first second from end at to (omega (arith, here)) (omega (arith, there))
+
+  module _ (barriers : List SpacedBarrier) (records : List R) where
+    -- a part of the records that lead is one of all
+    pub part_of_leading : (from count : ℕ) → from + count ≤ length (leading_records (interleaved barriers records)) → take count (drop from (leading_records (interleaved barriers records))) ≡ drop from (take (from + count) records)
+    part_of_leading from count within =
+        let leading = leading_records (interleaved barriers records) in
+        sym (drop-take from count leading) ∙ ap (λ (xs : List R). drop from (take (from + count) xs)) (leads_of_records barriers records) ∙ ap (drop from) (take-take (from + count) (length leading) records within)

@@ -150,6 +150,23 @@ impl<R: Drop> Channel<R> {
         }
     }
 
+    /// So many of the records that stand before the first barrier, from this place on: those that
+    /// lie at the end of the queue's room, and those that lie at its beginning.
+    #[inline(always)]
+    pub fn records_from(&self, from: usize, count: usize) -> (&[R], &[R])
+        requires { from + count ≤ length (leading_records self.now.items) }
+        ensures { result.0.now ++ result.1.now
+            ≡ take count (drop from (leading_records self.now.items)) }
+    {
+        let (first, second) = self.records.as_slices();
+        let end = from + count;
+        let held = first.len();
+        (
+            part(first, from, end),
+            part(second, from.saturating_sub(held), end.saturating_sub(held)),
+        )
+    }
+
     /// Whether these records stand first, with no barrier before one of them.
     #[inline(always)]
     pub fn starts_with(&self, records: &[R]) -> bool
@@ -208,6 +225,15 @@ impl<R: Drop> Channel<R> {
             None => self.behind -= count,
         }
     }
+}
+
+/// Those of these records that stand from one place on, and before another, as far as they go.
+#[inline(always)]
+fn part<R>(records: &[R], from: usize, end: usize) -> &[R]
+    ensures { result.now ≡ drop from (take end records.now) }
+{
+    let end = end.min(records.len());
+    &records[from.min(end)..end]
 }
 
 /// Takes away so many records of a queue, from its front. Where none is left, the next records lie

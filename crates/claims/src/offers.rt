@@ -1,6 +1,6 @@
 //! Work is offered.
 
-ghost use Rattle.std.specs.Prelude.{◌≡◌, ◌<◌, ◌≤◌, ◌++◌, ◌∷◌, [], List, Some, length, map, take, slice_get, OnOk, OnErr, IfOk, vec_len, vec_capacity};
+ghost use Rattle.std.specs.Prelude.{◌≡◌, ◌<◌, ◌≤◌, ◌+◌, ◌++◌, ◌∷◌, [], List, Some, length, map, take, slice_get, OnOk, OnErr, IfOk, vec_len, vec_capacity};
 ghost use Rattle.std.specs.List.{All, IsAmong};
 ghost use Rattle.channels.specs.Items.{leading_records};
 ghost use Rattle.job_graph.specs.Expanded.{IsExpanded};
@@ -78,6 +78,28 @@ fn gather_record<O: Operator>(
     Ok(())
 }
 
+/// Records are carried too, and the keys of those that have one.
+fn gather_each<O: Operator>(
+    alloc: Global,
+    operator: &O,
+    rows: &[O::Record],
+    gathered: &mut Gathered<O::Record, O::Key>,
+) -> Result<(), NoMemory>
+    requires keyed { All (HasItsKey O.meaning operator.now gathered.old.keys.items)
+        gathered.old.rows.items }
+    requires room { vec_len gathered.old.rows + length rows.now
+        ≤ vec_capacity gathered.old.rows }
+    ensures room { vec_capacity gathered.new.rows ≡ vec_capacity gathered.old.rows }
+    ensures rows { OnOk result (gathered.new.rows.items ≡ gathered.old.rows.items ++ rows.now) }
+    ensures keys { OnOk result (All (HasItsKey O.meaning operator.now gathered.new.keys.items)
+        gathered.new.rows.items) }
+{
+    for row in rows {
+        gather_record(alloc, operator, row, gathered)?;
+    }
+    Ok(())
+}
+
 /// Copies of the first records of a channel, and their keys.
 fn gather<O: Operator>(
     alloc: Global,
@@ -98,12 +120,9 @@ fn gather<O: Operator>(
         rows: room.take_rows(alloc, count)?,
         keys: room.take_keys(alloc, count),
     };
-    for index in 0..count {
-        let Some(row) = attempt.record(channel, index) else {
-            return Err(NoMemory);
-        };
-        gather_record(alloc, operator, row, &mut gathered)?;
-    }
+    let (first, second) = attempt.records(channel, 0, count);
+    gather_each(alloc, operator, first, &mut gathered)?;
+    gather_each(alloc, operator, second, &mut gathered)?;
     Ok(gathered)
 }
 
@@ -230,6 +249,21 @@ pub fn offer<O: Operator>(
     }
 }
 
+/// A sink's work on each of these records, in their order.
+fn offer_each<O: Operator>(rows: &[O::Record], works: &mut Vec<Work<O>>) -> Result<(), NoMemory>
+    requires room { vec_len works.old + length rows.now ≤ vec_capacity works.old }
+    ensures room { vec_capacity works.new ≡ vec_capacity works.old }
+    ensures rows { OnOk result (works.new.items ≡ works.old.items ++ map Given.Sink rows.now) }
+{
+    for row in rows {
+        let row = row.copied()?;
+        works.push_reserved(Work {
+            given: Given::Sink(row),
+        });
+    }
+    Ok(())
+}
+
 /// The work on the records behind the first of a channel, before the first barrier, in their order
 /// and on so many at most. Room for them is taken once, and none where there are none.
 fn works_behind<O: Operator>(
@@ -243,16 +277,13 @@ fn works_behind<O: Operator>(
     ensures some { OnErr result (0 < length (rows_behind attempt.now channel most)) }
 {
     let count = attempt.before_barrier(channel).saturating_sub(1).min(most);
-    let mut works = Vec::with_capacity(alloc, count)?;
-    for index in 0..count {
-        let Some(row) = attempt.record(channel, index + 1) else {
-            return Err(NoMemory);
-        };
-        let row = row.copied()?;
-        works.push_reserved(Work {
-            given: Given::Sink(row),
-        });
+    if count == 0 {
+        return Ok(Vec::new(alloc));
     }
+    let mut works = Vec::with_capacity(alloc, count)?;
+    let (first, second) = attempt.records(channel, 1, count);
+    offer_each(first, &mut works)?;
+    offer_each(second, &mut works)?;
     Ok(works)
 }
 

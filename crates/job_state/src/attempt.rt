@@ -1,6 +1,6 @@
 //! The attempt.
 
-ghost use Rattle.std.specs.Prelude.{◌≡◌, ◌<◌, ◌^◌, ◌↔◌, ℕ, List, false, length, option_map, slice_get, is_some, Some, None, IfOk, IfSome, IfNone, IsTrue};
+ghost use Rattle.std.specs.Prelude.{◌≡◌, ◌<◌, ◌≤◌, ◌+◌, ◌^◌, ◌++◌, ◌↔◌, ℕ, List, false, length, take, drop, option_map, slice_get, is_some, Some, None, IfOk, IfSome, IfNone, IsTrue};
 ghost use Rattle.std.specs.Option.{option_copied};
 ghost use Rattle.abs_codec.specs.Entries.{value_at};
 ghost use Rattle.alignment.specs.Inputs as gates;
@@ -13,7 +13,7 @@ use crate::gates::fresh_gates;
 use crate::holding::Holding;
 use crate::logs::{open_logs, reopen};
 use crate::openings::opened_channels;
-use crate::sending::{before_barrier, first, record_at, starts_with};
+use crate::sending::{before_barrier, first, record_at, records_from, starts_with};
 use crate::task::Task;
 use crate::tasks::{clear, forget_oldest, fresh_tasks};
 use abs_codec::{Items, NoMemory};
@@ -151,6 +151,17 @@ impl<O: Operator> Attempt<O> {
             ≡ slice_get (leading_records (items_at self.now.channels channel)) index }
     {
         record_at(&self.channels, channel, index)
+    }
+
+    /// So many of the records of a channel that stand before the first barrier, from this place on,
+    /// in two pieces.
+    #[inline(always)]
+    pub fn records(&self, channel: u32, from: usize, count: usize) -> (&[O::Record], &[O::Record])
+        requires { from + count ≤ length (leading_records (items_at self.now.channels channel)) }
+        ensures { result.0.now ++ result.1.now
+            ≡ take count (drop from (leading_records (items_at self.now.channels channel))) }
+    {
+        records_from(&self.channels, channel, from, count)
     }
 
     /// Whether these records stand first in a channel, with no barrier before one of them.

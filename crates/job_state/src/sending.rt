@@ -1,6 +1,6 @@
 //! What is put into channels, and taken from them.
 
-ghost use Rattle.std.specs.Prelude.{◌≡◌, ◌++◌, ◌∷◌, [], ◌<◌, ◌≤◌, ◌↔◌, ℕ, All, map, length, take, slice_get, option_map, IsTrue, OnOk, OnErr, IfOk, IfSome};
+ghost use Rattle.std.specs.Prelude.{◌≡◌, ◌++◌, ◌∷◌, [], ◌+◌, ◌<◌, ◌≤◌, ◌↔◌, ℕ, All, map, length, take, drop, slice_get, option_map, IsTrue, OnOk, OnErr, IfOk, IfSome};
 ghost use Rattle.std.specs.Option.{option_copied};
 ghost use Rattle.abs_codec.specs.Same.{EqualIsSame};
 ghost use Rattle.channels.specs.Items.{item_copied, leading_records};
@@ -154,6 +154,26 @@ pub(crate) fn record_at<R: Drop>(channels: &[Channel<R>], channel: u32, index: u
         ≡ slice_get (leading_records (items_at (contents_items channels.now) channel)) index }
 {
     channels.get(channel as usize)?.record(index)
+}
+
+/// So many of the records of a channel that stand before the first barrier, from this place on, in
+/// two pieces.
+#[inline(always)]
+pub(crate) fn records_from<R: Drop>(
+    channels: &[Channel<R>],
+    channel: u32,
+    from: usize,
+    count: usize,
+) -> (&[R], &[R])
+    requires { from + count
+        ≤ length (leading_records (items_at (contents_items channels.now) channel)) }
+    ensures { result.0.now ++ result.1.now ≡ take count (drop from
+        (leading_records (items_at (contents_items channels.now) channel))) }
+{
+    match channels.get(channel as usize) {
+        Some(channel) => channel.records_from(from, count),
+        None => (&[], &[]),
+    }
 }
 
 /// Whether these records stand first in a channel, with no barrier before one of them. A channel
