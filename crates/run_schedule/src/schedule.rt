@@ -79,9 +79,8 @@ pub struct HandedOut {
 impl Node {
     /// After so many records those that it sends to are told, where these records go into so many
     /// channels: about as many for each channel as a task takes at once, but no more in all than
-    /// four times as many, or 2,048 of a source, so that what waits in channels stays small however
-    /// many there are; and no fewer than there are ends, so that telling costs the same for each
-    /// record.
+    /// 4,096, or 2,048 of a source, so that what waits in channels stays small however many there
+    /// are; and no fewer than there are ends, so that telling costs the same for each record.
     fn enough_of(&self, channels: usize) -> usize {
         let most = if self.is_operator {
             MOST_UNTOLD
@@ -94,7 +93,7 @@ impl Node {
 }
 
 /// An operator sends so many records before those that it sends to are asked for them, at most.
-const MOST_UNTOLD: usize = 1024;
+const MOST_UNTOLD: usize = 4096;
 
 /// So many of a source's, of which there are few.
 const MOST_READ_UNTOLD: usize = 2048;
