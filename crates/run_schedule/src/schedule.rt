@@ -176,7 +176,8 @@ impl Schedule {
         }
     }
 
-    /// A run begins, and a restart comes first.
+    /// A run begins, and a restart comes first. A task tells at first as if it sent into one channel
+    /// alone: which ones its records go into shows when it tells.
     pub(crate) fn begin(&mut self, every: u64, batch: u32)
         requires { 1 ≤ batch }
     {
@@ -184,7 +185,7 @@ impl Schedule {
         self.round.start(every);
         self.batch = batch.min(MOST_AT_ONCE);
         for node in self.nodes.iter_mut() {
-            node.enough = node.enough_of(node.spread);
+            node.enough = node.enough_of(1);
             node.twice_as_many = 0;
         }
         self.went_down();
