@@ -12,7 +12,7 @@ pub enum Step {
     Over,
     /// Nothing is to be had until a claim ends.
     Idle,
-    /// Nothing is to be had at once, and the next choice finds out more.
+    /// Every channel is looked at, and the next choice knows in which something stands.
     Look,
     /// The job is restarted.
     Restart,
@@ -139,7 +139,9 @@ pub struct Schedule {
     restarts: u64,
     /// Whether a restart comes next.
     is_down: bool,
-    /// Whether every input was marked since a step was last made.
+    /// Whether every channel is looked at next: what stands in them isn't known.
+    is_unseen: bool,
+    /// Whether every channel was looked at since a record last moved.
     is_searched: bool,
     /// Whether the checkpoint that was triggered last is of a job at rest.
     is_last: bool,
@@ -171,6 +173,7 @@ impl Schedule {
             finished: 0,
             restarts: 0,
             is_down: true,
+            is_unseen: false,
             is_searched: false,
             is_last: false,
         }
@@ -244,6 +247,9 @@ impl Schedule {
         if self.is_down {
             return Step::Restart;
         }
+        if self.is_unseen {
+            return self.look();
+        }
         if self.is_last && self.round.is_none() {
             return Step::Over;
         }
@@ -255,8 +261,8 @@ impl Schedule {
     }
 
     /// The step for what the checkpoint needs. Its barriers wait for as many records as the keys of
-    /// the last one ask for, and where a part takes many steps, steps of records come between two
-    /// of them, if they are to be had.
+    /// the last one ask for, or till the job is at rest, and where a part takes many steps, steps of
+    /// records come between two of them, if they are to be had.
     fn next_need(&mut self, need: Need, worker: u32) -> Step {
         let awaits_records = self.awaits_records();
         if awaits_records || self.round.gives_way() {
@@ -264,10 +270,32 @@ impl Schedule {
                 return step;
             }
         }
-        if awaits_records && self.claims > 0 {
+        if awaits_records {
+            self.next_at_rest(step_for(need))
+        } else {
+            step_for(need)
+        }
+    }
+
+    /// The first barrier of the pending checkpoint has waited for records, of which none is to be
+    /// had. Where the job is at rest, that checkpoint is the last: its barriers go with this step.
+    fn next_at_rest(&mut self, inject: Step) -> Step {
+        if self.claims > 0 {
             return Step::Idle;
         }
-        step_for(need)
+        if !self.is_searched {
+            return self.look();
+        }
+        self.is_last = true;
+        inject
+    }
+
+    /// Every channel is looked at.
+    fn look(&mut self) -> Step {
+        self.is_unseen = false;
+        self.is_searched = true;
+        self.forget_all();
+        Step::Look
     }
 
     fn is_due(&self) -> bool {
@@ -305,8 +333,7 @@ impl Schedule {
             return Step::Idle;
         }
         if !self.is_searched {
-            self.mark_everything();
-            return Step::Look;
+            return self.look();
         }
         self.at_rest()
     }
@@ -383,23 +410,19 @@ impl Schedule {
         for node in self.nodes.iter_mut() {
             node.is_busy = false;
         }
-        self.mark_everything();
+        self.is_unseen = true;
         self.moved();
     }
 
-    /// Marks every input and every source.
-    fn mark_everything(&mut self) {
-        self.is_searched = true;
+    /// Forgets what stands in channels. Every source may have a record.
+    fn forget_all(&mut self) {
         self.ready.clear();
         self.senders.clear();
         self.due.clear();
         self.full.clear();
         for node in self.nodes.iter_mut() {
             node.sent = 0;
-            node.inputs.mark_all();
-            if !node.is_busy && !node.inputs.is_empty() {
-                self.ready.insert(node.rank);
-            }
+            node.inputs.clear();
         }
         self.sources.clear();
         for task in self.all_sources.iter() {
@@ -413,7 +436,8 @@ impl Schedule {
         self.is_last = false;
     }
 
-    /// Marks the ends of the channels that a task sends on.
+    /// Marks the ends of the channels that a task sends on: a barrier stands in each, or there is
+    /// but one. Into how many its records go this doesn't tell.
     fn mark_ends(&mut self, task: u32) {
         let ends = self.ends_of(task);
         for number in 0..ends {
@@ -421,7 +445,12 @@ impl Schedule {
                 self.mark(end.place);
             }
         }
-        self.told(task, ends);
+        self.told_all(task);
+    }
+
+    /// How many tasks there are.
+    pub(crate) fn tasks(&self) -> usize {
+        self.nodes.len()
     }
 
     /// On how many channels a task sends.
@@ -439,11 +468,18 @@ impl Schedule {
     /// Those that a task sends to were told of what stands in so many of its channels. They are
     /// told again after as many records as these may take together.
     pub(crate) fn told(&mut self, task: u32, channels: usize) {
+        if let Some(node) = self.nodes.get_mut(task as usize) {
+            node.enough = node.enough_of(channels.clamp(1, node.spread.max(1)));
+        }
+        self.told_all(task);
+    }
+
+    /// Those that a task sends to were told of all that it has sent.
+    fn told_all(&mut self, task: u32) {
         let Some(node) = self.nodes.get_mut(task as usize) else {
             return;
         };
         node.sent = 0;
-        node.enough = node.enough_of(channels.clamp(1, node.spread.max(1)));
         let rank = node.rank;
         self.senders.remove(rank);
         self.due.remove(rank);

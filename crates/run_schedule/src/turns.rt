@@ -133,6 +133,11 @@ impl Turns {
         self.schedule.awaits_barriers()
     }
 
+    /// How many tasks there are.
+    pub fn tasks(&self) -> usize {
+        self.schedule.tasks()
+    }
+
     /// On how many channels a task sends.
     pub fn ends_of(&self, task: u32) -> usize {
         self.schedule.ends_of(task)

@@ -99,14 +99,13 @@ impl Inputs {
         *batches = 0;
     }
 
-    /// Every input may have something, and none is full.
-    pub fn mark_all(&mut self) {
-        self.unblock();
-        let count = u32::try_from(self.listed.len()).unwrap_or(u32::MAX);
-        for input in 0..count {
-            self.empty(input);
-            self.mark(input);
-        }
+    /// No input has anything, as far as is known, none waits, and none is full.
+    pub fn clear(&mut self) {
+        self.ready.clear();
+        self.blocked.clear();
+        self.listed.fill(false);
+        self.batches.fill(0);
+        self.full = 0;
     }
 
     /// The first input comes last.

@@ -42,8 +42,8 @@ const ENTRIES_A_PIECE: u64 = 256;
 /// state was written elsewhere.
 const RECORDS_FOR_A_KEY: u64 = 2;
 
-/// And in all so many for so many channels, since a checkpoint sends a barrier on each: 48 each.
-const RECORDS_FOR_BARRIERS: u64 = 384;
+/// And in all so many for so many channels, since a checkpoint sends a barrier on each: 96 each.
+const RECORDS_FOR_BARRIERS: u64 = 768;
 
 /// So many channels. Fewer do not count.
 const CHANNELS_TOGETHER: u64 = 8;

@@ -52,7 +52,7 @@ pub fn take_turn<O: Operator, S: SnapshotStore, X: Transactions, P: Partitions<R
     match turns.choose(worker) {
         Step::Over => Next::Over,
         Step::Idle => Next::Idle,
-        Step::Look => Next::Again,
+        Step::Look => look(core, turns),
         Step::Tell(task) => tell(core, turns, task),
         Step::Work(place) => claim(core, turns, worker, place, bench),
         Step::Read(task) => read(core, turns, task),
@@ -179,17 +179,41 @@ fn tell<O: Operator, S: SnapshotStore, X: Transactions, P: Partitions<Record = O
     task: u32,
 ) -> Next {
     let awaits_barriers = turns.awaits_barriers();
-    let mut told: usize = 0;
+    let filled = mark_heads(core, turns, task, awaits_barriers);
+    turns.told(task, filled);
+    Next::Again
+}
+
+/// Every task is told of the channels in which a record or a barrier stands.
+fn look<O: Operator, S: SnapshotStore, X: Transactions, P: Partitions<Record = O::Record>>(
+    core: &Core<O, S, X, P>,
+    turns: &mut Turns,
+) -> Next {
+    for task in 0..turns.tasks() {
+        let _ = mark_heads(core, turns, task as u32, false);
+    }
+    Next::Again
+}
+
+/// Of the channels that a task sends on, those in which something stands are marked, or all. How
+/// many have something is told.
+fn mark_heads<O: Operator, S: SnapshotStore, X: Transactions, P: Partitions<Record = O::Record>>(
+    core: &Core<O, S, X, P>,
+    turns: &mut Turns,
+    task: u32,
+    is_all: bool,
+) -> usize {
+    let mut filled: usize = 0;
     for number in 0..turns.ends_of(task) {
         if let Some(end) = turns.end_of(task, number) {
-            if core.has_head(end.channel) || awaits_barriers {
+            let has_head = core.has_head(end.channel);
+            if has_head || is_all {
                 turns.mark(end.place);
-                told = told.saturating_add(1);
             }
+            filled = filled.saturating_add(usize::from(has_head));
         }
     }
-    turns.told(task, told);
-    Next::Again
+    filled
 }
 
 /// A source sends its next records: as many as the turns say, at most.
