@@ -190,7 +190,9 @@ fn look<O: Operator, S: SnapshotStore, X: Transactions, P: Partitions<Record = O
     turns: &mut Turns,
 ) -> Next {
     for task in 0..turns.tasks() {
-        let _ = mark_heads(core, turns, task as u32, false);
+        if let Ok(task) = u32::try_from(task) {
+            let _ = mark_heads(core, turns, task, false);
+        }
     }
     Next::Again
 }
