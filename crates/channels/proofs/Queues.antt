@@ -36,18 +36,27 @@ module _ {R : Type 0} where
       let rest = length-interleaved barriers (drop b.gap records) (omega (arith, length-drop b.gap records)) in
       omega (arith, rest, length-append first (Barrier b.checkpoint ∷ interleaved barriers (drop b.gap records)), length-map (take b.gap records) (λ r. Record r), length-take-le b.gap records (omega arith), length-drop b.gap records)
 
-  -- a record is sent
-  pub record_pushed : (barriers : List SpacedBarrier) (records : List R) (row : R) → gaps barriers ≤ length records → interleaved barriers (records ++ row ∷ []) ≡ interleaved barriers records ++ Record row ∷ []
-  record_pushed [] records row within = map-append (λ r. Record r) records (row ∷ [])
-  record_pushed (b ∷ barriers) records row within =
-      let more = gaps-cons b barriers in
+  -- records are sent
+  pub records_pushed : (barriers : List SpacedBarrier) (records more : List R) → gaps barriers ≤ length records → interleaved barriers (records ++ more) ≡ interleaved barriers records ++ map Record more
+  records_pushed [] records more within = map-append (λ r. Record r) records more
+  records_pushed (b ∷ barriers) records more within =
+      let all = gaps-cons b barriers in
       let fits : b.gap ≤ length records = omega arith in
       let first : List (Item R) = map Record (take b.gap records) in
-      let rest = record_pushed barriers (drop b.gap records) row (omega (arith, length-drop b.gap records)) in
-      ap (λ t. map Record t ++ Barrier b.checkpoint ∷ interleaved barriers (drop b.gap (records ++ row ∷ []))) (take-append-le b.gap records (row ∷ []) fits) ∙
-      ap (λ t. first ++ Barrier b.checkpoint ∷ interleaved barriers t) (drop-append-le b.gap records (row ∷ []) fits) ∙
+      let rest = records_pushed barriers (drop b.gap records) more (omega (arith, length-drop b.gap records)) in
+      ap (λ t. map Record t ++ Barrier b.checkpoint ∷ interleaved barriers (drop b.gap (records ++ more))) (take-append-le b.gap records more fits) ∙
+      ap (λ t. first ++ Barrier b.checkpoint ∷ interleaved barriers t) (drop-append-le b.gap records more fits) ∙
       ap (λ t. first ++ Barrier b.checkpoint ∷ t) rest ∙
-      sym (append_assoc first (Barrier b.checkpoint ∷ interleaved barriers (drop b.gap records)) (Record row ∷ []))
+      sym (append_assoc first (Barrier b.checkpoint ∷ interleaved barriers (drop b.gap records)) (map Record more))
+
+  -- where nothing stands, there is no record and no barrier
+  pub none_stands : (barriers : List SpacedBarrier) (records : List R) → gaps barriers ≤ length records → interleaved barriers records ≡ [] → length records + length barriers ≡ 0
+  none_stands barriers records within none = omega (arith, length-interleaved barriers records within, ap (λ (l : List (Item R)). length l) none)
+
+  -- a channel in which nothing stands holds what it is given
+  pub filled : (barriers : List SpacedBarrier) (records more : List R) (old : List (Item R)) → gaps barriers ≤ length records → interleaved barriers records ≡ old → old ≡ [] → interleaved barriers more ≡ old ++ map Record more
+  filled [] records more old within is none = sym (ap (λ (l : List (Item R)). l ++ map Record more) none)
+  filled (b ∷ barriers) records more old within is none = absurd (let some = none_stands (b ∷ barriers) records within (is ∙ none) in omega arith)
 
   -- a barrier is sent, behind all the records
   pub barrier_pushed : (barriers : List SpacedBarrier) (records : List R) (last : SpacedBarrier) → gaps barriers + last.gap ≡ length records → interleaved (barriers ++ last ∷ []) records ≡ interleaved barriers records ++ Barrier last.checkpoint ∷ []

@@ -1,6 +1,6 @@
 //! A list of items, pushed at the end and popped at the front.
 
-ghost use Rattle.std.specs.Prelude.{◌≡◌, ◌<◌, ◌≤◌, ◌+◌, ◌-◌, ◌↔◌, [], ◌∷◌, ◌++◌, length, map, take, drop, slice_get, option_map, IsTrue, OnOk, OnErr};
+ghost use Rattle.std.specs.Prelude.{◌≡◌, ◌<◌, ◌≤◌, ◌+◌, ◌-◌, ◌↔◌, ◌⊎◌, [], ◌∷◌, ◌++◌, length, map, take, drop, slice_get, option_map, IsTrue, OnOk, OnErr, vec_len};
 ghost use Rattle.std.specs.Option.{option_copied};
 ghost use Rattle.std.specs.VecDeque.{deque_len, deque_capacity};
 ghost use Rattle.abs_codec.specs.Same.{EqualIsSame};
@@ -129,6 +129,25 @@ impl<R: Drop> Channel<R> {
         self.room -= 1;
     }
 
+    /// Sends records. It takes no memory: where nothing stands in the channel, the vector that they
+    /// lie in is the channel's.
+    pub fn append(&mut self, records: Vec<R>)
+        requires { (self.old.items ≡ []) ⊎ (length records.items ≤ self.old.room) }
+        ensures { self.new.items ≡ self.old.items ++ map Record records.items }
+    {
+        let count = records.len();
+        if self.is_empty() {
+            self.records = VecDeque::from_vec(records);
+            self.spare = 0;
+            self.room = 0;
+        } else {
+            push_each(&mut self.records, records);
+            self.spare -= count;
+            self.room -= count;
+        }
+        self.behind += count;
+    }
+
     /// How many records stand before the first barrier, or the end.
     pub fn before_barrier(&self) -> usize
         ensures { result ≡ length (leading_records self.now.items) }
@@ -224,6 +243,18 @@ impl<R: Drop> Channel<R> {
             Some(barrier) => barrier.gap -= count,
             None => self.behind -= count,
         }
+    }
+}
+
+/// Puts records last in a queue. It takes no memory.
+fn push_each<R: Drop>(queue: &mut VecDeque<R>, records: Vec<R>)
+    requires { deque_len queue.old + vec_len records ≤ deque_capacity queue.old }
+    ensures items { queue.new.items ≡ queue.old.items ++ records.items }
+    ensures len { deque_len queue.new ≡ deque_len queue.old + vec_len records }
+    ensures capacity { deque_capacity queue.new ≡ deque_capacity queue.old }
+{
+    for record in records {
+        queue.push_back_reserved(record);
     }
 }
 

@@ -19,7 +19,7 @@ use Rattle.dataflow_model.specs.Machine.{kept_under, state_under}
 use Rattle.job_state.specs.Batch.{turns_of, sent_by, kept_by, put_all}
 use Rattle.operators.specs.Operator.{OrderIsExact}
 use Rattle.claims.proofs.Turns.{turns_same}
-use Rattle.deliveries.specs.Deliveries.{AreFanned}
+use Rattle.deliveries.specs.Deliveries.{sent_in, AreFanned}
 use Rattle.job_state.specs.Sending.{AreLanes}
 use Rattle.claims.specs.Carried.{lanes_in, states_given, turns_given, HasItsState, AreStatesOf, IsCarried, IsOperand, IsOutcome}
 use Rattle.claims.specs.Left.{either, left_over, state_left, made_of, WorksRow, AllGood}
@@ -105,7 +105,7 @@ module _ {K S : Type 0} {cmp : K → K → Ordering} (order : IsTotalOrder cmp) 
 
 module _ {R K S O : Type 0} (meaning : Meaning R K S O) (cmp : K → K → Ordering) (p : Operand O K S R) (order : IsTotalOrder cmp) (law : (a b : K) → meaning.same_key a b ≡ is_eq (cmp a b)) where
   -- all records are worked
-  pub works_to_last : (left : List (K × S)) (sent : List (ℕ × R)) (outcomes : Outcomes K S R) → outcomes.states.items ≡ left → outcomes.sent.items ≡ sent → AreLanes meaning sent (lanes_in outcomes.lanes) → AreFanned sent outcomes.fanned → IsStrictlySortedBy cmp (keys_of left) → IsWorking meaning cmp p [] left sent → IsOutcome meaning cmp p outcomes
+  pub works_to_last : (left : List (K × S)) (sent : List (ℕ × R)) (outcomes : Outcomes K S R) → outcomes.states.items ≡ left → sent_in outcomes.sent ≡ sent → AreLanes meaning sent (lanes_in outcomes.lanes) → AreFanned sent outcomes.fanned → IsStrictlySortedBy cmp (keys_of left) → IsWorking meaning cmp p [] left sent → IsOutcome meaning cmp p outcomes
   works_to_last left sent outcomes is same lanes fanned rising was = record {
     sent = same ∙ sym (append-nil sent) ∙ was.sends;
     last = λ states q. ap (λ (es : List (K × S)). put_all meaning.same_key es states q) is ∙ put_over order meaning.same_key law left rising states q ∙ was.leaves states q;

@@ -6,7 +6,7 @@ use Rattle.std.specs.declared.cmp.Ordering.{Ordering}
 use Rattle.abs_codec.specs.Entries.{value_at}
 use Rattle.dataflow_model.specs.Graph.{Meaning}
 use Rattle.job_state.specs.Batch.{Turn, turns_of, sent_by, AreLastStates}
-use Rattle.deliveries.specs.Deliveries.{AreFanned}
+use Rattle.deliveries.specs.Deliveries.{sent_in, AreFanned}
 use Rattle.job_state.specs.Sending.{AreLanes}
 use Rattle.claims.specs.declared.parts.Lanes.{Lanes}
 use Rattle.claims.specs.declared.parts.Lanes.TheVariants as lanes
@@ -81,11 +81,11 @@ module _ {R K S O : Type 0} where
     -- The outcomes are what the operator makes of the records, one after another: all that is sent, and the last state of each key, by
     -- rising keys; the lanes of what is sent, or none of them; and it, once for each channel of its port, or none of it.
     pub record IsOutcome (p : Operand O K S R) (outcomes : Outcomes K S R) : Type 0 where
-      pub sent : outcomes.sent.items ≡ sent_by (turns_given meaning cmp p)
+      pub sent : sent_in outcomes.sent ≡ sent_by (turns_given meaning cmp p)
       pub last : AreLastStates meaning.same_key (turns_given meaning cmp p) outcomes.states.items
       pub rising : IsStrictlySortedBy cmp (keys_of outcomes.states.items)
-      pub lanes : AreLanes meaning outcomes.sent.items (lanes_in outcomes.lanes)
-      pub fanned : AreFanned outcomes.sent.items outcomes.fanned
+      pub lanes : AreLanes meaning (sent_in outcomes.sent) (lanes_in outcomes.lanes)
+      pub fanned : AreFanned (sent_in outcomes.sent) outcomes.fanned
 
   -- what was made is what the work means: an operator's outcomes, or the spelling of a sink's record
   abbrev pub IsMade : (rules : AllRules R K S O) → (R → List ℕ) → Made O K S R → Type 0

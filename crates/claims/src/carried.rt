@@ -1,7 +1,7 @@
 //! Work, and what was made of it.
 
-ghost use Rattle.std.specs.Prelude.{◌≡◌, ◌++◌, List, map, IfOk, OnOk};
-ghost use Rattle.deliveries.specs.Deliveries.{AreFanned};
+ghost use Rattle.std.specs.Prelude.{◌≡◌, ◌≤◌, ◌++◌, [], List, All, map, IfOk, IsTrue, OnOk, vec_len, vec_capacity};
+ghost use Rattle.deliveries.specs.Deliveries.{on_first, sent_in, AreFanned};
 ghost use Rattle.job_state.specs.Sending.{AreLanes};
 ghost use Rattle.claims.specs.declared.parts.Given.TheVariants as Given;
 ghost use Rattle.claims.specs.Carried.{HasItsState, IsOperand, IsOutcome, given_of, lanes_in, records_of};
@@ -9,13 +9,19 @@ ghost use Rattle.claims.specs.Left.{AllGood, WorksRow, made_of, state_left};
 ghost use Rattle.claims.specs.Places.{given_at, left_at, state_at};
 
 use crate::left::{Place, entries_of, place_of, places_of, put_at, state_of};
-use crate::parts::{Given, Lanes, Load, Made, Operand, Outcomes};
+use crate::parts::{Exits, Given, Lanes, Load, Made, Operand, Outcomes};
 use abs_codec::{Codec, NoMemory};
-use deliveries::{Fanned, Fans};
+use deliveries::{Fanned, Fans, Sent, turn};
 use engine_model::Rules;
 use operators::{Operator, Outcome};
 use std::alloc::Global;
 use std::marker::Model;
+
+/// From so many records on, those that all go into one channel are worth a vector of their own.
+const TOGETHER_FROM: usize = 8;
+
+/// A channel takes so many items behind such records with no memory more.
+const ROOM_BEHIND: usize = 8;
 
 /// A task's work on the first records of an input, with all that it needs: it can be done by
 /// anyone, at any time.
@@ -179,12 +185,67 @@ fn fanned_to<R: Codec>(
     Ok(Some(fans.fanned(alloc, sent)?))
 }
 
+/// Whether all of these records are sent on the first port.
+fn are_on_first<R>(sent: &[(u32, R)]) -> bool
+    ensures { IsTrue result → All (λ s. s.0 ≡ 0) sent.now }
+{
+    sent.iter().all(|each| each.0 == 0)
+}
+
+/// Whether one of so many channels, which take lanes in turn, takes all of these.
+fn share_turn(lanes: &[u64], in_turn: usize) -> bool {
+    let Some(first) = lanes.first() else {
+        return in_turn == 1;
+    };
+    if in_turn == 0 {
+        return false;
+    }
+    let chosen = turn(*first, in_turn);
+    for lane in lanes {
+        if turn(*lane, in_turn) != chosen {
+            return false;
+        }
+    }
+    true
+}
+
+/// The records that are sent on the first port alone, in a vector with room for some more.
+fn without_port<R: Drop>(sent: Vec<(u32, R)>, mut rows: Vec<R>) -> Vec<R>
+    requires first { All (λ s. s.0 ≡ 0) sent.items }
+    requires none { rows.items ≡ [] }
+    requires room { vec_len sent ≤ vec_capacity rows }
+    ensures { on_first result.items ≡ sent.items }
+{
+    for (_, row) in sent {
+        rows.push_reserved(row);
+    }
+    rows
+}
+
+/// What is sent, in a vector that a channel can take as it is, if one of so many channels of the
+/// first port, which take lanes in turn, takes it all.
+fn sent_of<R: Drop>(
+    alloc: Global,
+    sent: Vec<(u32, R)>,
+    lanes: &[u64],
+    in_turn: usize,
+) -> Result<Sent<R>, NoMemory>
+    ensures { IfOk result (λ made. sent_in made ≡ sent.items) }
+{
+    if sent.len() >= TOGETHER_FROM && share_turn(lanes, in_turn) && are_on_first(&sent) {
+        let room = sent.len().saturating_add(ROOM_BEHIND);
+        let rows = Vec::with_capacity(alloc, room)?;
+        return Ok(Sent::Together(without_port(sent, rows)));
+    }
+    Ok(Sent::Each(sent))
+}
+
 /// What an operator makes of its records, from the first to the last, each in the state that the
 /// former left under its key.
 fn outcomes_of<O: Operator>(
     alloc: Global,
     operand: &Operand<O, O::Key, O::State, O::Record>,
-    by_lane: bool,
+    exits: Exits,
     fans: Option<Fans>,
 ) -> Result<Outcomes<O::Key, O::State, O::Record>, NoMemory>
     requires { IsOperand ⟦<O as Rules>⟧.all operand.now }
@@ -207,11 +268,13 @@ fn outcomes_of<O: Operator>(
         work_row(alloc, operand, row, guess, &mut left, &mut sent)?;
     }
     let states = entries_of(alloc, left)?;
-    let lanes = lanes_of::<O>(alloc, &sent, by_lane)?;
+    let lanes = lanes_of::<O>(alloc, &sent, exits.by_lane)?;
     let fanned = fanned_to(alloc, &sent, fans)?;
+    let in_turn = if fanned.is_some() { 0 } else { exits.in_turn };
+    let outgoing = sent_of(alloc, sent, lanes.as_slice(), in_turn)?;
     Ok(Outcomes {
         states,
-        sent,
+        sent: outgoing,
         lanes,
         fanned,
     })
@@ -237,7 +300,7 @@ fn worked_operand<O: Operator>(
 {
     let mut own = settled(alloc, load);
     let fans = own.take_fans();
-    match outcomes_of(alloc, own.get(), own.is_by_lane(), fans) {
+    match outcomes_of(alloc, own.get(), own.exits(), fans) {
         Ok(outcomes) => Worked {
             made: Made::Operator(own.solved(outcomes)),
         },

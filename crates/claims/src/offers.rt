@@ -16,7 +16,7 @@ ghost use Rattle.claims.specs.Keys.{HasItsKey};
 use crate::carried::Work;
 use crate::due::operator_of;
 use crate::inputs::{first_record, free_records, input_of};
-use crate::parts::{Given, Load, Operand};
+use crate::parts::{Exits, Given, Load, Operand};
 use crate::rooms::Room;
 use crate::states::states_of;
 use abs_codec::{Codec, NoMemory};
@@ -154,17 +154,25 @@ fn operand_of<O: Operator>(
     })
 }
 
-/// Whether it is told by a record's lane where it goes that a task sends on a port.
-fn goes_by_lane(graph: &Graph, task: u32, port: u32) -> bool {
+/// How many channels a port of a task has, if they take lanes in turn; 0 where it is otherwise.
+fn in_turn(graph: &Graph, task: u32, port: u32) -> usize {
     let outlets = graph.outlets(task, port).len();
-    let run = graph.runs(task, port).first();
-    outlets > 1 && run.is_some_and(|run| *run as usize == outlets)
+    match graph.runs(task, port).first() {
+        Some(run) if *run as usize == outlets => outlets,
+        Some(_) => 0,
+        None => 0,
+    }
 }
 
-/// Whether the lanes of what a task sends are worth to be reckoned beforehand: where they tell
-/// where records go, on one of its first two ports.
-fn asks_lanes(graph: &Graph, task: u32) -> bool {
-    goes_by_lane(graph, task, 0) || goes_by_lane(graph, task, 1)
+/// Where a task's records go. Their lanes are worth to be reckoned beforehand where they tell it,
+/// on one of its first two ports.
+fn exits_of(graph: &Graph, task: u32) -> Exits {
+    let first = in_turn(graph, task, 0);
+    let second = in_turn(graph, task, 1);
+    Exits {
+        by_lane: first > 1 || second > 1,
+        in_turn: first,
+    }
 }
 
 /// The same, behind an owner.
@@ -188,13 +196,13 @@ fn load_of<O: Operator>(
         → IsCarried O.meaning O.Key.cmp entries load) }
 {
     let operand = operand_of(alloc, attempt, operator, task, channel, count, room)?;
-    let by_lane = asks_lanes(graph, task);
+    let exits = exits_of(graph, task);
     let fans = if count > 1 {
         Fans::of::<O>(alloc, graph, task)?
     } else {
         None
     };
-    let load = Load::new(alloc, operand, by_lane, fans)?;
+    let load = Load::new(alloc, operand, exits, fans)?;
     Ok(load)
 }
 

@@ -5,7 +5,7 @@ ghost use Rattle.operators.specs.Operator.{OrderIsExact};
 
 use crate::states::States;
 use abs_codec::{Codec, NoMemory};
-use deliveries::{Fanned, Fans};
+use deliveries::{Fanned, Fans, Sent};
 use std::alloc::Global;
 use std::marker::Model;
 use std::mem::replace;
@@ -48,9 +48,18 @@ impl Lanes {
 #[derive(Drop)]
 pub struct Outcomes<K, S, R> {
     pub states: Vec<(K, S)>,
-    pub sent: Vec<(u32, R)>,
+    pub sent: Sent<R>,
     pub lanes: Lanes,
     pub fanned: Option<Fanned<R>>,
+}
+
+/// Where a task's records go, as far as the graph tells.
+#[derive(Clone, Copy)]
+pub struct Exits {
+    /// Whether their lanes tell it, on one of the first two ports.
+    pub by_lane: bool,
+    /// How many channels the first port has, if they take lanes in turn; 0 where it is otherwise.
+    pub in_turn: usize,
 }
 
 /// An operator's work, and what is made of it. The lanes of what is sent may be asked for, or that
@@ -59,7 +68,7 @@ pub struct Outcomes<K, S, R> {
 pub struct Sheet<O, K: Ord, S, R> {
     pub operand: Operand<O, K, S, R>,
     pub outcomes: Outcomes<K, S, R>,
-    pub by_lane: bool,
+    pub exits: Exits,
     pub fans: Option<Fans>,
 }
 
@@ -82,21 +91,21 @@ impl<O: Drop, K: Ord + Drop, S: Drop, R: Drop> Load<O, K, S, R> {
     pub(crate) fn new(
         alloc: Global,
         operand: Operand<O, K, S, R>,
-        by_lane: bool,
+        exits: Exits,
         fans: Option<Fans>,
     ) -> Result<Self, NoMemory>
         ensures { IfOk result (λ load. load ≡ operand) }
     {
         let outcomes = Outcomes {
             states: Vec::new(alloc),
-            sent: Vec::new(alloc),
+            sent: Sent::Each(Vec::new(alloc)),
             lanes: Lanes::Each(Vec::new(alloc)),
             fanned: None,
         };
         let sheet = Sheet {
             operand,
             outcomes,
-            by_lane,
+            exits,
             fans,
         };
         let sheet = Box::new(alloc, sheet)?;
@@ -111,9 +120,9 @@ impl<O, K: Ord, S, R> Load<O, K, S, R> {
         &self.sheet.operand
     }
 
-    /// Whether the lanes of what is sent are asked for.
-    pub(crate) fn is_by_lane(&self) -> bool {
-        self.sheet.by_lane
+    /// Where what is sent goes, as far as the graph tells.
+    pub(crate) fn exits(&self) -> Exits {
+        self.sheet.exits
     }
 
     /// The channels that what is sent is to be put with, which may be asked for once.

@@ -6,6 +6,8 @@ use Rattle.dataflow_model.specs.Graph.{Channel, Meaning}
 use Rattle.job_graph.specs.Expanded.{Expanded, meets, takes, targets_of, outlets_of, outputs_of}
 use Rattle.job_graph.specs.Runs.{IsRun}
 use Rattle.deliveries.specs.declared.fans.Fanned.{Fanned}
+use Rattle.deliveries.specs.declared.sent.Sent.{Sent}
+use Rattle.deliveries.specs.declared.sent.Sent.TheVariants as sent
 
 module _ {R : Type 0} where
   -- the barrier that a task sends into each of its outputs
@@ -40,6 +42,15 @@ abbrev pub numbers_at : List ℕ → List ℕ → ℕ → List ℕ
 numbers_at first second port = if port == 0 then first else (if port == 1 then second else [])
 
 module _ {R : Type 0} where
+  -- records that are all sent on the first port
+  abbrev pub on_first : List R → List (ℕ × R)
+  on_first rows = map (λ r. (0, r)) rows
+
+  -- what is sent, each record with its port
+  abbrev pub sent_in : Sent R → List (ℕ × R)
+  sent_in (sent.Each each) = each.items
+  sent_in (sent.Together rows) = on_first rows.items
+
   -- what is sent on two ports, once for each channel of its port
   abbrev pub fanned_by : List ℕ → List ℕ → List (ℕ × R) → List (ℕ × R)
   fanned_by first second sent = flat_map (λ s. map (λ n. (n, s.1)) (numbers_at first second s.0)) sent

@@ -5,8 +5,11 @@
 mod by_run;
 mod fans;
 mod puts;
+mod sent;
 mod turns;
 
 pub use by_run::{run_of, run_target};
 pub use fans::{Fanned, Fans};
 pub use puts::{barriers, deliver, deliver_row, fixed_target, open_port, sole_target};
+pub use sent::{Sent, with_first_port};
+pub use turns::turn;

@@ -5,7 +5,7 @@ ghost use Rattle.std.specs.Prelude.{◌≡◌, ◌<◌, ◌%◌};
 /// The place of the channel that takes this lane, among so many that take the lanes in turn. It is
 /// the remainder, which a mask tells where their number is a power of two.
 #[inline(always)]
-pub(crate) fn turn(lane: u64, parallelism: usize) -> usize
+pub fn turn(lane: u64, parallelism: usize) -> usize
     requires { 0 < parallelism }
     ensures { result ≡ lane % parallelism }
 {

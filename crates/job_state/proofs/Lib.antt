@@ -10,3 +10,4 @@ pub mod Standings
 pub mod Holds
 pub mod AtOnce
 pub mod Batches
+pub mod Together

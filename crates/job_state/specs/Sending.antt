@@ -46,6 +46,14 @@ module _ {R : Type 0} where
   abbrev pub as_puts : List (ℕ × R) → List (ℕ × Item R)
   as_puts rows = map (λ p. (p.0, Record p.1)) rows
 
+  -- records that are all put into one channel
+  abbrev pub into_one : ℕ → List R → List (ℕ × Item R)
+  into_one number rows = map (λ r. (number, Record r)) rows
+
+  -- a channel takes so many records: nothing stands in it, or it has room for them
+  abbrev pub TakesAll : List (Contents R) → ℕ → ℕ → Type 0
+  TakesAll channels number count = (number < length channels) × ((items_at (contents_items channels) number ≡ []) ⊎ (count ≤ room_at channels number))
+
   abbrev pub AreChannels : ℕ → List (ℕ × Item R) → Type 0
   AreChannels count puts = All (λ p. p.0 < count) puts
 
@@ -83,5 +91,13 @@ module _ {R : Type 0} where
   -- what a task sends, each with the channel that it is put into
   abbrev pub puts_of : Ready R → List (ℕ × Item R)
   puts_of (Ready.One number row) = (number, Record row) ∷ []
+  puts_of (Ready.Together number rows) = into_one number rows.items
   puts_of (Ready.Rows rows) = as_puts rows.items
   puts_of (Ready.Each puts) = puts.items
+
+  -- the channels take what a task sends without memory
+  abbrev pub HasPlace : List (Contents R) → Ready R → Type 0
+  HasPlace channels (Ready.One number row) = HasRoom channels ((number, Record row) ∷ [])
+  HasPlace channels (Ready.Together number rows) = TakesAll channels number (length rows.items)
+  HasPlace channels (Ready.Rows rows) = HasRoom channels (as_puts rows.items)
+  HasPlace channels (Ready.Each puts) = HasRoom channels puts.items

@@ -1,14 +1,14 @@
 //! What a task sends, once there is room for it.
 
-ghost use Rattle.std.specs.Prelude.{◌≡◌, ◌<◌, ◌≤◌, ◌+◌, ◌^◌, ◌++◌, ℕ, List, length, slice_get, OnOk, IfOk, IfSome};
-ghost use Rattle.deliveries.specs.Deliveries.{deliveries_of, AreFanned, IsRunOf};
-ghost use Rattle.job_state.specs.Sending.{contents_items, items_at, put_into, as_puts, room_at, AreLanes, HasRoom, IsOneInto, puts_of, waiting_at, known_at};
+ghost use Rattle.std.specs.Prelude.{◌≡◌, ◌<◌, ◌≤◌, ◌+◌, ◌^◌, ◌++◌, ℕ, List, length, slice_get, IsTrue, OnOk, IfOk, IfSome};
+ghost use Rattle.deliveries.specs.Deliveries.{deliveries_of, on_first, sent_in, AreFanned, IsRunOf};
+ghost use Rattle.job_state.specs.Sending.{contents_items, items_at, put_into, as_puts, into_one, room_at, AreLanes, HasPlace, HasRoom, IsOneInto, TakesAll, puts_of, waiting_at, known_at};
 
 use crate::fans::{open_ports, reserve_fans, reserve_known};
 use crate::sending::{push_all, release_all, reserve_deliveries};
 use abs_codec::NoMemory;
 use channels::{Channel, Item};
-use deliveries::{Fanned, run_of, run_target};
+use deliveries::{Fanned, Sent, fixed_target, run_of, run_target, with_first_port};
 use job_graph::Graph;
 use operators::Operator;
 use std::alloc::Global;
@@ -19,6 +19,8 @@ use std::mem::replace;
 pub(crate) enum Ready<R> {
     /// One record, with the one channel that it goes into.
     One(u32, R),
+    /// Records that all go into one channel.
+    Together(u32, Vec<R>),
     /// Records, each with the one channel that it goes into.
     Rows(Vec<(u32, R)>),
     /// Items, each with its channel.
@@ -165,10 +167,10 @@ fn target_of_one<O: Operator>(
     Some(run_target::<O>(graph, task, *port, numbers, row, known))
 }
 
-/// Takes the room for what a task sends, which the answer then holds in place of the list. Where
-/// memory is refused, the list may have lost it. The lanes of the records may be known, and they
-/// may be put with their channels already.
-pub(crate) fn make_ready<O: Operator>(
+/// Takes the room for records that a task sends, which the answer then holds in place of the list.
+/// Where memory is refused, the list may have lost them. The lanes of the records may be known, and
+/// they may be put with their channels already.
+fn make_each_ready<O: Operator>(
     alloc: Global,
     channels: &mut [Channel<O::Record>],
     graph: &Graph,
@@ -182,7 +184,7 @@ pub(crate) fn make_ready<O: Operator>(
     requires fanned { AreFanned sent.old.items fanned.old }
     ensures puts { IfOk result (λ ready. puts_of ready
         ≡ deliveries_of O.meaning graph.now task sent.old.items) }
-    ensures room { IfOk result (λ ready. HasRoom channels.new (puts_of ready)) }
+    ensures place { IfOk result (λ ready. HasPlace channels.new ready) }
     ensures same { contents_items channels.new ≡ contents_items channels.old }
 {
     if let Some(number) = target_of_one::<O>(graph, task, sent, lanes) {
@@ -213,7 +215,7 @@ fn make_all_ready<O: Operator>(
     requires lanes { AreLanes O.meaning sent.items lanes.now }
     ensures puts { IfOk result (λ ready. puts_of ready
         ≡ deliveries_of O.meaning graph.now task sent.items) }
-    ensures room { IfOk result (λ ready. HasRoom channels.new (puts_of ready)) }
+    ensures place { IfOk result (λ ready. HasPlace channels.new ready) }
     ensures same { contents_items channels.new ≡ contents_items channels.old }
 {
     let first = run_of(graph, task, 0);
@@ -230,6 +232,129 @@ fn make_all_ready<O: Operator>(
     Ok(Ready::Each(puts))
 }
 
+/// Whether each of these records goes into this channel when a task sends it on its first port,
+/// whose channels are these. Their lanes may be known.
+fn all_go_into<O: Operator>(
+    graph: &Graph,
+    task: u32,
+    numbers: &[u32],
+    number: u32,
+    rows: &[O::Record],
+    lanes: &[u64],
+) -> bool
+    requires run { IsRunOf graph.now task 0 numbers.now }
+    requires lanes { AreLanes O.meaning (on_first rows.now) lanes.now }
+    ensures { IsTrue result → deliveries_of O.meaning graph.now task (on_first rows.now)
+        ≡ into_one number rows.now }
+{
+    for place in 0..rows.len() {
+        let lane = lane_at(lanes, place);
+        if run_target::<O>(graph, task, 0, numbers, &rows[place], lane) != number {
+            return false;
+        }
+    }
+    true
+}
+
+/// The channel that all of these records go into when a task sends them on its first port; `None`
+/// where there is no such one, or no record. Their lanes may be known.
+fn target_of_all<O: Operator>(
+    graph: &Graph,
+    task: u32,
+    rows: &[O::Record],
+    lanes: &[u64],
+) -> Option<u32>
+    requires lanes { AreLanes O.meaning (on_first rows.now) lanes.now }
+    ensures all { IfSome result (λ number. deliveries_of O.meaning graph.now task
+        (on_first rows.now) ≡ into_one number rows.now) }
+    ensures some { IfSome result (λ _. 0 < length rows.now) }
+{
+    if rows.is_empty() {
+        return None;
+    }
+    if let Some(number) = fixed_target::<O>(graph, task, 0) {
+        return Some(number);
+    }
+    let numbers = run_of(graph, task, 0)?;
+    let number = run_target::<O>(graph, task, 0, numbers, &rows[0], lane_at(lanes, 0));
+    if all_go_into::<O>(graph, task, numbers, number, rows, lanes) {
+        Some(number)
+    } else {
+        None
+    }
+}
+
+/// Takes the room for so many records in a channel, unless nothing stands in it: then it needs none.
+fn reserve_unless_empty<R: Drop>(
+    channels: &mut [Channel<R>],
+    number: u32,
+    count: usize,
+) -> Result<(), NoMemory>
+    requires { number < length channels.old }
+    ensures takes { OnOk result (TakesAll channels.new number count) }
+    ensures same { contents_items channels.new ≡ contents_items channels.old }
+{
+    if channels[number as usize].is_empty() {
+        return Ok(());
+    }
+    reserve_run(channels, number, count)
+}
+
+/// Takes the room for records that a task sends on its first port. Their lanes may be known.
+fn make_together_ready<O: Operator>(
+    alloc: Global,
+    channels: &mut [Channel<O::Record>],
+    graph: &Graph,
+    task: u32,
+    rows: Vec<O::Record>,
+    lanes: &[u64],
+) -> Result<Ready<O::Record>, NoMemory>
+    requires channels { length channels.old ≡ length graph.now.channels }
+    requires lanes { AreLanes O.meaning (on_first rows.items) lanes.now }
+    ensures puts { IfOk result (λ ready. puts_of ready
+        ≡ deliveries_of O.meaning graph.now task (on_first rows.items)) }
+    ensures place { IfOk result (λ ready. HasPlace channels.new ready) }
+    ensures same { contents_items channels.new ≡ contents_items channels.old }
+{
+    if let Some(number) = target_of_all::<O>(graph, task, &rows, lanes) {
+        reserve_unless_empty(channels, number, rows.len())?;
+        return Ok(Ready::Together(number, rows));
+    }
+    let sent = with_first_port(alloc, rows)?;
+    make_all_ready::<O>(alloc, channels, graph, task, sent, lanes)
+}
+
+/// Takes the room for what a task sends, which the answer then holds in its place. Where memory is
+/// refused, it may be lost. The lanes of the records may be known, and they may be put with their
+/// channels already.
+pub(crate) fn make_ready<O: Operator>(
+    alloc: Global,
+    channels: &mut [Channel<O::Record>],
+    graph: &Graph,
+    task: u32,
+    sent: &mut Sent<O::Record>,
+    lanes: &[u64],
+    fanned: &mut Option<Fanned<O::Record>>,
+) -> Result<Ready<O::Record>, NoMemory>
+    requires channels { length channels.old ≡ length graph.now.channels }
+    requires lanes { AreLanes O.meaning (sent_in sent.old) lanes.now }
+    requires fanned { AreFanned (sent_in sent.old) fanned.old }
+    ensures puts { IfOk result (λ ready. puts_of ready
+        ≡ deliveries_of O.meaning graph.now task (sent_in sent.old)) }
+    ensures place { IfOk result (λ ready. HasPlace channels.new ready) }
+    ensures same { contents_items channels.new ≡ contents_items channels.old }
+{
+    match sent {
+        Sent::Each(each) => {
+            make_each_ready::<O>(alloc, channels, graph, task, each, lanes, fanned)
+        }
+        Sent::Together(rows) => {
+            let rows = replace(rows, Vec::new(alloc));
+            make_together_ready::<O>(alloc, channels, graph, task, rows, lanes)
+        }
+    }
+}
+
 /// Puts each record last in its channel. It takes no memory.
 fn push_rows<R: Drop>(channels: &mut [Channel<R>], rows: Vec<(u32, R)>)
     requires { HasRoom channels.old (as_puts rows.items) }
@@ -243,12 +368,13 @@ fn push_rows<R: Drop>(channels: &mut [Channel<R>], rows: Vec<(u32, R)>)
 
 /// Puts what a task sends last in its channels. It takes no memory.
 pub(crate) fn push_ready<R: Drop>(channels: &mut [Channel<R>], ready: Ready<R>)
-    requires { HasRoom channels.old (puts_of ready) }
+    requires { HasPlace channels.old ready }
     ensures { (number : ℕ) → items_at (contents_items channels.new) number
         ≡ items_at (contents_items channels.old) number ++ put_into number (puts_of ready) }
 {
     match ready {
         Ready::One(number, row) => channels[number as usize].push_reserved(Item::Record(row)),
+        Ready::Together(number, rows) => channels[number as usize].append(rows),
         Ready::Rows(rows) => push_rows(channels, rows),
         Ready::Each(puts) => push_all(channels, puts),
     }

@@ -16,7 +16,7 @@ use crate::taking::pass_on_all;
 use crate::tasks::{advance, keep, keep_all};
 use abs_codec::NoMemory;
 use channels::Item;
-use deliveries::{Fanned, fixed_target};
+use deliveries::{Fanned, Sent, fixed_target};
 use job_graph::Graph;
 use keyed_state::{Seen, SetFault};
 use operators::Operator;
@@ -27,7 +27,7 @@ impl<O: Operator> Attempt<O> {
     ghost use Rattle.job_state.specs.Held.{Held, gate_at, Reads, Operates, record_logged};
     ghost use Rattle.job_state.specs.AtOnce.{HaveExpected, without_first};
     ghost use Rattle.alignment.specs.Table.{is_logged};
-    ghost use Rattle.deliveries.specs.Deliveries.{AreFanned};
+    ghost use Rattle.deliveries.specs.Deliveries.{sent_in, AreFanned};
     ghost use Rattle.channels.specs.Items.{leading_records};
     ghost use Rattle.job_state.specs.Batch.{Turn, StandFirst, OperatesEach, AreLastStates, rows_of, sent_by};
     ghost use Rattle.std.specs.List.Sorted.{IsStrictlySortedBy};
@@ -117,7 +117,7 @@ impl<O: Operator> Attempt<O> {
         count: usize,
         states: &mut Vec<(O::Key, O::State)>,
         expected: Option<&[Seen<O::State>]>,
-        sent: &mut Vec<(u32, O::Record)>,
+        sent: &mut Sent<O::Record>,
         lanes: &[u64],
         fanned: &mut Option<Fanned<O::Record>>,
     ) -> Result<(), SetFault>
@@ -132,9 +132,9 @@ impl<O: Operator> Attempt<O> {
         // Each key stands once.
         requires rising { IsStrictlySortedBy O.Key.cmp (keys_of states.old.items) }
         requires states { AreLastStates O.meaning.same_key turns states.old.items }
-        requires sent { sent.old.items ≡ sent_by turns }
-        requires lanes { AreLanes O.meaning sent.old.items lanes.now }
-        requires fanned { AreFanned sent.old.items fanned.old }
+        requires sent { sent_in sent.old ≡ sent_by turns }
+        requires lanes { AreLanes O.meaning (sent_in sent.old) lanes.now }
+        requires fanned { AreFanned (sent_in sent.old) fanned.old }
         ensures ok { OnOk result (OperatesEach O.meaning O.Key.cmp graph.now task input channel
             turns self.old self.new) }
         ensures expected { 0 < count → (entries : List (O.Key × O.State))

@@ -6,7 +6,7 @@ ghost use Rattle.channels.specs.Items.{leading_records};
 ghost use Rattle.channels.specs.declared.item.Item.TheVariants.{Record};
 ghost use Rattle.job_state.specs.AtOnce.{without_first, log_with_all};
 ghost use Rattle.job_state.specs.Inside.{came_of, records_of};
-ghost use Rattle.job_state.specs.Sending.{contents_items, items_at, put_into, room_at, HasRoom, Puts, puts_of};
+ghost use Rattle.job_state.specs.Sending.{contents_items, items_at, put_into, room_at, HasPlace, Puts, puts_of};
 
 use crate::logs::log_taken;
 use crate::ready::{Ready, push_ready};
@@ -58,7 +58,7 @@ pub(crate) fn pass_on_all<R: Drop>(
     requires spare { is_logged ≡ true → count ≤ (log_at logs.old channel).room }
     requires records { count ≤ length (leading_records (items_at (contents_items channels.old)
         channel)) }
-    requires room { HasRoom channels.old (puts_of ready) }
+    requires place { HasPlace channels.old ready }
     ensures puts { Puts (λ number. put_into number (puts_of ready))
         (without_first count channel (contents_items channels.old)) (contents_items channels.new) }
     ensures came { came_of logs.new ≡ came_of logs.old }

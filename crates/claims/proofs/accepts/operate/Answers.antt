@@ -5,6 +5,7 @@ use Rattle.std.specs.List.Sorted.{IsStrictlySortedBy}
 use Rattle.std.specs.Map.{keys_of}
 use Rattle.job_graph.specs.declared.role.Role.TheVariants as role
 use Rattle.job_state.specs.Batch.{Turn, AreLastStates, StandFirst, rows_of, sent_by}
+use Rattle.deliveries.specs.Deliveries.{sent_in}
 use Rattle.engine_model.proofs.Numbers.{channel_in}
 use Rattle.job_state.specs.Sending.{AreLanes}
 use Rattle.claims.specs.Carried.{states_given}
@@ -58,7 +59,7 @@ operate_some-requires g c =
                             (
                               made.sent ∙ sym (ap (λ (ts : List (Turn g.row.O-Record.Denot g.row.O-Key.Denot g.row.O-State.Denot)). sent_by ts) is),
                               (
-                                subst (λ ls. AreLanes meaning c.args.outcomes.now.sent.items ls) (sym c.as_slice.ensures) made.lanes,
+                                subst (λ ls. AreLanes meaning (sent_in c.args.outcomes.now.sent) ls) (sym c.as_slice.ensures) made.lanes,
                                 made.fanned,
                               ),
                             ),

@@ -58,5 +58,5 @@ returns g c =
     let all : length p.rows.items ≤ c.loop-row.row-index = subst (λ xs. length xs ≤ c.loop-row.row-index) c.deref-row-items.ensures.value c.loop-row-test.false in
     let left = c.loop-row.left.items in
     let rises = left_rises g.O.Key.Ord.cmp left (subst (λ es. IsStrictlySortedBy g.O.Key.Ord.cmp (keys_of es)) (sym c.loop-row.invariant.given) c.requires.rising) in
-    works_to_last g.O.Operator.meaning g.O.Key.Ord.cmp p g.met.O.Key.Ord.total g.met.O.Operator.same_key (left_at left) c.loop-row.sent.items _ c.in_ok-states.ensures refl (subst (λ ss. AreLanes g.O.Operator.meaning ss (lanes_in c.in_ok-lanes.lanes)) c.deref.ensures.value c.in_ok-lanes.ensures) (subst (λ ss. AreFanned ss c.in_ok-fanned.fanned) c.deref-2.ensures.value c.in_ok-fanned.ensures) rises
+    works_to_last g.O.Operator.meaning g.O.Key.Ord.cmp p g.met.O.Key.Ord.total g.met.O.Operator.same_key (left_at left) c.loop-row.sent.items _ c.in_ok-states.ensures c.in_ok-outgoing.ensures (subst (λ ss. AreLanes g.O.Operator.meaning ss (lanes_in c.in_ok-lanes.lanes)) c.deref.ensures.value c.in_ok-lanes.ensures) (subst (λ ss. AreFanned ss c.in_ok-fanned.fanned) c.deref-2.ensures.value c.in_ok-fanned.ensures) rises
     (subst (λ rs. IsWorking g.O.Operator.meaning g.O.Key.Ord.cmp p rs (left_at left) c.loop-row.sent.items) (drop_all c.loop-row.row-index p.rows.items all) c.loop-row.invariant.works)

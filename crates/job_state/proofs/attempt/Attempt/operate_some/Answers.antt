@@ -1,4 +1,4 @@
-use Rattle.std.proofs.Common.{◌≡◌, take, length, slice_get, slice_set, refl, sym, ap, ◌∙◌, arith}
+use Rattle.std.proofs.Common.{◌≡◌, take, length, slice_get, slice_set, subst, refl, sym, ap, ◌∙◌, arith}
 use Rattle.std.proofs.lemmas.List.{with_items_is, length-map}
 use Rattle.std.specs.Vec.{with_items}
 use Rattle.alignment.specs.Table.{is_logged}
@@ -7,11 +7,11 @@ use Rattle.keyed_state.proofs.Compared.{told_on}
 use Rattle.job_state.specs.AtOnce.{without_first, log_with_all}
 use Rattle.job_state.specs.Batch.{rows_of}
 use Rattle.job_state.specs.Inside.{gate_in, records_of, holdings_of, copies_of}
-use Rattle.job_state.specs.Sending.{contents_items, items_at, put_into, puts_of}
+use Rattle.deliveries.specs.Deliveries.{sent_in}
+use Rattle.job_state.specs.Sending.{contents_items, items_at, put_into, HasPlace}
 use Rattle.job_state.proofs.AtOnce.{keeps_in_turn, equal_keys, operates_all_from}
 use Rattle.job_state.proofs.Batches.{all_are_each, none_is_each}
 use Rattle.job_state.proofs.Departures.{leads}
-use Rattle.job_state.proofs.Putting.{has_room_at}
 use Rattle.job_state.proofs.Received.{received_is_put}
 use Rattle.job_state.proofs.Holds.{on_err, held_kept, puts_at}
 use Rattle.job_state.proofs.Standings.{holder_within}
@@ -102,7 +102,7 @@ pass_on_all-requires g c =
       within = omega (arith, given.0, ap (λ l. length l) c.reserve_log.ensures.logged, length-map c.reserve_log.new.logs (λ l. l.records), length-map c.self.inside.logs (λ l. l.records), ap (λ h. length h.logs) c.self.view_is);
       spare = c.in_ok-reserve_log.ensures.room;
       records = omega (arith, many, leads rows stands first);
-      room = has_room_at (puts_of c.in_ok-ready.ready) passed c.in_ok-ready.ensures.room;
+      place = subst (λ cs. HasPlace cs c.in_ok-ready.ready) (sym passed) c.in_ok-ready.ensures.place;
     }
 
 pub returns-clause-ok : goal.returns-clause-ok
@@ -128,11 +128,11 @@ returns-clause-ok g c =
     let logs_it = c.is_logged-logged.ensures ∙ ap (λ gates. is_logged (gate_in gates c.args.task) c.args.input) c.deref.ensures.value in
     let law = equal_keys order meaning.same_key g.met.O.Operator.same_key in
     all_are_each meaning g.O.Key.Ord.cmp law c.args.graph.now c.args.task c.args.input channel g.turns c.args.self.now _ (omega (arith, counted, c.if-count-eq0.false)) given.0 stands_first
-    (operates_all_from meaning c.args.graph.now c.args.task g.O.Key.Ord.cmp c.args.input channel c.args.count g.turns c.args.states.now.items c.args.sent.now.items _ c.args.self.now _ kept.0 kept.1 _ _ c.self.view_is
+    (operates_all_from meaning c.args.graph.now c.args.task g.O.Key.Ord.cmp c.args.input channel c.args.count g.turns c.args.states.now.items (sent_in c.args.sent.now) _ c.args.self.now _ kept.0 kept.1 _ _ c.self.view_is
     (ap (λ l. slice_get (holdings_of l) c.args.task) (sym stands) ∙ kept.2) kept.4
     (keeps_in_turn order meaning.same_key g.met.O.Operator.same_key g.turns c.args.states.now.items kept.4.entries kept.4.kept rising last kept.4.keeps)
     counted sends
-    (puts_at _ _ (ap (λ l. without_first c.args.count channel l) stood) (ap (λ l. contents_items l) (sym passed)) (λ k. ap (put_into k) c.in_ok-ready.ensures.puts ∙ received_is_put meaning c.args.graph.now c.args.task c.args.sent.now.items k) c.pass_on_all.ensures.puts)
+    (puts_at _ _ (ap (λ l. without_first c.args.count channel l) stood) (ap (λ l. contents_items l) (sym passed)) (λ k. ap (put_into k) c.in_ok-ready.ensures.puts ∙ received_is_put meaning c.args.graph.now c.args.task (sent_in c.args.sent.now) k) c.pass_on_all.ensures.puts)
     (c.pass_on_all.ensures.came ∙ c.reserve_log.ensures.came)
     (c.pass_on_all.ensures.logged rows many first ∙ ap (λ l. log_with_all c.is_logged-logged.result channel rows l) c.reserve_log.ensures.logged ∙ ap (λ b. log_with_all b channel rows (records_of c.self.inside.logs)) logs_it)
     (ap (λ l. holdings_of l) tasks ∙ kept.3 ∙ ap (λ l. slice_set (holdings_of l) c.args.task kept.1) stands)
