@@ -284,7 +284,7 @@ fn target_of_all<O: Operator>(
     }
 }
 
-/// Takes the room for so many records in a channel, unless nothing stands in it: then it needs none.
+/// Takes room for so many records in a channel where something stands: else none is needed.
 fn reserve_unless_empty<R: Drop>(
     channels: &mut [Channel<R>],
     number: u32,
